@@ -63,28 +63,30 @@ static auto certify_max(const Graph &graph, Vertex from, Vertex to) {
 
 static long send_by_augmenting(Graph &graph, Vertex from, Vertex to) {
     return boost::boykov_kolmogorov_max_flow(graph, get(&Street::capacity, graph), get(&Street::residual, graph),
-                                             get(&Street::reverse, graph), get(&Place::before, graph),
-                                             get(&Place::color, graph), get(&Place::far, graph),
-                                             get(boost::vertex_index, graph), from, to);
+                                             get(&Street::reverse, graph), get(boost::vertex_index, graph), from, to);
+}
+
+/* The property maps that Boost's other searches take, each of which takes some. */
+static auto maps(Graph &graph) {
+    return boost::capacity_map(get(&Street::capacity, graph))
+        .residual_capacity_map(get(&Street::residual, graph))
+        .reverse_edge_map(get(&Street::reverse, graph))
+        .weight_map(get(&Street::weight, graph))
+        .color_map(get(&Place::color, graph))
+        .predecessor_map(get(&Place::before, graph))
+        .distance_map(get(&Place::far, graph))
+        .distance_map2(get(&Place::other, graph));
 }
 
 static void maximum_flow(Graph &graph) {
     const Vertex from = 0, to = NODES / 2;
-    const long value =
-        boost::push_relabel_max_flow(graph, from, to, get(&Street::capacity, graph), get(&Street::residual, graph),
-                                     get(&Street::reverse, graph), get(boost::vertex_index, graph));
+    const long value = boost::push_relabel_max_flow(graph, from, to, maps(graph));
     const auto yes = certify_max(graph, from, to);
     check_that("push_relabel_max_flow's flow", yes && yes->value == value && value > 0);
     check_that("by a cut", yes->inside[from] && !get(yes->inside, to));
     const long again = send_by_augmenting(graph, from, to);
     check_that("boykov_kolmogorov_max_flow's flow", certify_max(graph, from, to)->value == again && again == value);
-
-    boost::edmonds_karp_max_flow(graph, from, to,
-                                 boost::capacity_map(get(&Street::capacity, graph))
-                                     .residual_capacity_map(get(&Street::residual, graph))
-                                     .reverse_edge_map(get(&Street::reverse, graph))
-                                     .color_map(get(&Place::color, graph))
-                                     .predecessor_map(get(&Place::before, graph)));
+    boost::edmonds_karp_max_flow(graph, from, to, maps(graph));
     check_that("edmonds_karp_max_flow's flow", certify_max(graph, from, to)->value == value);
 
     Edge full = *edges(graph).first;
@@ -139,28 +141,16 @@ static auto certify_min(const Graph &graph, Vertex from, Vertex to) {
 
 static void least_cost(Graph &graph) {
     const Vertex from = 0, to = FEW_NODES / 2;
-    boost::successive_shortest_path_nonnegative_weights(graph, from, to,
-                                                        boost::capacity_map(get(&Street::capacity, graph))
-                                                            .residual_capacity_map(get(&Street::residual, graph))
-                                                            .weight_map(get(&Street::weight, graph))
-                                                            .reverse_edge_map(get(&Street::reverse, graph))
-                                                            .predecessor_map(get(&Place::before, graph))
-                                                            .distance_map(get(&Place::far, graph))
-                                                            .distance_map2(get(&Place::other, graph)));
+    boost::successive_shortest_path_nonnegative_weights(graph, from, to, maps(graph));
     const auto yes = certify_min(graph, from, to);
     check_that("successive_shortest_path's flow", yes && yes->cost != 0);
     check_that("which is maximum too", certify_max(graph, from, to).has_value());
 
-    boost::push_relabel_max_flow(graph, from, to, get(&Street::capacity, graph), get(&Street::residual, graph),
-                                 get(&Street::reverse, graph), get(boost::vertex_index, graph));
+    boost::push_relabel_max_flow(graph, from, to, maps(graph));
     const auto no = certify_min(graph, from, to);
     const auto *better = no.get_if<Better>();
     check_that("a flow that costs more", better && no.message() == "x solution 0 0 NotLeast");
-    boost::cycle_canceling(graph, boost::weight_map(get(&Street::weight, graph))
-                                      .residual_capacity_map(get(&Street::residual, graph))
-                                      .reverse_edge_map(get(&Street::reverse, graph))
-                                      .predecessor_map(get(&Place::before, graph))
-                                      .distance_map(get(&Place::far, graph)));
+    boost::cycle_canceling(graph, maps(graph));
     const auto canceled = certify_min(graph, from, to);
     check_that("cycle_canceling's flow", canceled && canceled->cost == yes->cost);
 }
@@ -356,8 +346,7 @@ static void texts() {
     check_that("the edges of a text", arcs && arcs->size() == 4 && num_vertices(graph) == 3 && num_edges(graph) == 8 &&
                                           graph[(*arcs)[2]].capacity == 9 && from == 0 && to == 2);
     is("written", ours::write_max(graph, *arcs, from, to, capacity), max);
-    const long value =
-        boost::push_relabel_max_flow(graph, from, to, capacity, left, reverse, get(boost::vertex_index, graph));
+    const long value = boost::push_relabel_max_flow(graph, from, to, maps(graph));
     check_that("certified", ours::certify_max(graph, from, to, capacity, left)->value == value);
     const std::string flow = ours::write_solution(graph, *arcs, value, capacity, left);
     is("a solution", flow, "s 8\nf 2 1 0\nf 1 2 7\nf 2 3 8\nf 1 2 1\n");

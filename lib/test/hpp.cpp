@@ -12,279 +12,265 @@ namespace dimacs {
 static const bool lemon = true, boost = true;
 }
 
-using dimacs::Flows;
-using dimacs::Inside;
-using dimacs::NotOptimal;
-using dimacs::Refused;
-using dimacs::Text;
+using namespace dimacs;
 using Ids = std::vector<std::uint32_t>;
 using Amounts = std::vector<std::int64_t>;
 
 template <class Call>
 static void throws_length(const char *name, const Call &call, const char *line) {
-    throws<dimacs::WrongLength>(name, call, line);
+    throws<WrongLength>(name, call, line);
 }
 
 template <class Call>
 static void throws_limit(const char *name, const Call &call, const std::string &line) {
-    throws<dimacs::PastLimit>(name, call, line, [&](const auto &it) { is(name, it.refused().line, line); });
+    throws<PastLimit>(name, call, line, [&](const auto &it) { is(name, it.refused().line, line); });
 }
 
 static void explains_texts() {
-    const std::string balance = dimacs::explain("judge-max I S C", max, "s 4\nf 1 2 4\n", cut);
+    const std::string balance = explain("judge-max I S C", max, "s 4\nf 1 2 4\n", cut);
     is("a refusal explained", balance,
        "x node 2 Balance\n0 leaves node 2, 4 enters it: 4 too little leaves\nentries out of it: 0\n"
        "entries into it: 1\n  S:2: f 1 2 4\n");
-    const std::string yes = dimacs::explain("judge-max I S C", max, flow, cut);
+    const std::string yes = explain("judge-max I S C", max, flow, cut);
     check_that("a yes explained", yes.rfind("v max 6\non the source's side of the cut, 1 of the 4 nodes: 1\n", 0) == 0);
-    is("a single text", dimacs::explain("show cut C", cut), "i cut 4 1\n");
+    is("a single text", explain("show cut C", cut), "i cut 4 1\n");
     throws<std::invalid_argument>(
-        "no command", [] { dimacs::explain("judge-max I S", max, flow, cut); },
+        "no command", [] { explain("judge-max I S", max, flow, cut); },
         "no command with its files: judge-max I S");
 }
 
 static void judges_texts() {
-    is("maximum", dimacs::judge_max(max, flow, cut).value().value.str(), "6");
-    is("least", dimacs::judge_min(min, least, pot).value().value.str(), "14");
-    check_that("no flow", dimacs::judge_infeasible(surplus, both).has_value());
-    check_that("all distances", dimacs::judge_paths(graph, source, dist)->sources == 1);
-    const auto answer = dimacs::judge_paths(graph, pairs, dist);
+    is("maximum", judge_max(max, flow, cut).value().value.str(), "6");
+    is("least", judge_min(min, least, pot).value().value.str(), "14");
+    check_that("no flow", judge_infeasible(surplus, both).has_value());
+    check_that("all distances", judge_paths(graph, source, dist)->sources == 1);
+    const auto answer = judge_paths(graph, pairs, dist);
     check_that("two pairs", answer && answer->sources == 0 && answer->pairs.size() == 2);
-    const dimacs::Pair &near = answer->pairs[0], &far = answer->pairs[1];
+    const Pair &near = answer->pairs[0], &far = answer->pairs[1];
     check_that("a distance",
-               near.source == 1 && near.target == 2 && near.kind == dimacs::Pair::Kind::distance && near.number == 5);
-    check_that("no walk", far.target == 4 && far.kind == dimacs::Pair::Kind::unreachable);
-    const auto beyond = dimacs::judge_paths(graph, "p aux sp p2p 1\nq 1 2\n", "p dist 4 1\nt 1 0 4\n");
+               near.source == 1 && near.target == 2 && near.kind == Pair::Kind::distance && near.number == 5);
+    check_that("no walk", far.target == 4 && far.kind == Pair::Kind::unreachable);
+    const auto beyond = judge_paths(graph, "p aux sp p2p 1\nq 1 2\n", "p dist 4 1\nt 1 0 4\n");
     check_that("beyond a radius",
-               beyond && beyond->pairs[0].kind == dimacs::Pair::Kind::beyond && beyond->pairs[0].number == 4);
-    const auto none = dimacs::judge_max("", "", "");
+               beyond && beyond->pairs[0].kind == Pair::Kind::beyond && beyond->pairs[0].number == 4);
+    const auto none = judge_max("", "", "");
     is("an empty text", none.message(), "x instance 1 0 ProblemMissing");
-    const auto fault = dimacs::judge_max(max, "s six\n", cut);
+    const auto fault = judge_max(max, "s six\n", cut);
     const Refused &no = *fault.get_if<Refused>();
     check_that("a fault's place", no.text && no.text->text == "solution" && no.text->line == 1 && no.text->field == 2 &&
                                       no.reason == "BadNumber" && !no.arc && !no.node);
-    const auto arc = dimacs::judge_max(max, slow, cut);
+    const auto arc = judge_max(max, slow, cut);
     check_that("a test's arc", !arc && arc.get_if<Refused>()->arc == 1U && !arc.get_if<Refused>()->text);
-    const auto node = dimacs::judge_max(max, flow, "p cut 4 0\n");
+    const auto node = judge_max(max, flow, "p cut 4 0\n");
     check_that("a test's node", node.get_if<Refused>()->node == 1U);
     try {
-        (void)dimacs::judge_max(max, slow, cut).value();
+        (void)judge_max(max, slow, cut).value();
         check_that("the value of a no", 0);
-    } catch (const dimacs::BadAnswer &it) {
+    } catch (const BadAnswer &it) {
         is("the value of a no", it.what(), "x arc 1 NotSaturated");
     }
 }
 
 static void certifies_texts() {
-    const auto yes = dimacs::certify_max(max, flow);
+    const auto yes = certify_max(max, flow);
     check_that("certified maximum", yes && yes->value == 6 && yes->certificate == cut && yes.message().empty());
-    const auto no = dimacs::certify_max(max, slow);
-    const auto *better = no.get_if<dimacs::NotOptimalText>();
+    const auto no = certify_max(max, slow);
+    const auto *better = no.get_if<NotOptimalText>();
     check_that("not maximum", !no && better && better->line == "x solution 1 2 NotMaximum" && better->better);
-    check_that("the better one is maximum", dimacs::certify_max(max, *better->better).has_value());
-    const auto cheap = dimacs::certify_min(min, least);
+    check_that("the better one is maximum", certify_max(max, *better->better).has_value());
+    const auto cheap = certify_min(min, least);
     check_that("certified least", cheap && cheap->value == 14);
-    check_that("by potentials", dimacs::judge_min(min, least, cheap->certificate).has_value());
-    is("not least", dimacs::certify_min(min, dear).message(), "x solution 1 2 NotLeast");
-    is("no flow", dimacs::certify_min(min, "s 14").message(), "x node 1 Balance");
+    check_that("by potentials", judge_min(min, least, cheap->certificate).has_value());
+    is("not least", certify_min(min, dear).message(), "x solution 1 2 NotLeast");
+    is("no flow", certify_min(min, "s 14").message(), "x node 1 Balance");
     const std::string much = "p min 1 1\na 1 1 0 9223372036854775807 9223372036854775807\n";
-    is("an amount out of range", dimacs::certify_min(much, "s 0\nf 1 1 9223372036854775807\n").message(),
-       "x arc 1 CostRange");
+    is("an amount out of range", certify_min(much, "s 0\nf 1 1 9223372036854775807\n").message(), "x arc 1 CostRange");
 }
 
 static void certifies_whole_claims() {
-    const auto none = dimacs::certify_infeasible(surplus);
-    check_that("no feasible flow in a text",
-               none && none->inside == both && dimacs::judge_infeasible(surplus, none->inside));
-    const auto one = dimacs::certify_infeasible(min);
-    const auto *flow_of = one.get_if<dimacs::FeasibleText>();
+    const auto none = certify_infeasible(surplus);
+    check_that("no feasible flow in a text", none && none->inside == both && judge_infeasible(surplus, none->inside));
+    const auto one = certify_infeasible(min);
+    const auto *flow_of = one.get_if<FeasibleText>();
     check_that("a feasible flow in a text", flow_of && flow_of->flow && one.message() == "x instance 0 0 Feasible");
-    check_that("which is feasible", !dimacs::certify_min(min, *flow_of->flow).get_if<Refused>());
-    is("a fault", dimacs::certify_infeasible(max).message(), "x instance 1 2 BadWord");
-    const auto far = dimacs::certify_paths(graph, "p distances 4 1\nt 1 1\nd 2 5\n");
+    check_that("which is feasible", !certify_min(min, *flow_of->flow).get_if<Refused>());
+    is("a fault", certify_infeasible(max).message(), "x instance 1 2 BadWord");
+    const auto far = certify_paths(graph, "p distances 4 1\nt 1 1\nd 2 5\n");
     check_that("distances in a text", far && far->sources == 1 && far->labels == dist);
-    is("a distance less 1", dimacs::certify_paths(graph, "p distances 4 1\nt 1 1\nd 2 4\n").message(),
-       "x node 2 NoTightArc");
-    is("a fault of distances", dimacs::certify_paths(graph, "p distances 4 1\nt 1 x\n").message(),
-       "x distances 2 3 BadNumber");
+    is("a distance less 1", certify_paths(graph, "p distances 4 1\nt 1 1\nd 2 4\n").message(), "x node 2 NoTightArc");
+    is("a fault of distances", certify_paths(graph, "p distances 4 1\nt 1 x\n").message(), "x distances 2 3 BadNumber");
 }
 
 static void solves_texts() {
-    const auto most = dimacs::solve_max(max);
-    check_that("a maximum flow", most && most->value == 6 && dimacs::judge_max(max, most->solution, most->certificate));
-    check_that("no flow is asked about", dimacs::solve_max(max, 0).get_if<dimacs::GaveUp>() != nullptr);
-    const auto cheap = dimacs::solve_min(min);
-    check_that("least cost",
-               cheap && cheap->value == 14 && dimacs::judge_min(min, cheap->solution, cheap->certificate));
-    const auto none = dimacs::solve_min(surplus);
-    const auto *set = none.get_if<dimacs::Infeasible<std::string>>();
+    const auto most = solve_max(max);
+    check_that("a maximum flow", most && most->value == 6 && judge_max(max, most->solution, most->certificate));
+    check_that("no flow is asked about", solve_max(max, 0).get_if<GaveUp>() != nullptr);
+    const auto cheap = solve_min(min);
+    check_that("least cost", cheap && cheap->value == 14 && judge_min(min, cheap->solution, cheap->certificate));
+    const auto none = solve_min(surplus);
+    const auto *set = none.get_if<Infeasible<std::string>>();
     check_that("no feasible flow", set && set->inside == both && none.message() == "v infeasible");
-    check_that("no step", dimacs::solve_min(min, 0).get_if<dimacs::GaveUp>() != nullptr);
-    is("a fault", dimacs::solve_min(max).message(), "x instance 1 2 BadWord");
-    const auto found = dimacs::solve_paths(graph, pairs);
+    check_that("no step", solve_min(min, 0).get_if<GaveUp>() != nullptr);
+    is("a fault", solve_min(max).message(), "x instance 1 2 BadWord");
+    const auto found = solve_paths(graph, pairs);
     check_that("paths", found && found->labels == dist && found->pairs.size() == 2 && found->pairs[0].number == 5);
-    check_that("all paths", dimacs::solve_paths(graph, source)->sources == 1);
-    is("a weight below 0", dimacs::solve_paths("p sp 2 2\na 1 2 0\na 2 1 -1\n", source).message(),
-       "x arc 2 NegativeWeight");
+    check_that("all paths", solve_paths(graph, source)->sources == 1);
+    is("a weight below 0", solve_paths("p sp 2 2\na 1 2 0\na 2 1 -1\n", source).message(), "x arc 2 NegativeWeight");
 }
 
 static void makes_texts() {
-    is("converted", dimacs::convert(Text::max, std::string("c\n") + max).value(), max);
-    is("shown", dimacs::show(Text::max, max).value(), "i max 4 5 1 4\n");
-    is("of another kind", dimacs::show(Text::min, max).message(), "x instance 1 2 BadWord");
+    is("converted", convert(Text::max, std::string("c\n") + max).value(), max);
+    is("shown", show(Text::max, max).value(), "i max 4 5 1 4\n");
+    is("of another kind", show(Text::min, max).message(), "x instance 1 2 BadWord");
     const std::string parallel = "p max 2 2\nn 1 s\nn 2 t\na 1 2 3\na 1 2 5\n";
-    is("spread", dimacs::spread_max(parallel, "s 6\nf 1 2 4\nf 1 2 2\n").value(), "s 6\nf 1 2 3\nf 1 2 3\n");
-    is("of no arc", dimacs::spread_max(parallel, "s 6\nf 2 1 6\n").message(), "x solution 2 0 UnknownArc");
-    is("spread by costs", dimacs::spread_min("p min 2 2\na 1 2 0 3 9\na 1 2 0 5 1\n", "s 0\nf 1 2 6\n").value(),
+    is("spread", spread_max(parallel, "s 6\nf 1 2 4\nf 1 2 2\n").value(), "s 6\nf 1 2 3\nf 1 2 3\n");
+    is("of no arc", spread_max(parallel, "s 6\nf 2 1 6\n").message(), "x solution 2 0 UnknownArc");
+    is("spread by costs", spread_min("p min 2 2\na 1 2 0 3 9\na 1 2 0 5 1\n", "s 0\nf 1 2 6\n").value(),
        "s 0\nf 1 2 1\nf 1 2 5\n");
     const std::string most = "9223372036854775807", sum = "s 0\nf 1 2 " + most + "\nf 1 2 1\n";
-    is("a sum of 2^63", dimacs::spread_max("p max 2 2\nn 1 s\nn 2 t\na 1 2 0\na 1 2 1\n", sum).value(), sum);
+    is("a sum of 2^63", spread_max("p max 2 2\nn 1 s\nn 2 t\na 1 2 0\na 1 2 1\n", sum).value(), sum);
     is("of which the first arc carries all",
-       dimacs::spread_max("p max 2 2\nn 1 s\nn 2 t\na 1 2 0\na 1 2 0\n", sum).message(), "x arc 1 AboveCap");
+       spread_max("p max 2 2\nn 1 s\nn 2 t\na 1 2 0\na 1 2 0\n", sum).message(), "x arc 1 AboveCap");
     std::string queries = "p aux sp p2p 900\n";
     for (int k = 0; k < 900; k++) queries += "q 1 4\n";
-    const auto many = dimacs::judge_paths(graph, queries, dist);
+    const auto many = judge_paths(graph, queries, dist);
     check_that("more than the first room", many && many->pairs.size() == 900);
     std::string long_form = "p cut 4 0";
     for (int k = 0; k < 9; k++) long_form += "\n";
-    is("lines", dimacs::convert(Text::cut, long_form + "\n").value(), "p cut 4 0\n");
+    is("lines", convert(Text::cut, long_form + "\n").value(), "p cut 4 0\n");
 }
 
 static const Ids tails{1, 1, 2, 2, 3}, heads{2, 3, 3, 4, 4};
 static const Amounts caps{4, 2, 2, 3, 5}, lows(5), costs{2, 2, 1, 3, 1}, supplies{4, 0, 0, -4};
-static const dimacs::MaxInstance network{4, 1, 4, tails, heads, caps};
-static const dimacs::MinInstance shipping{4, tails, heads, lows, caps, costs, supplies};
+static const MaxInstance network{4, 1, 4, tails, heads, caps};
+static const MinInstance shipping{4, tails, heads, lows, caps, costs, supplies};
 static const Amounts last(3, INT64_MAX);
 
 static void maximum_flows() {
     const Amounts flows{4, 2, 1, 3, 3}, few{3, 2, 0, 3, 2}, lost{4, 2, 2, 3, 3};
-    const auto yes = dimacs::certify_max(network, flows);
+    const auto yes = certify_max(network, flows);
     check_that("a maximum flow in arrays", yes && yes->value == 6 && yes->inside == Inside({1, 0, 0, 0}));
-    is("judged by its cut", dimacs::judge_max(network, flows, yes->inside).value().value.str(), "6");
-    const auto no = dimacs::certify_max(network, few);
+    is("judged by its cut", judge_max(network, flows, yes->inside).value().value.str(), "6");
+    const auto no = certify_max(network, few);
     const auto *better = no.get_if<NotOptimal<Flows>>();
     check_that("a better flow", better && better->better.size() == 5 && no.message() == "x solution 0 0 NotMaximum");
-    check_that("which is maximum", dimacs::certify_max(network, better->better).has_value());
-    const auto refused = dimacs::certify_max(network, lost);
+    check_that("which is maximum", certify_max(network, better->better).has_value());
+    const auto refused = certify_max(network, lost);
     check_that("a node that keeps some", refused.get_if<Refused>() && refused.get_if<Refused>()->node == 2U);
-    is("at no cut", dimacs::judge_max(network, few, yes->inside).message(), "x arc 1 NotSaturated");
-    const auto made = dimacs::solve_max(network);
-    check_that("made", made && made->value == 6 && dimacs::judge_max(network, made->flows, made->inside));
-    check_that("given up", dimacs::solve_max(network, 0).message() == "g limit");
-    const auto most = dimacs::certify_max({2, 1, 2, Ids{1, 1, 1}, Ids{2, 2, 2}, last}, last);
+    is("at no cut", judge_max(network, few, yes->inside).message(), "x arc 1 NotSaturated");
+    const auto made = solve_max(network);
+    check_that("made", made && made->value == 6 && judge_max(network, made->flows, made->inside));
+    check_that("given up", solve_max(network, 0).message() == "g limit");
+    const auto most = certify_max({2, 1, 2, Ids{1, 1, 1}, Ids{2, 2, 2}, last}, last);
     check_that("a value past 64 bits", most->value.str() == "27670116110564327421" && !most->value.to_int64());
     check_that("one of 64 bits", yes->value.to_int64() == 6 && yes->value != most->value);
-    const auto empty = dimacs::certify_max({2, 1, 2, {}, {}, {}}, {});
+    const auto empty = certify_max({2, 1, 2, {}, {}, {}}, {});
     check_that("no arcs", empty && empty->value == 0 && empty->inside == Inside({1, 0}));
 }
 
 static void misuses() {
     const Amounts flows{4, 2, 1, 3, 3};
-    throws_length("fewer flows", [&] { return dimacs::certify_max(network, Amounts{1}); },
+    throws_length("fewer flows", [&] { return certify_max(network, Amounts{1}); },
                   "flows has 1 items, and there are 5 arcs");
-    throws_length("fewer heads", [&] { return dimacs::solve_max({4, 1, 4, tails, Ids{2}, caps}); },
+    throws_length("fewer heads", [&] { return solve_max({4, 1, 4, tails, Ids{2}, caps}); },
                   "heads has 1 items, and there are 5 arcs");
-    throws_length("more marks", [&] { return dimacs::judge_infeasible(shipping, Inside(5)); },
+    throws_length("more marks", [&] { return judge_infeasible(shipping, Inside(5)); },
                   "inside has 5 items, and there are 4 nodes");
-    throws_length("fewer potentials", [&] { return dimacs::judge_min(shipping, flows, Amounts(3)); },
+    throws_length("fewer potentials", [&] { return judge_min(shipping, flows, Amounts(3)); },
                   "potentials has 3 items, and there are 4 nodes");
-    throws_length("fewer distances", [&] { return dimacs::certify_paths({4, tails, heads, caps}, 1, Amounts(3)); },
+    throws_length("fewer distances", [&] { return certify_paths({4, tails, heads, caps}, 1, Amounts(3)); },
                   "distances has 3 items, and there are 4 nodes");
-    throws_length("no kind", [&] { return dimacs::convert(static_cast<Text>(99), max); },
+    throws_length("no kind", [&] { return convert(static_cast<Text>(99), max); },
                   "an array has another length than it has to have");
-    throws_limit("a head", [&] { return dimacs::solve_max({3, 1, 3, tails, heads, caps}); }, "x arc 4 NodeRange");
-    throws_limit("the sink", [&] { return dimacs::certify_max({4, 1, 1, tails, heads, caps}, flows); },
-                 "x node 1 NodeTwice");
-    throws_limit("too many nodes", [&] { return dimacs::solve_max({UINT32_MAX, 1, 2, {}, {}, {}}); },
+    throws_limit("a head", [&] { return solve_max({3, 1, 3, tails, heads, caps}); }, "x arc 4 NodeRange");
+    throws_limit("the sink", [&] { return certify_max({4, 1, 1, tails, heads, caps}, flows); }, "x node 1 NodeTwice");
+    throws_limit("too many nodes", [&] { return solve_max({UINT32_MAX, 1, 2, {}, {}, {}}); },
                  "x node 134217729 NumberRange");
-    throws_limit("bounds", [&] { return dimacs::solve_min({4, tails, heads, caps, lows, costs, supplies}); },
+    throws_limit("bounds", [&] { return solve_min({4, tails, heads, caps, lows, costs, supplies}); },
                  "x arc 1 BoundOrder");
-    throws_limit("no source", [&] { return dimacs::solve_paths({4, tails, heads, caps}, 5); }, "x node 5 NodeRange");
+    throws_limit("no source", [&] { return solve_paths({4, tails, heads, caps}, 5); }, "x node 5 NodeRange");
 }
 
 static void least_costs() {
     const Amounts flows{2, 2, 2, 0, 4}, much{2, 2, 1, 1, 3};
-    const auto yes = dimacs::certify_min(shipping, flows);
-    check_that("least cost in arrays", yes && yes->cost == 14 && dimacs::judge_min(shipping, flows, yes->potentials));
-    const auto no = dimacs::certify_min(shipping, much);
+    const auto yes = certify_min(shipping, flows);
+    check_that("least cost in arrays", yes && yes->cost == 14 && judge_min(shipping, flows, yes->potentials));
+    const auto no = certify_min(shipping, much);
     check_that("a cheaper flow", no.get_if<NotOptimal<Flows>>() && no.get_if<NotOptimal<Flows>>()->better.size() == 5);
-    check_that("no flow", dimacs::certify_min(shipping, lows).get_if<Refused>()->node == 1U);
-    const auto made = dimacs::solve_min(shipping);
-    check_that("made", made && made->cost == 14 && dimacs::judge_min(shipping, made->flows, made->potentials));
+    check_that("no flow", certify_min(shipping, lows).get_if<Refused>()->node == 1U);
+    const auto made = solve_min(shipping);
+    check_that("made", made && made->cost == 14 && judge_min(shipping, made->flows, made->potentials));
     const Amounts more{9, 0, 0, -9};
-    const dimacs::MinInstance short_of{4, tails, heads, lows, caps, costs, more};
-    const auto none = dimacs::solve_min(short_of);
-    const auto *set = none.get_if<dimacs::Infeasible<Inside>>();
-    check_that("no feasible flow", set && dimacs::judge_infeasible(short_of, set->inside));
-    const auto certified = dimacs::certify_infeasible(short_of);
-    check_that("certified to have none", certified && dimacs::judge_infeasible(short_of, certified->inside));
-    const auto other = dimacs::certify_infeasible(shipping);
-    const auto *feasible = other.get_if<dimacs::Feasible<Flows>>();
-    check_that("a feasible flow", feasible && !dimacs::certify_min(shipping, feasible->flow).get_if<Refused>());
-    is("there is one", dimacs::judge_infeasible(shipping, Inside{1, 0, 0, 0}).message(),
-       "x certificate 0 0 NotViolated");
-    check_that("given up", dimacs::solve_min(shipping, 0).get_if<dimacs::GaveUp>() != nullptr);
+    const MinInstance short_of{4, tails, heads, lows, caps, costs, more};
+    const auto none = solve_min(short_of);
+    const auto *set = none.get_if<Infeasible<Inside>>();
+    check_that("no feasible flow", set && judge_infeasible(short_of, set->inside));
+    const auto certified = certify_infeasible(short_of);
+    check_that("certified to have none", certified && judge_infeasible(short_of, certified->inside));
+    const auto other = certify_infeasible(shipping);
+    const auto *feasible = other.get_if<Feasible<Flows>>();
+    check_that("a feasible flow", feasible && !certify_min(shipping, feasible->flow).get_if<Refused>());
+    is("there is one", judge_infeasible(shipping, Inside{1, 0, 0, 0}).message(), "x certificate 0 0 NotViolated");
+    check_that("given up", solve_min(shipping, 0).get_if<GaveUp>() != nullptr);
 }
 
 static void distances() {
-    const dimacs::Graph roads{4, tails, heads, costs};
+    const Graph roads{4, tails, heads, costs};
     const Amounts right{0, 2, 2, 3};
-    const auto yes = dimacs::certify_paths(roads, 1, right);
-    check_that("distances in arrays", yes && dimacs::judge_paths(roads, 1, right, yes->predecessors));
-    const auto no = dimacs::certify_paths(roads, 1, Amounts{0, 2, 1, 3});
+    const auto yes = certify_paths(roads, 1, right);
+    check_that("distances in arrays", yes && judge_paths(roads, 1, right, yes->predecessors));
+    const auto no = certify_paths(roads, 1, Amounts{0, 2, 1, 3});
     check_that("one less 1", no.get_if<Refused>() != nullptr);
-    const auto made = dimacs::solve_paths(roads, 1);
+    const auto made = solve_paths(roads, 1);
     check_that("made", made && made->distances == right && made->predecessors[0] == 0);
-    const auto alone = dimacs::solve_paths(roads, 4);
-    check_that("none is reached", alone->distances[0] == dimacs::unreached);
-    is("a weight below 0", dimacs::solve_paths({2, Ids{1}, Ids{2}, Amounts{-1}}, 1).message(),
-       "x arc 1 NegativeWeight");
+    const auto alone = solve_paths(roads, 4);
+    check_that("none is reached", alone->distances[0] == unreached);
+    is("a weight below 0", solve_paths({2, Ids{1}, Ids{2}, Amounts{-1}}, 1).message(), "x arc 1 NegativeWeight");
     check_that(
         "a distance that doesn't fit",
-        dimacs::solve_paths({3, Ids{1, 2}, Ids{2, 3}, Amounts{INT64_MAX, 1}}, 1).get_if<dimacs::GaveUp>() != nullptr);
+        solve_paths({3, Ids{1, 2}, Ids{2, 3}, Amounts{INT64_MAX, 1}}, 1).get_if<GaveUp>() != nullptr);
 }
 
 /* Texts in their canonical form, read and written again. */
 static void reads_and_writes() {
-    const auto network_of = dimacs::read_max(max).value();
+    const auto network_of = read_max(max).value();
     check_that("a maximum flow instance", network_of.nodes == 4 && network_of.source == 1 && network_of.sink == 4 &&
                                               network_of.tails == tails && network_of.heads == heads &&
                                               network_of.caps == caps);
-    is("written", dimacs::write_max(network_of), max);
-    const auto made = dimacs::solve_max(network_of).value();
-    check_that("read, solved and certified", dimacs::certify_max(network_of, made.flows).has_value());
-    const auto shipping_of = dimacs::read_min(min).value();
+    is("written", write_max(network_of), max);
+    const auto made = solve_max(network_of).value();
+    check_that("read, solved and certified", certify_max(network_of, made.flows).has_value());
+    const auto shipping_of = read_min(min).value();
     check_that("an instance of least cost", shipping_of.nodes == 4 && shipping_of.tails == tails &&
                                                 shipping_of.heads == heads && shipping_of.lows == lows &&
                                                 shipping_of.caps == caps && shipping_of.costs == costs &&
                                                 shipping_of.supplies == supplies);
-    is("written", dimacs::write_min(shipping_of), min);
-    check_that("solved", dimacs::solve_min(shipping_of)->cost == 14);
-    const auto roads = dimacs::read_graph(graph).value();
+    is("written", write_min(shipping_of), min);
+    check_that("solved", solve_min(shipping_of)->cost == 14);
+    const auto roads = read_graph(graph).value();
     check_that("a graph", roads.nodes == 4 && roads.tails == Ids({1, 3, 4}) && roads.heads == Ids({2, 4, 3}) &&
                               roads.weights == Amounts({5, 0, 0}));
-    is("written", dimacs::write_graph(roads), graph);
-    check_that("solved", dimacs::solve_paths(roads, 1)->distances[1] == 5);
-    const auto claim = dimacs::read_solution(flow, network_of).value();
+    is("written", write_graph(roads), graph);
+    check_that("solved", solve_paths(roads, 1)->distances[1] == 5);
+    const auto claim = read_solution(flow, network_of).value();
     check_that("a solution", claim.value == 6 && claim.flows == Flows({4, 2, 1, 3, 3}));
-    is("written", dimacs::write_solution(claim.value, network, claim.flows), flow);
-    check_that("one without some entries", dimacs::read_solution(least, shipping)->flows == Flows({2, 2, 2, 0, 4}));
-    is("a cut", dimacs::write_cut(dimacs::read_cut(cut).value()), cut);
-    is("one of more nodes than bytes", dimacs::write_cut(dimacs::read_cut("p cut 99 0\n").value()), "p cut 99 0\n");
-    is("potentials", dimacs::write_potentials(dimacs::read_potentials(pot).value()), pot);
-    const auto far = dimacs::read_min("p min 99 0\nn 98 7\nn 99 -7\n");
+    is("written", write_solution(claim.value, network, claim.flows), flow);
+    check_that("one without some entries", read_solution(least, shipping)->flows == Flows({2, 2, 2, 0, 4}));
+    is("a cut", write_cut(read_cut(cut).value()), cut);
+    is("one of more nodes than bytes", write_cut(read_cut("p cut 99 0\n").value()), "p cut 99 0\n");
+    is("potentials", write_potentials(read_potentials(pot).value()), pot);
+    const auto far = read_min("p min 99 0\nn 98 7\nn 99 -7\n");
     check_that("more nodes than lines", far && far->supplies.size() == 99 && far->supplies[98] == -7);
-    const auto asked = dimacs::read_queries(pairs).value(), all = dimacs::read_queries(source).value();
+    const auto asked = read_queries(pairs).value(), all = read_queries(source).value();
     check_that("queries for pairs", asked.froms == Ids({1, 1}) && asked.tos == Ids({2, 4}));
     check_that("queries for all distances", all.froms == Ids({1}) && !all.tos);
 }
 
 /* Distances, labels and queries. */
 static void reads_and_writes_paths() {
-    using dimacs::read_distances, dimacs::read_labels, dimacs::write_distances, dimacs::write_labels;
     const std::string far = "p distances 4 1\nt 1 1\nd 2 5\n", two = "p dist 99 2\nt 2 0\nt 1 1 7\nd 98 6 1\n";
     const auto distances = read_distances(far, 1).value();
-    check_that("distances", distances == Amounts({0, 5, dimacs::unreached, dimacs::unreached}));
+    check_that("distances", distances == Amounts({0, 5, unreached, unreached}));
     is("written", write_distances(1, distances).value(), far);
     const auto labels = read_labels(dist, 1).value();
     check_that("labels", labels.distances == distances && labels.predecessors == Ids({0, 1, 0, 0}) && !labels.radius);
@@ -302,16 +288,15 @@ static void reads_and_writes_paths() {
     throws_length("fewer predecessors", [&] { return write_labels(1, distances, Ids(1)); },
                   "predecessors has 1 items, and there are 4 distances");
     throws_limit("no source", [&] { return write_distances(5, distances); }, "x node 5 NodeRange");
-    is("queries for pairs", dimacs::write_queries(dimacs::read_queries(pairs).value()), pairs);
-    is("for all distances", dimacs::write_queries(dimacs::read_queries(source).value()), source);
-    throws_length("a query without an end", [] { return dimacs::write_queries({{1, 2}, Ids{3}}); },
+    is("queries for pairs", write_queries(read_queries(pairs).value()), pairs);
+    is("for all distances", write_queries(read_queries(source).value()), source);
+    throws_length("a query without an end", [] { return write_queries({{1, 2}, Ids{3}}); },
                   "tos has 1 items, and there are 2 froms");
-    throws_limit("node 0", [] { return dimacs::write_queries({{0}, std::nullopt}); }, "x node 0 NumberRange");
+    throws_limit("node 0", [] { return write_queries({{0}, std::nullopt}); }, "x node 0 NumberRange");
 }
 
 /* What isn't read, and by which line. */
 static void refuses_texts() {
-    using dimacs::read_max, dimacs::read_min, dimacs::read_graph, dimacs::read_solution;
     const std::string most = "9223372036854775808";
     rusage before, after;
     getrusage(RUSAGE_SELF, &before);
@@ -324,19 +309,18 @@ static void refuses_texts() {
     is("a long line", read_graph("p sp 2 1\na 1 2 " + std::string(1 << 20, '7')).message(),
        "x instance 2 0 LineTooLong");
     is("of another kind", read_min(max).message(), "x instance 1 2 BadWord");
-    is("queries", dimacs::read_queries("p aux sp p2p 1\nq 1\n").message(), "x query 2 0 FieldCount");
-    is("a cut", dimacs::read_cut("p cut 1 1\nu 2\n").message(), "x certificate 2 2 NodeRange");
+    is("queries", read_queries("p aux sp p2p 1\nq 1\n").message(), "x query 2 0 FieldCount");
+    is("a cut", read_cut("p cut 1 1\nu 2\n").message(), "x certificate 2 2 NodeRange");
     is("no arc", read_solution("s 6\nf 4 1 6\n", network).message(), "x solution 2 0 UnknownArc");
     is("an arc twice", read_solution("s 6\nf 1 2 6\nf 1 2 6\n", network).message(), "x solution 3 0 ArcTwice");
     is("a value past 64 bits", read_solution("s " + most + "\n", network).message(), "x solution 1 2 NumberRange");
-    is("a potential past 64 bits", dimacs::read_potentials("p pot 2 1\ny 2 " + most + "\n").message(),
-       "x node 2 NumberRange");
-    throws_length("fewer flows", [] { return dimacs::write_solution(6, network, Amounts(1)); },
+    is("a potential past 64 bits", read_potentials("p pot 2 1\ny 2 " + most + "\n").message(), "x node 2 NumberRange");
+    throws_length("fewer flows", [] { return write_solution(6, network, Amounts(1)); },
                  "flows has 1 items, and there are 5 arcs");
-    throws_length("fewer heads", [] { return read_solution("s 0\n", dimacs::Graph{4, tails, {}, caps}); },
+    throws_length("fewer heads", [] { return read_solution("s 0\n", Graph{4, tails, {}, caps}); },
                  "heads has 0 items, and there are 5 arcs");
-    throws_limit("a node too high", [] { return dimacs::write_graph({3, tails, heads, caps}); }, "x arc 4 NodeRange");
-    throws_limit("of a solution", [] { return read_solution("s 0\n", dimacs::Graph{3, tails, heads, caps}); },
+    throws_limit("a node too high", [] { return write_graph({3, tails, heads, caps}); }, "x arc 4 NodeRange");
+    throws_limit("of a solution", [] { return read_solution("s 0\n", Graph{3, tails, heads, caps}); },
                  "x arc 4 NodeRange");
 }
 
@@ -345,10 +329,9 @@ __extension__ typedef __int128 Wide;
 __extension__ typedef unsigned __int128 UnsignedWide;
 template <class Number>
 static constexpr bool converts =
-    std::is_constructible_v<dimacs::Value, Number> || std::is_convertible_v<Number, dimacs::Value>;
+    std::is_constructible_v<Value, Number> || std::is_convertible_v<Number, Value>;
 
 static void values() {
-    using dimacs::Value;
     static_assert(!converts<double> && !converts<float> && !converts<const char *> && !converts<std::nullptr_t>);
     static_assert(!std::is_invocable_v<std::equal_to<>, Value, double>);
     check_that("a sign isn't lost", Value(-1) != ~0ULL && Value(-1) == -1LL);
@@ -359,15 +342,14 @@ static void values() {
     is("the greatest of 128", Value(~UnsignedWide(0)).str(), "340282366920938463463374607431768211455");
     check_that("2^64 isn't 0", Value(Wide(1) << 64) != 0 && Value(Wide(1) << 64) == (UnsignedWide(1) << 64));
     std::ostringstream out;
-    out << dimacs::judge_max(max, flow, cut)->value << ' ' << dimacs::certify_min(min, least)->value << ' '
-        << dimacs::solve_paths(graph, pairs)->pairs[0].number;
+    out << judge_max(max, flow, cut)->value << ' ' << certify_min(min, least)->value << ' '
+        << solve_paths(graph, pairs)->pairs[0].number;
     is("printed", out.str(), "6 14 5");
 }
 
 /* What no library of this version answers. */
 static void unknown_answers() {
-    using dimacs::UnknownAnswer;
-    using namespace dimacs::detail;
+    using namespace detail;
     const std::string known = "libdimacs answers what dimacs.hpp doesn't know: ";
     for (const char *line : {"", "x", "x arc 3", "x arc three AboveCap", "x arc 3 Above Cap", "y arc 3 AboveCap",
                              "x arc -3 AboveCap", "x arc 18446744073709551616 AboveCap", "x node  Balance",
@@ -390,11 +372,11 @@ static void unknown_answers() {
 
 /* An exception that was moved from has what it had. */
 static void moved_exceptions() {
-    dimacs::PastLimit one(dimacs::detail::refused("x arc 4 NodeRange"));
-    const dimacs::PastLimit other(std::move(one));
+    PastLimit one(detail::refused("x arc 4 NodeRange"));
+    const PastLimit other(std::move(one));
     is("moved", other.refused().line, "x arc 4 NodeRange");
     is("moved from", one.refused().line, "x arc 4 NodeRange");
-    one = dimacs::PastLimit(dimacs::detail::refused("x node 1 NodeTwice"));
+    one = PastLimit(detail::refused("x node 1 NodeTwice"));
     is("assigned", one.refused().line + one.what(), "x node 1 NodeTwicex node 1 NodeTwice");
 }
 
@@ -402,23 +384,23 @@ static void takes_what_has_items() {
     const std::array<std::uint32_t, 1> tail{1};
     const std::uint32_t head[] = {2};
     std::vector<std::int64_t> cap{7};
-    const dimacs::MaxInstance arc{2, 1, 2, tail, head, {cap.data(), cap.size()}};
-    check_that("an array, a C array, and a pointer with a size", dimacs::solve_max(arc)->value == 7);
+    const MaxInstance arc{2, 1, 2, tail, head, {cap.data(), cap.size()}};
+    check_that("an array, a C array, and a pointer with a size", solve_max(arc)->value == 7);
     const std::int64_t sum = std::visit(
         [](const auto &it) -> std::int64_t {
-            if constexpr (std::is_same_v<std::decay_t<decltype(it)>, dimacs::GaveUp>) {
+            if constexpr (std::is_same_v<std::decay_t<decltype(it)>, GaveUp>) {
                 return 0;
             } else {
                 return it.flows[0];
             }
         },
-        dimacs::solve_max(arc).variant());
+        solve_max(arc).variant());
     check_that("visited", sum == 7);
-    check_that("the version", dimacs::version() == DIMACS_VERSION_NUMBER);
-    const std::string text = dimacs::version_text();
+    check_that("the version", version() == DIMACS_VERSION_NUMBER);
+    const std::string text = version_text();
     check_that("its text begins with the header's", text.rfind(DIMACS_VERSION " (", 0) == 0 && text.back() == ')');
-    check_that("and says whether it is proved", dimacs::proved() == (text.find("(proved by ") != std::string::npos));
-    check_that("or not", dimacs::proved() != (text.find("(not proved)") != std::string::npos));
+    check_that("and says whether it is proved", proved() == (text.find("(proved by ") != std::string::npos));
+    check_that("or not", proved() != (text.find("(not proved)") != std::string::npos));
 }
 
 int main() {
@@ -439,6 +421,6 @@ int main() {
     values();
     unknown_answers();
     moved_exceptions();
-    check_that("LEMON's part and Boost's aren't seen", dimacs::lemon && dimacs::boost);
+    check_that("LEMON's part and Boost's aren't seen", lemon && boost);
     return count();
 }

@@ -2,6 +2,7 @@
 
 import array
 import ctypes
+import functools
 import unittest
 from unittest import mock
 
@@ -124,62 +125,54 @@ class Forms(unittest.TestCase):
         words = 4, 1, 4, tails, heads, numbers(MAX[5]), numbers(FLOW), marks(CUT)
         self.assertEqual(dimacs.judge_max_arrays(*words).value, 6)
 
+    def all_judged(self, of, *kinds):
+        """Judges arrays that `of` makes of items and a kind, by the kinds of numbers, of nodes and of marks."""
+        for some in kinds:
+            self.judged(*(functools.partial(of, it) for it in some))
+
     def test_lists_and_buffers(self):
-        def of(code):
-            return lambda items: array.array(code, items)
+        def read_only(code, items):
+            return memoryview(array.array(code, items)).toreadonly()
 
-        def read_only(code):
-            return lambda items: memoryview(of(code)(items)).toreadonly()
+        def spread(code, items):
+            return memoryview(array.array(code, [it for item in items for it in (item, 77)]))[::2]
 
-        def spread(code):
-            return lambda items: memoryview(of(code)([it for item in items for it in (item, 77)]))[::2]
-
-        for numbers, ids, marks in [
-            (list, list, list),
-            (tuple, iter, bytes),
-            (of("q"), of("I"), of("B")),
-            (of("l"), of("L"), bytearray),
-            (of("i"), of("h"), of("b")),
-            (of("d"), of("d"), of("q")),
-            (read_only("q"), read_only("I"), read_only("B")),
-            (spread("q"), spread("I"), spread("B")),
-            (lambda items: map(float, items), one_by_one, one_by_one),
-        ]:
-            self.judged(numbers, ids, marks)
+        self.all_judged(array.array, "qIB", "lLB", "ihb", "ddq")
+        self.all_judged(read_only, "qIB")
+        self.all_judged(spread, "qIB")
+        self.judged(list, list, list)
+        self.judged(tuple, iter, bytes)
+        self.judged(list, list, bytearray)
+        self.judged(lambda items: map(float, items), one_by_one, one_by_one)
 
     def test_arrays_of_ctypes(self):
-        def of(kind):
-            return lambda items: (kind * len(items))(*items)
+        self.all_judged(
+            lambda kind, items: (kind * len(items))(*items),
+            (ctypes.c_int64, ctypes.c_uint32, ctypes.c_uint8),
+            (ctypes.c_longlong, ctypes.c_uint, ctypes.c_bool),
+            (ctypes.c_int32, ctypes.c_int16, ctypes.c_int8),
+            (ctypes.c_double, ctypes.c_float, ctypes.c_int64),
+            (ctypes.c_int64.__ctype_be__, ctypes.c_uint32.__ctype_be__, ctypes.c_uint16.__ctype_be__),
+        )
 
-        for numbers, ids, marks in [
-            (of(ctypes.c_int64), of(ctypes.c_uint32), of(ctypes.c_uint8)),
-            (of(ctypes.c_longlong), of(ctypes.c_uint), of(ctypes.c_bool)),
-            (of(ctypes.c_int32), of(ctypes.c_int16), of(ctypes.c_int8)),
-            (of(ctypes.c_double), of(ctypes.c_float), of(ctypes.c_int64)),
-            (of(ctypes.c_int64.__ctype_be__), of(ctypes.c_uint32.__ctype_be__), of(ctypes.c_uint16.__ctype_be__)),
-        ]:
-            self.judged(numbers, ids, marks)
-
-    def aligned(self, of):
-        """Judges arrays that `of` makes with their first item at each offset, few of which are multiples of its width."""
+    def aligned(self, view):
+        """Judges views of arrays with their first item at each offset, few of which are multiples of its width."""
         for offset in range(8):
+
+            def of(code, items):
+                return view(bytes(offset) + array.array(code, items).tobytes(), code, offset)
+
             for items, code in [(buffers.NUMBERS, "q"), (buffers.IDS, "I")]:
-                found = buffers.array_of(of(code, offset)(FLOW), items, "flows")
+                found = buffers.array_of(of(code, FLOW), items, "flows")
                 self.assertEqual((found.address % items.width, found.length), (0, len(FLOW)))
-            self.judged(of("q", offset), of("I", offset), of("B", offset))
+            self.all_judged(of, "qIB")
 
     def test_views_at_any_address(self):
-        def of(code, offset):
-            return lambda items: memoryview(bytes(offset) + array.array(code, items).tobytes())[offset:].cast(code)
-
-        self.aligned(of)
+        self.aligned(lambda content, code, offset: memoryview(content)[offset:].cast(code))
 
     @unittest.skipUnless(numpy, "numpy isn't there")
     def test_numpy_at_any_address(self):
-        def of(code, offset):
-            return lambda items: numpy.frombuffer(bytes(offset) + array.array(code, items).tobytes(), code, offset=offset)
-
-        self.aligned(of)
+        self.aligned(lambda content, code, offset: numpy.frombuffer(content, code, offset=offset))
 
     def test_labels(self):
         class Labelled:
@@ -194,33 +187,25 @@ class Forms(unittest.TestCase):
             def to_numpy(self):
                 return self._items
 
-        def of(code):
-            return lambda items: Labelled(array.array(code, items))
-
         def listed(items):
             return Labelled(list(items))
 
         self.judged(listed, listed, listed)
-        self.judged(of("q"), of("I"), of("B"))
-        self.assertRaises(ValueError, self.judged, of("q"), of("I"), lambda items: Labelled([2**8] * len(items)))
+        self.all_judged(lambda code, items: Labelled(array.array(code, items)), "qIB")
+        self.assertRaises(ValueError, self.judged, listed, listed, lambda items: Labelled([2**8] * len(items)))
 
     @unittest.skipUnless(pandas, "pandas isn't there")
     def test_pandas(self):
-        def of(kind):
-            return lambda items: pandas.Series(items, dtype=kind, index=range(len(items), 0, -1))
+        def of(kind, items):
+            return pandas.Series(items, dtype=kind, index=range(len(items), 0, -1))
 
-        def column(kind):
-            return lambda items: pandas.DataFrame({"a": items, "b": [77] * len(items)}, dtype=kind)["a"]
+        def column(kind, items):
+            return pandas.DataFrame({"a": items, "b": [77] * len(items)}, dtype=kind)["a"]
 
-        for numbers, ids, marks in [
-            (of("int64"), of("uint32"), of("bool")),
-            (of("Int64"), of("UInt32"), of("boolean")),
-            (of("float64"), of("Float32"), of("uint8")),
-            (of("object"), of("object"), of("object")),
-            (column("int64"), column("uint32"), column("uint8")),
-            (pandas.Index, pandas.Index, pandas.array),
-        ]:
-            self.judged(numbers, ids, marks)
+        self.all_judged(of, ("int64", "uint32", "bool"), ("Int64", "UInt32", "boolean"))
+        self.all_judged(of, ("float64", "Float32", "uint8"), ["object"] * 3)
+        self.all_judged(column, ("int64", "uint32", "uint8"))
+        self.judged(pandas.Index, pandas.Index, pandas.array)
 
     @unittest.skipUnless(pandas, "pandas isn't there")
     def test_pandas_that_does_not_fit(self):
@@ -237,26 +222,20 @@ class Forms(unittest.TestCase):
 
     @unittest.skipUnless(numpy, "numpy isn't there")
     def test_numpy(self):
-        def of(kind):
-            return lambda items: numpy.array(items, kind)
+        def of(kind, items):
+            return numpy.array(items, kind)
 
-        def spread(kind):
-            return lambda items: numpy.repeat(numpy.array(items, kind), 2)[::2]
-
-        for numbers, ids, marks in [
-            (of("int64"), of("uint32"), of("uint8")),
-            (of("int64"), of("uint32"), of("bool")),
-            (of("int32"), of("int32"), of("int32")),
-            (of("uint64"), of("int64"), of("int8")),
-            (of("float64"), of("float32"), of("float64")),
-            (of("float16"), of("float16"), of("float16")),
-            (of("longdouble"), of("longdouble"), of("longdouble")),
-            (lambda items: list(of("uint8")(items)), of("uint32"), lambda items: list(map(bool, of("bool")(items)))),
-            (of(">i8"), of(">u4"), of("uint16")),
-            (of("object"), of("object"), of("object")),
-            (spread("int64"), spread("uint32"), spread("bool")),
-        ]:
-            self.judged(numbers, ids, marks)
+        self.all_judged(
+            of,
+            ("int64", "uint32", "uint8"),
+            ("int64", "uint32", "bool"),
+            ("uint64", "int64", "int8"),
+            ("float64", "float32", "float64"),
+            (">i8", ">u4", "uint16"),
+            *([kind] * 3 for kind in ("int32", "float16", "longdouble", "object")),
+        )
+        self.all_judged(lambda kind, items: numpy.repeat(of(kind, items), 2)[::2], ("int64", "uint32", "bool"))
+        self.judged(lambda items: list(of("uint8", items)), list, lambda items: list(map(bool, of("bool", items))))
 
     def test_arrays_come_back(self):
         found = dimacs.solve_max_arrays(*MAX[:-1], array.array("q", MAX[-1])).flows
