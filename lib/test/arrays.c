@@ -92,8 +92,7 @@ static uint32_t solve_paths(dimacs_graph it) { return dimacs_solve_paths_arrays(
     do {                                                                        \
         const size_t wanted_counts[3] = {__VA_ARGS__};                          \
         needed = 99, memset(counts, 0, sizeof counts);                          \
-        uint32_t status = call;                                                 \
-        check(name, status, out, needed, wanted, line);                         \
+        CHECK(name, call, wanted, line);                                        \
         check_that(name, !memcmp(counts, wanted_counts, sizeof counts));        \
         let_go();                                                               \
     } while (0)

@@ -36,6 +36,13 @@ static void check_that(const char *name, int holds) {
     }
 }
 
+/* The same of a call that hands out its text to `out`, whose length is `needed`: these are looked at after it. */
+#define CHECK(name, call, wanted, text)                                         \
+    do {                                                                        \
+        uint32_t status = call;                                                 \
+        check(name, status, out, needed, wanted, text);                         \
+    } while (0)
+
 /* Prints how many, and returns the exit status. */
 static int count(void) {
     printf("%d passed, %d failed\n", passed, failed);

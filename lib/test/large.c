@@ -9,6 +9,11 @@ typedef struct {
     size_t length;
 } Text;
 
+#define WHOLE(text) text.bytes, text.length
+#define ROOM(text) text.bytes, max.length, &text.length
+#define CUT (const uint8_t *)line, strlen(line)
+#define OUT out, sizeof out, &needed
+
 static void add(Text *text, const char *line) {
     size_t length = strlen(line);
     memcpy(text->bytes + text->length, line, length);
@@ -39,40 +44,24 @@ int main(void) {
 
     uint8_t out[100];
     size_t needed;
-    uint32_t status = dimacs_judge(DIMACS_MAX, max.bytes, max.length, flow.bytes, flow.length, (const uint8_t *)line,
-                                   strlen(line), out, sizeof out, &needed);
     char wanted[100];
     sprintf(wanted, "v max %lld\n", ARCS / CHAIN * 1000000LL);
-    check("judged", status, out, needed, 0, wanted);
+    CHECK("judged", dimacs_judge(DIMACS_MAX, WHOLE(max), WHOLE(flow), CUT, OUT), 0, wanted);
 
-    uint8_t *room = malloc(max.length);
-    size_t length;
-    status = dimacs_convert(DIMACS_TEXT_MAX, max.bytes, max.length, room, max.length, &length);
-    check_that("converted to its canonical form, which is shorter", status == 0 && length < max.length);
-    status = dimacs_judge(DIMACS_MAX, room, length, flow.bytes, flow.length, (const uint8_t *)line, strlen(line), out,
-                          sizeof out, &needed);
-    check("judged in that form", status, out, needed, 0, wanted);
-
-    size_t shown_needed;
-    status = dimacs_certify(DIMACS_MAX, max.bytes, max.length, flow.bytes, flow.length, out, sizeof out, &needed, room,
-                            max.length, &shown_needed);
-    check("certified", status, out, needed, 0, wanted);
-
-    uint8_t *made = malloc(max.length);
-    size_t made_needed;
-    status = dimacs_solve(DIMACS_MAX, max.bytes, max.length, NULL, 0, DIMACS_LIMIT, out, sizeof out, &needed, made,
-                          max.length, &made_needed, room, max.length, &shown_needed);
-    check("solved", status, out, needed, 0, wanted);
-    check_that("there was room", made_needed <= max.length && shown_needed <= max.length);
-    status = dimacs_judge(DIMACS_MAX, max.bytes, max.length, made, made_needed, room, shown_needed, out, sizeof out, &needed);
-    check("judged by what was made", status, out, needed, 0, wanted);
-    free(made);
-
-    status = dimacs_show(DIMACS_TEXT_SOLUTION, flow.bytes, flow.length, out, sizeof out, &needed);
+    Text room = {malloc(max.length), 0}, made = {malloc(max.length), 0};
+    uint32_t status = dimacs_convert(DIMACS_TEXT_MAX, WHOLE(max), ROOM(room));
+    check_that("converted to its canonical form, which is shorter", status == 0 && room.length < max.length);
+    CHECK("judged in that form", dimacs_judge(DIMACS_MAX, WHOLE(room), WHOLE(flow), CUT, OUT), 0, wanted);
+    CHECK("certified", dimacs_certify(DIMACS_MAX, WHOLE(max), WHOLE(flow), OUT, ROOM(room)), 0, wanted);
+    CHECK("solved", dimacs_solve(DIMACS_MAX, WHOLE(max), NULL, 0, DIMACS_LIMIT, OUT, ROOM(made), ROOM(room)), 0,
+          wanted);
+    check_that("there was room", made.length <= max.length && room.length <= max.length);
+    CHECK("judged by what was made", dimacs_judge(DIMACS_MAX, WHOLE(max), WHOLE(made), WHOLE(room), OUT), 0, wanted);
     sprintf(wanted, "i solution %lld %d\n", ARCS / CHAIN * 1000000LL, ARCS);
-    check("shown", status, out, needed, 0, wanted);
+    CHECK("shown", dimacs_show(DIMACS_TEXT_SOLUTION, WHOLE(flow), OUT), 0, wanted);
 
-    free(room);
+    free(made.bytes);
+    free(room.bytes);
     free(max.bytes);
     free(flow.bytes);
     return count();

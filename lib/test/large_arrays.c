@@ -128,110 +128,105 @@ static uint32_t solve_paths(void) {
 
 static uint32_t judge_set(void) { return dimacs_judge_infeasible_arrays(&paired, inside, ARCS, OUT); }
 
-/* A case passes where the call answered this status and handed out this line, whole. */
-static void has(const char *name, uint32_t status, uint32_t wanted, const char *line) {
-    check(name, status, out, needed, wanted, line);
-}
-
 static void test_max(void) {
     char yes[100];
     sprintf(yes, "v max %d\n", VALUE);
     make_max();
-    has("judge max", judge_max(flows, inside), DIMACS_DONE, yes);
+    CHECK("judge max", judge_max(flows, inside), DIMACS_DONE, yes);
     inside[LAST - 1] = 0;
-    has("judge max by a narrow cut", judge_max(flows, inside), DIMACS_REFUSED, "x arc 999999 NotSaturated\n");
-    has("solve max up to a limit", solve_max(1), DIMACS_GAVE_UP, "g limit\n");
-    has("solve max", solve_max(DIMACS_LIMIT), DIMACS_DONE, yes);
+    CHECK("judge max by a narrow cut", judge_max(flows, inside), DIMACS_REFUSED, "x arc 999999 NotSaturated\n");
+    CHECK("solve max up to a limit", solve_max(1), DIMACS_GAVE_UP, "g limit\n");
+    CHECK("solve max", solve_max(DIMACS_LIMIT), DIMACS_DONE, yes);
     check_that("a flow and a byte for each node are handed out", better_needed == ARCS && inside_needed == NODES);
-    has("judge max by what was made", judge_max(better, inside), DIMACS_DONE, yes);
-    has("certify max", certify_max(), DIMACS_DONE, yes);
+    CHECK("judge max by what was made", judge_max(better, inside), DIMACS_DONE, yes);
+    CHECK("certify max", certify_max(), DIMACS_DONE, yes);
     check_that("a byte for each node is handed out", made_needed == NODES && better_needed == 0);
-    has("judge max by what was handed out", judge_max(flows, inside), DIMACS_DONE, yes);
+    CHECK("judge max by what was handed out", judge_max(flows, inside), DIMACS_DONE, yes);
     flows[ARCS - 1]--;
-    has("judge max out of balance", judge_max(flows, inside), DIMACS_REFUSED, "x node 999002 Balance\n");
-    has("certify max out of balance", certify_max(), DIMACS_REFUSED, "x node 999002 Balance\n");
+    CHECK("judge max out of balance", judge_max(flows, inside), DIMACS_REFUSED, "x node 999002 Balance\n");
+    CHECK("certify max out of balance", certify_max(), DIMACS_REFUSED, "x node 999002 Balance\n");
     for (int arc = ARCS - STEPS; arc < ARCS - 1; arc++)
         flows[arc]--;
-    has("certify max of a slow flow", certify_max(), DIMACS_REFUSED, "x solution 0 0 NotMaximum\n");
+    CHECK("certify max of a slow flow", certify_max(), DIMACS_REFUSED, "x solution 0 0 NotMaximum\n");
     check_that("a better flow is handed out", made_needed == 0 && better_needed == ARCS);
-    has("judge max of the better flow", judge_max(better, inside), DIMACS_DONE, yes);
+    CHECK("judge max of the better flow", judge_max(better, inside), DIMACS_DONE, yes);
     flows[0] = -1;
-    has("judge max below 0", judge_max(flows, inside), DIMACS_REFUSED, "x arc 1 BelowLow\n");
-    has("certify max below 0", certify_max(), DIMACS_REFUSED, "x arc 1 BelowLow\n");
+    CHECK("judge max below 0", judge_max(flows, inside), DIMACS_REFUSED, "x arc 1 BelowLow\n");
+    CHECK("certify max below 0", certify_max(), DIMACS_REFUSED, "x arc 1 BelowLow\n");
     heads[ARCS - 1] = 0;
-    has("judge max of no node", judge_max(flows, inside), DIMACS_MISUSED, "x arc 1000000 NodeRange\n");
-    has("certify max of no node", certify_max(), DIMACS_MISUSED, "x arc 1000000 NodeRange\n");
-    has("solve max of no node", solve_max(DIMACS_LIMIT), DIMACS_MISUSED, "x arc 1000000 NodeRange\n");
+    CHECK("judge max of no node", judge_max(flows, inside), DIMACS_MISUSED, "x arc 1000000 NodeRange\n");
+    CHECK("certify max of no node", certify_max(), DIMACS_MISUSED, "x arc 1000000 NodeRange\n");
+    CHECK("solve max of no node", solve_max(DIMACS_LIMIT), DIMACS_MISUSED, "x arc 1000000 NodeRange\n");
 }
 
 static void test_min(void) {
     char yes[100];
     sprintf(yes, "v min %lld\n", (long long)LESS * STEPS);
     make_min();
-    has("judge min", judge_min(flows), DIMACS_DONE, yes);
+    CHECK("judge min", judge_min(flows), DIMACS_DONE, yes);
     potentials[LAST - 1] = 3;
-    has("judge min by steep potentials", judge_min(flows), DIMACS_REFUSED, "x arc 1000000 NotTight\n");
-    has("certify min", certify_min(), DIMACS_DONE, yes);
+    CHECK("judge min by steep potentials", judge_min(flows), DIMACS_REFUSED, "x arc 1000000 NotTight\n");
+    CHECK("certify min", certify_min(), DIMACS_DONE, yes);
     check_that("a potential for each node is handed out", made_needed == NODES && better_needed == 0);
-    has("judge min by what was handed out", judge_min(flows), DIMACS_DONE, yes);
+    CHECK("judge min by what was handed out", judge_min(flows), DIMACS_DONE, yes);
     flows[ARCS - 1]++;
-    has("judge min out of balance", judge_min(flows), DIMACS_REFUSED, "x node 2 Balance\n");
-    has("certify min out of balance", certify_min(), DIMACS_REFUSED, "x node 2 Balance\n");
+    CHECK("judge min out of balance", judge_min(flows), DIMACS_REFUSED, "x node 2 Balance\n");
+    CHECK("certify min out of balance", certify_min(), DIMACS_REFUSED, "x node 2 Balance\n");
     for (int arc = ARCS - 2 * STEPS; arc < ARCS - 1; arc++)
         flows[arc] += chain_of(arc) == CHAINS ? 1 : -1;
-    has("certify min of a dear flow", certify_min(), DIMACS_REFUSED, "x solution 0 0 NotLeast\n");
+    CHECK("certify min of a dear flow", certify_min(), DIMACS_REFUSED, "x solution 0 0 NotLeast\n");
     check_that("a better flow is handed out", made_needed == 0 && better_needed == ARCS);
-    has("judge min of the better flow", judge_min(better), DIMACS_DONE, yes);
+    CHECK("judge min of the better flow", judge_min(better), DIMACS_DONE, yes);
     flows[0] = -1;
-    has("judge min below the bound", judge_min(flows), DIMACS_REFUSED, "x arc 1 BelowLow\n");
-    has("certify min below the bound", certify_min(), DIMACS_REFUSED, "x arc 1 BelowLow\n");
+    CHECK("judge min below the bound", judge_min(flows), DIMACS_REFUSED, "x arc 1 BelowLow\n");
+    CHECK("certify min below the bound", certify_min(), DIMACS_REFUSED, "x arc 1 BelowLow\n");
     lows[ARCS - 1] = caps[ARCS - 1] + 1;
-    has("judge min of bounds out of order", judge_min(flows), DIMACS_MISUSED, "x arc 1000000 BoundOrder\n");
-    has("certify min of bounds out of order", certify_min(), DIMACS_MISUSED, "x arc 1000000 BoundOrder\n");
+    CHECK("judge min of bounds out of order", judge_min(flows), DIMACS_MISUSED, "x arc 1000000 BoundOrder\n");
+    CHECK("certify min of bounds out of order", certify_min(), DIMACS_MISUSED, "x arc 1000000 BoundOrder\n");
     lows[ARCS - 1] = 0;
 }
 
 static void test_pairs(void) {
     make_pairs();
-    has("judge a set", judge_set(), DIMACS_DONE, "v infeasible\n");
-    has("solve min where no flow is feasible", solve_min(DIMACS_LIMIT), DIMACS_DONE, "v infeasible\n");
+    CHECK("judge a set", judge_set(), DIMACS_DONE, "v infeasible\n");
+    CHECK("solve min where no flow is feasible", solve_min(DIMACS_LIMIT), DIMACS_DONE, "v infeasible\n");
     check_that("a set alone is handed out", better_needed == 0 && made_needed == 0 && inside_needed == ARCS);
-    has("judge a set that was handed out", judge_set(), DIMACS_DONE, "v infeasible\n");
+    CHECK("judge a set that was handed out", judge_set(), DIMACS_DONE, "v infeasible\n");
     supplies[ARCS - 2] = 1;
     supplies[ARCS - 1] = -1;
-    has("judge a set that is met", judge_set(), DIMACS_REFUSED, "x certificate 0 0 NotViolated\n");
-    has("solve min up to a limit", solve_min(0), DIMACS_GAVE_UP, "g limit\n");
-    has("solve min", solve_min(DIMACS_LIMIT), DIMACS_DONE, "v min 500000\n");
+    CHECK("judge a set that is met", judge_set(), DIMACS_REFUSED, "x certificate 0 0 NotViolated\n");
+    CHECK("solve min up to a limit", solve_min(0), DIMACS_GAVE_UP, "g limit\n");
+    CHECK("solve min", solve_min(DIMACS_LIMIT), DIMACS_DONE, "v min 500000\n");
     check_that("a flow and potentials are handed out", better_needed == ARCS && made_needed == ARCS && inside_needed == 0);
-    uint32_t status = dimacs_judge_min_arrays(&paired, better, ARCS, potentials, ARCS, OUT);
-    has("judge min by what was made", status, DIMACS_DONE, "v min 500000\n");
+    CHECK("judge min by what was made", dimacs_judge_min_arrays(&paired, better, ARCS, potentials, ARCS, OUT),
+          DIMACS_DONE, "v min 500000\n");
     tails[ARCS - 1] = 0;
-    has("judge a set over no node", judge_set(), DIMACS_MISUSED, "x arc 1000000 NodeRange\n");
-    has("solve min of no node", solve_min(DIMACS_LIMIT), DIMACS_MISUSED, "x arc 1000000 NodeRange\n");
+    CHECK("judge a set over no node", judge_set(), DIMACS_MISUSED, "x arc 1000000 NodeRange\n");
+    CHECK("solve min of no node", solve_min(DIMACS_LIMIT), DIMACS_MISUSED, "x arc 1000000 NodeRange\n");
 }
 
 /* Distances along a cycle. Where its arcs weigh nothing, labels are made of them. */
 static void test_paths(int weight) {
     make_cycle(weight);
-    has("judge paths", judge_paths(predecessors), DIMACS_DONE, "v sp ss 1\n");
-    has("certify paths", certify_paths(), DIMACS_DONE, "v sp ss 1\n");
+    CHECK("judge paths", judge_paths(predecessors), DIMACS_DONE, "v sp ss 1\n");
+    CHECK("certify paths", certify_paths(), DIMACS_DONE, "v sp ss 1\n");
     check_that("a predecessor for each node is handed out", made_needed == ARCS);
-    has("judge paths by what was handed out", judge_paths(made), DIMACS_DONE, "v sp ss 1\n");
-    has("solve paths", solve_paths(), DIMACS_DONE, "v sp ss 1\n");
+    CHECK("judge paths by what was handed out", judge_paths(made), DIMACS_DONE, "v sp ss 1\n");
+    CHECK("solve paths", solve_paths(), DIMACS_DONE, "v sp ss 1\n");
     check_that("a distance and a predecessor for each node are handed out", better_needed == ARCS && made_needed == ARCS);
-    has("judge paths by what was made", judge_paths(made), DIMACS_DONE, "v sp ss 1\n");
+    CHECK("judge paths by what was made", judge_paths(made), DIMACS_DONE, "v sp ss 1\n");
     distances[ARCS - 1]++;
-    has("judge paths of a long one", judge_paths(predecessors), DIMACS_REFUSED, "x node 1000000 NoTightArc\n");
-    has("certify paths of a long one", certify_paths(), DIMACS_REFUSED, "x arc 999999 NotShortest\n");
+    CHECK("judge paths of a long one", judge_paths(predecessors), DIMACS_REFUSED, "x node 1000000 NoTightArc\n");
+    CHECK("certify paths of a long one", certify_paths(), DIMACS_REFUSED, "x arc 999999 NotShortest\n");
     distances[ARCS - 1]--;
     weights[ARCS - 1] = -1;
     heads[ARCS - 1] = ARCS;
-    has("judge paths with a negative loop", judge_paths(predecessors), DIMACS_REFUSED, "x arc 1000000 NotShortest\n");
-    has("certify paths with a negative loop", certify_paths(), DIMACS_REFUSED, "x arc 1000000 NotShortest\n");
-    has("solve paths with a negative loop", solve_paths(), DIMACS_REFUSED, "x arc 1000000 NegativeWeight\n");
+    CHECK("judge paths with a negative loop", judge_paths(predecessors), DIMACS_REFUSED, "x arc 1000000 NotShortest\n");
+    CHECK("certify paths with a negative loop", certify_paths(), DIMACS_REFUSED, "x arc 1000000 NotShortest\n");
+    CHECK("solve paths with a negative loop", solve_paths(), DIMACS_REFUSED, "x arc 1000000 NegativeWeight\n");
     distances[0] = 1;
-    has("judge paths from afar", judge_paths(predecessors), DIMACS_REFUSED, "x node 1 NotShortest\n");
-    has("certify paths from afar", certify_paths(), DIMACS_REFUSED, "x node 1 NotShortest\n");
+    CHECK("judge paths from afar", judge_paths(predecessors), DIMACS_REFUSED, "x node 1 NotShortest\n");
+    CHECK("certify paths from afar", certify_paths(), DIMACS_REFUSED, "x node 1 NotShortest\n");
 }
 
 int main(void) {

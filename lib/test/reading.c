@@ -51,13 +51,6 @@ static void show_all(void) {
     SHOW_ITEMS(inside);
 }
 
-/* A case: a call, its status and its text. The call comes before what it hands out is looked at. */
-#define CHECK(name, call, wanted, line)                                         \
-    do {                                                                        \
-        uint32_t status = call;                                                 \
-        check(name, status, out, needed, wanted, line);                         \
-    } while (0)
-
 /* A case that reads, and all that it writes. */
 #define READ(name, call, wanted, line, wanted_shown)                            \
     do {                                                                        \

@@ -28,9 +28,8 @@ static uint32_t solve(uint32_t kind, const char *instance, const char *queries) 
 #define CASE(name, call, wanted, line, certificate)                             \
     do {                                                                        \
         needed = 99, shown_needed = 0;                                          \
-        uint32_t status = call;                                                 \
-        check(name, status, out, needed, wanted, line);                         \
-        check(name, status, shown, shown_needed, wanted, certificate);          \
+        CHECK(name, call, wanted, line);                                        \
+        check(name, wanted, shown, shown_needed, wanted, certificate);          \
     } while (0)
 
 static void kinds(void) {
@@ -53,10 +52,8 @@ static void kinds(void) {
 
 static void text_is(const char *name, uint32_t kind, const char *text, uint32_t wanted, const char *converted,
                     const char *wanted_text) {
-    uint32_t status = dimacs_convert(kind, TEXT(text), OUT);
-    check(name, status, out, needed, wanted, converted);
-    status = dimacs_show(kind, TEXT(text), OUT);
-    check(name, status, out, needed, wanted, wanted_text);
+    CHECK(name, dimacs_convert(kind, TEXT(text), OUT), wanted, converted);
+    CHECK(name, dimacs_show(kind, TEXT(text), OUT), wanted, wanted_text);
 }
 
 static void converts_and_shows(void) {
@@ -104,16 +101,15 @@ static void reads_any_bytes(void) {
         if (exact) {
             memcpy(exact, texts[k].text, texts[k].length);
         }
-        uint32_t status = dimacs_show(DIMACS_TEXT_MAX, exact, texts[k].length, OUT);
-        check(texts[k].name, status, out, needed, 1, texts[k].line);
+        CHECK(texts[k].name, dimacs_show(DIMACS_TEXT_MAX, exact, texts[k].length, OUT), 1, texts[k].line);
         free(exact);
     }
 }
 
 static void explained(const char *command, const char *claim, uint32_t wanted, const char *output) {
     needed = 99;
-    uint32_t status = dimacs_explain(TEXT(command), TEXT(max), TEXT(claim), TEXT(cut), OUT);
-    check(*command ? command : "no command", status, out, needed, wanted, output);
+    CHECK(*command ? command : "no command", dimacs_explain(TEXT(command), TEXT(max), TEXT(claim), TEXT(cut), OUT),
+          wanted, output);
 }
 
 /* What explains an answer is whole as tests/explain.py has it. */
