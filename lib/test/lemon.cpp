@@ -12,12 +12,13 @@
 #include <lemon/smart_graph.h>
 #include <random>
 
+namespace ours = dimacs::lemon;
 using Graph = lemon::SmartDigraph;
 using Node = Graph::Node;
 using Arc = Graph::Arc;
 using Numbers = Graph::ArcMap<long long>;
 using Supplies = Graph::NodeMap<long long>;
-using Better = dimacs::NotOptimal<dimacs::lemon::Map<Graph, Arc, std::int64_t>>;
+using Better = dimacs::NotOptimal<ours::Map<Graph, Arc, std::int64_t>>;
 using Refused = dimacs::RefusedAt<Node, Arc>;
 
 enum { NODES = 2000, ARCS = 20000 };
@@ -49,31 +50,31 @@ static void maximum_flow(const Graph &graph, const Numbers &capacity) {
     solver.run();
     Graph::NodeMap<bool> cut(graph);
     solver.minCutMap(cut);
-    const auto judged = dimacs::lemon::judge_max(graph, capacity, source, sink, solver.flowMap(), cut);
+    const auto judged = ours::judge_max(graph, capacity, source, sink, solver.flowMap(), cut);
     check_that("Preflow's flow and cut", judged && judged->value == solver.flowValue());
-    const auto yes = dimacs::lemon::certify_max(graph, capacity, source, sink, solver.flowMap());
+    const auto yes = ours::certify_max(graph, capacity, source, sink, solver.flowMap());
     check_that("Preflow's flow", yes && yes->value == solver.flowValue());
     check_that("by the cut that was handed out",
-               dimacs::lemon::judge_max(graph, capacity, source, sink, solver.flowMap(), yes->inside).has_value());
+               ours::judge_max(graph, capacity, source, sink, solver.flowMap(), yes->inside).has_value());
     check_that("which has the source", yes->inside[source] && !yes->inside[sink]);
 
     Numbers flow(graph, 0);
-    const auto no = dimacs::lemon::certify_max(graph, capacity, source, sink, flow);
+    const auto no = ours::certify_max(graph, capacity, source, sink, flow);
     const auto *better = no.get_if<Better>();
     check_that("no flow", better && no.message() == "x solution 0 0 NotMaximum");
     lemon::mapCopy(graph, better->better, flow);
-    const auto next = dimacs::lemon::certify_max(graph, capacity, source, sink, flow);
+    const auto next = ours::certify_max(graph, capacity, source, sink, flow);
     check_that("a better one is feasible", next || next.get_if<Better>());
 
     lemon::mapCopy(graph, solver.flowMap(), flow);
     Arc full = graph.arcFromId(0);
     while (flow[full] == 0) full = graph.arcFromId(graph.id(full) + 1);
     flow[full] = capacity[full] + 1;
-    const auto refused = dimacs::lemon::judge_max(graph, capacity, source, sink, flow, cut);
+    const auto refused = ours::judge_max(graph, capacity, source, sink, flow, cut);
     check_that("too much on an arc", refused.get_if<Refused>() && refused.get_if<Refused>()->arc == full &&
                                          refused.message() == arc_line(graph, full, "AboveCap"));
     flow[full] = 0;
-    const auto lost = dimacs::lemon::certify_max(graph, capacity, source, sink, flow);
+    const auto lost = ours::certify_max(graph, capacity, source, sink, flow);
     check_that("a node that loses some",
                lost.get_if<Refused>() && lost.get_if<Refused>()->node &&
                    lost.message() == node_line(graph, *lost.get_if<Refused>()->node, "Balance"));
@@ -93,32 +94,31 @@ static void least_cost(const Graph &graph, const Numbers &capacity, const Number
     solver.flowMap(flow);
     solver.potentialMap(potential);
     const auto total = solver.totalCost<long long>();
-    const auto judged = dimacs::lemon::judge_min(graph, lower, capacity, cost, supply, flow, potential);
+    const auto judged = ours::judge_min(graph, lower, capacity, cost, supply, flow, potential);
     check_that("NetworkSimplex's flow and potentials", judged && judged->value == total);
-    const auto yes = dimacs::lemon::certify_min(graph, lower, capacity, cost, supply, flow);
+    const auto yes = ours::certify_min(graph, lower, capacity, cost, supply, flow);
     check_that("NetworkSimplex's flow", yes && yes->cost == total);
     check_that("by the potentials that were handed out",
-               dimacs::lemon::judge_min(graph, lower, capacity, cost, supply, flow, yes->potentials).has_value());
+               ours::judge_min(graph, lower, capacity, cost, supply, flow, yes->potentials).has_value());
 
     for (int id = 0; id < NODES; id++) flow[graph.arcFromId(id)] += 1;  // round the ring
-    const auto no = dimacs::lemon::certify_min(graph, lower, capacity, cost, supply, flow);
+    const auto no = ours::certify_min(graph, lower, capacity, cost, supply, flow);
     check_that("a unit more round the ring", no.get_if<Better>() && no.message() == "x solution 0 0 NotLeast");
     lemon::mapCopy(graph, no.get_if<Better>()->better, flow);
     check_that("a flow that costs less",
-               !dimacs::lemon::certify_min(graph, lower, capacity, cost, supply, flow).get_if<Refused>());
-    const auto some = dimacs::lemon::certify_infeasible(graph, lower, capacity, supply);
-    check_that("a feasible flow",
-               some.get_if<dimacs::Feasible<dimacs::lemon::Map<Graph, Arc, std::int64_t>>>() != nullptr);
+               !ours::certify_min(graph, lower, capacity, cost, supply, flow).get_if<Refused>());
+    const auto some = ours::certify_infeasible(graph, lower, capacity, supply);
+    check_that("a feasible flow", some.get_if<dimacs::Feasible<ours::Map<Graph, Arc, std::int64_t>>>() != nullptr);
     supply[graph.nodeFromId(3)] += 1;
-    const auto none = dimacs::lemon::certify_infeasible(graph, lower, capacity, supply);
+    const auto none = ours::certify_infeasible(graph, lower, capacity, supply);
     check_that("supplies of 1 in all", none && none->inside[graph.nodeFromId(0)]);
-    const auto refused = dimacs::lemon::certify_min(graph, lower, capacity, cost, supply, flow);
+    const auto refused = ours::certify_min(graph, lower, capacity, cost, supply, flow);
     check_that("another supply", refused.get_if<Refused>() && refused.get_if<Refused>()->node == graph.nodeFromId(3));
 
     Numbers below(graph, 0);
     below[graph.arcFromId(7)] = -1;
     throws<dimacs::PastLimitAt<Node, Arc>>(
-        "a capacity below 0", [&] { return dimacs::lemon::certify_min(graph, lower, below, cost, supply, flow); },
+        "a capacity below 0", [&] { return ours::certify_min(graph, lower, below, cost, supply, flow); },
         "x arc 7 BoundOrder",
         [&](const auto &it) {
             check_that("its arc", it.at().arc == graph.arcFromId(7) && it.at().reason == "BoundOrder");
@@ -138,7 +138,6 @@ struct Made {
 __extension__ typedef __int128 Wide;
 
 static void limits() {
-    using dimacs::lemon::certify_paths;
     Graph graph;
     const Node from = graph.addNode(), to = graph.addNode(), alone = graph.addNode();
     const Arc arc = graph.addArc(from, to);
@@ -148,26 +147,25 @@ static void limits() {
     const auto is_out = [](const char *name, const std::string &line, const auto &call) {
         throws<std::out_of_range>(name, call, line + " NumberRange");
     };
-    is_out("the distance 2^63 - 1", "x node 1", [&] { return certify_paths(graph, length, from, solver); });
+    is_out("the distance 2^63 - 1", "x node 1", [&] { return ours::certify_paths(graph, length, from, solver); });
     length[arc] -= 1;
     solver.run(from);
-    check_that("the distance 2^63 - 2", certify_paths(graph, length, from, solver).has_value());
+    check_that("the distance 2^63 - 2", ours::certify_paths(graph, length, from, solver).has_value());
 
-    using dimacs::lemon::certify_max;
     Graph::ArcMap<Wide> wide(graph, Wide(1) << 64);
     lemon::Preflow<Graph, Graph::ArcMap<Wide>> preflow(graph, wide, from, to);
     preflow.run();
-    is_out("a capacity of 2^64", "x arc 0", [&] { return certify_max(graph, wide, from, to, preflow.flowMap()); });
+    is_out("a capacity of 2^64", "x arc 0",
+           [&] { return ours::certify_max(graph, wide, from, to, preflow.flowMap()); });
 
     Supplies potential(graph, 0), supply(graph, 0);
     supply[from] = 5, supply[to] = -5;
     potential[from] = INT64_MIN, potential[to] = INT64_MAX;
     is("potentials of -2^63 and 2^63 - 1",
-       dimacs::lemon::judge_min(graph, zero, five, five, supply, five, potential).value().value.str(), "25");
+       ours::judge_min(graph, zero, five, five, supply, five, potential).value().value.str(), "25");
     potential[alone] = 1;
     std::swap(potential[from], potential[to]);
-    is("exchanged", dimacs::lemon::judge_min(graph, zero, five, five, supply, five, potential).message(),
-       "x arc 0 NotTight");
+    is("exchanged", ours::judge_min(graph, zero, five, five, supply, five, potential).message(), "x arc 0 NotTight");
 }
 
 /* Nodes that a graph doesn't have: none at all, and one that is hidden. */
@@ -183,20 +181,20 @@ static void missing_nodes() {
         throws<PastLimitAt<Node, Arc>>(name, call, "x node -1 NodeRange",
                                        [&](const auto &it) { check_that("its node", it.at().node == none && !it.at().arc); });
     };
-    is_missing("no source", [&] { return dimacs::lemon::certify_max(graph, three, none, to, three); });
-    is_missing("no sink", [&] { return dimacs::lemon::certify_max(graph, three, from, none, three); });
+    is_missing("no source", [&] { return ours::certify_max(graph, three, none, to, three); });
+    is_missing("no sink", [&] { return ours::certify_max(graph, three, from, none, three); });
     const Graph::NodeMap<bool> cut(graph, false);
-    is_missing("to be judged", [&] { return dimacs::lemon::judge_max(graph, three, none, to, three, cut); });
+    is_missing("to be judged", [&] { return ours::judge_max(graph, three, none, to, three, cut); });
     const Made<long long> made{{0, 3, 6}};
-    is_missing("of paths", [&] { return dimacs::lemon::certify_paths(graph, three, none, made); });
+    is_missing("of paths", [&] { return ours::certify_paths(graph, three, none, made); });
 
     Graph::NodeMap<bool> is_seen(graph, true);
     is_seen[hidden] = false;
     const lemon::FilterNodes<const Graph, Graph::NodeMap<bool>> part(graph, is_seen);
     throws<PastLimitAt<Node, Arc>>(
-        "a hidden source", [&] { return dimacs::lemon::certify_max(part, three, hidden, to, three); },
+        "a hidden source", [&] { return ours::certify_max(part, three, hidden, to, three); },
         "x node 2 NodeRange");
-    const auto yes = dimacs::lemon::certify_max(part, three, from, to, three);
+    const auto yes = ours::certify_max(part, three, from, to, three);
     check_that("a part of a graph", yes && yes->value == 3 && yes->inside[from] && !yes->inside[to]);
     throws<std::out_of_range>("no node's mark", [&] { return yes->inside[none]; });
 }
@@ -215,16 +213,15 @@ static void distances(const Graph &graph, const Numbers &cost) {
     const Node source = graph.nodeFromId(5);
     lemon::Dijkstra<Graph, Numbers> solver(graph, cost);
     solver.run(source);
-    check_that("Dijkstra's distances", dimacs::lemon::certify_paths(graph, cost, source, solver).has_value());
+    check_that("Dijkstra's distances", ours::certify_paths(graph, cost, source, solver).has_value());
     lemon::BellmanFord<Graph, Numbers> other(graph, cost);
     other.run(source);
-    check_that("BellmanFord's distances", dimacs::lemon::certify_paths(graph, cost, source, other).has_value());
+    check_that("BellmanFord's distances", ours::certify_paths(graph, cost, source, other).has_value());
     lemon::Bfs<Graph> steps(graph);
     steps.run(source);
-    check_that("Bfs' distances",
-               dimacs::lemon::certify_paths(graph, lemon::ConstMap<Arc, int>(1), source, steps).has_value());
+    check_that("Bfs' distances", ours::certify_paths(graph, lemon::ConstMap<Arc, int>(1), source, steps).has_value());
     const Spoiled<lemon::Dijkstra<Graph, Numbers>> spoiled{solver, graph.nodeFromId(8)};
-    const auto no = dimacs::lemon::certify_paths(graph, cost, source, spoiled);
+    const auto no = ours::certify_paths(graph, cost, source, spoiled);
     check_that("a distance less 1", no.get_if<Refused>() && (no.get_if<Refused>()->arc || no.get_if<Refused>()->node));
 }
 
@@ -236,10 +233,10 @@ static void other_graphs() {
     lemon::ListDigraph::Arc arc = gaps.addArc(from, to);
     gaps.erase(gone);
     lemon::ListDigraph::ArcMap<int> three(gaps, 3), none(gaps, 0);
-    const auto no = dimacs::lemon::certify_max(gaps, three, from, to, none);
-    using Found = dimacs::NotOptimal<dimacs::lemon::Map<lemon::ListDigraph, lemon::ListDigraph::Arc, std::int64_t>>;
+    const auto no = ours::certify_max(gaps, three, from, to, none);
+    using Found = dimacs::NotOptimal<ours::Map<lemon::ListDigraph, lemon::ListDigraph::Arc, std::int64_t>>;
     check_that("a graph of which a node was erased", no.get_if<Found>() && no.get_if<Found>()->better[arc] == 3);
-    check_that("certified", dimacs::lemon::certify_max(gaps, three, from, to, three)->value == 3);
+    check_that("certified", ours::certify_max(gaps, three, from, to, three)->value == 3);
 
     lemon::ListGraph edges;
     lemon::ListGraph::Node one = edges.addNode(), other = edges.addNode(), alone = edges.addNode();
@@ -248,15 +245,14 @@ static void other_graphs() {
     lemon::Dijkstra<lemon::ListGraph, lemon::ListGraph::ArcMap<int>> solver(edges, length);
     solver.run(one);
     check_that("an edge goes both ways", solver.reached(other) && !solver.reached(alone) &&
-                                             dimacs::lemon::certify_paths(edges, length, one, solver));
+                                             ours::certify_paths(edges, length, one, solver));
     lemon::Preflow<lemon::ListGraph, lemon::ListGraph::ArcMap<int>> flow(edges, length, one, other);
     flow.run();
-    check_that("for flows too", dimacs::lemon::certify_max(edges, length, one, other, flow.flowMap())->value == 4);
+    check_that("for flows too", ours::certify_max(edges, length, one, other, flow.flowMap())->value == 4);
 }
 
 /* Texts as graphs, and back. Parallel arcs keep their order. */
 static void texts() {
-    namespace ours = dimacs::lemon;
     const std::string max = "p max 3 4\nn 1 s\nn 3 t\na 1 2 7\na 2 3 9\na 1 2 1\na 2 2 0\n";
     const std::string flow = "s 8\nf 1 2 7\nf 2 3 8\nf 1 2 1\nf 2 2 0\n";
     Graph graph;
