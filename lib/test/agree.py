@@ -28,7 +28,7 @@ import tempfile
 
 import dimacs
 from instances import Program, cost, graph_text, max_text, min_text, nets, text
-from shared import fits, form, near
+from shared import cut_text, fits, form, near, solution_text
 
 MOST_VALUE = 10**30  # the greatest VALUE of a solution
 
@@ -82,14 +82,11 @@ class Arcs:
 
     def solution(self, value, flows):
         value = max(-MOST_VALUE, min(value, MOST_VALUE))  # past it CostRange comes before the value is looked at
-        return text(f"s {value}", *(f"f {arc[0]} {arc[1]} {arc[2]}" for arc in zip(self.tails, self.heads, flows)))
+        return solution_text(value, zip(self.tails, self.heads), flows)
 
-    def cut(self, inside):
-        members = [node for node, is_inside in enumerate(inside, 1) if is_inside]
-        return text(f"p cut {self.nodes} {len(members)}", *(f"u {node}" for node in members))
 
-    def potentials(self, numbers):
-        return text(f"p pot {self.nodes} {self.nodes}", *(f"y {node} {number}" for node, number in enumerate(numbers, 1)))
+def potentials_text(numbers):
+    return text(f"p pot {len(numbers)} {len(numbers)}", *(f"y {node} {number}" for node, number in enumerate(numbers, 1)))
 
 
 class MaxCase(Arcs):
@@ -276,7 +273,7 @@ def judged(name, case, judge, claims, certificate, chance, texts):
     """An instance with these claims, of which the last one is a certificate: the line of its judge."""
     it = case(chance)
     line = line_of(judge, *formed(chance, (*it.instance, *(getattr(it, claim) for claim in claims))))
-    shown = getattr(it, certificate)(getattr(it, claims[-1]))
+    shown = certificate(getattr(it, claims[-1]))
     yield name, line, texts.line(name.replace(" ", "-"), *it.texts()[: len(claims)], shown)
 
 
@@ -296,7 +293,7 @@ def judged_paths(chance, texts):
 def certified(name, case, certify, judge, certificate, chance, texts):
     """A flow: the line of its certifier, and what it handed out as a text."""
     it, command = case(chance), f"certify-{name[-3:]}"
-    lines, certificate = it.texts(), getattr(it, certificate)
+    lines = it.texts()
     other = texts.line(command, *lines)
     try:
         value, shown = certify(*formed(chance, (*it.instance, it.flows)))
@@ -322,7 +319,7 @@ def certified_infeasible(chance, texts):
     try:
         inside = dimacs.certify_infeasible_arrays(*formed(chance, it.instance)).inside
         yield "certify infeasible", "v infeasible", texts.line("certify-infeasible", instance)
-        yield "certify infeasible, its set", "v infeasible", texts.line("judge-infeasible", instance, it.cut(inside))
+        yield "certify infeasible, its set", "v infeasible", texts.line("judge-infeasible", instance, cut_text(inside))
     except dimacs.Feasible as no:
         yield "certify infeasible", "x instance 0 0 Feasible", texts.line("certify-infeasible", instance)
         again = texts.line("certify-min", *it.texts(no.flow))
@@ -350,10 +347,10 @@ def solved(name, case, solve, by_texts, certificate, chance, texts):
     try:
         value, flows, shown = solve(*formed(chance, it.instance))
         yield name, f"v {kind} {value}", other
-        yield f"{name}, what was made", other, texts.line(f"judge-{kind}", *it.texts(flows), getattr(it, certificate)(shown))
+        yield f"{name}, what was made", other, texts.line(f"judge-{kind}", *it.texts(flows), certificate(shown))
     except dimacs.Infeasible as no:
         yield name, "v infeasible", other
-        yield f"{name}, its set", other, texts.line("judge-infeasible", it.texts()[0], it.cut(no.inside))
+        yield f"{name}, its set", other, texts.line("judge-infeasible", it.texts()[0], cut_text(no.inside))
     except dimacs.GaveUp:
         if other == "g limit":  # the least cost is out of range
             yield name, "g limit", other
@@ -378,14 +375,14 @@ def solved_paths(chance, texts):
 
 FLOW_AND_CUT, FLOW_AND_PRICES = ("flows", "inside"), ("flows", "prices")
 COMPARED = [
-    functools.partial(judged, "judge max", MaxCase, dimacs.judge_max_arrays, FLOW_AND_CUT, "cut"),
-    functools.partial(judged, "judge min", MinCase, dimacs.judge_min_arrays, FLOW_AND_PRICES, "potentials"),
-    functools.partial(judged, "judge infeasible", InfeasibleCase, dimacs.judge_infeasible_arrays, ["inside"], "cut"),
+    functools.partial(judged, "judge max", MaxCase, dimacs.judge_max_arrays, FLOW_AND_CUT, cut_text),
+    functools.partial(judged, "judge min", MinCase, dimacs.judge_min_arrays, FLOW_AND_PRICES, potentials_text),
+    functools.partial(judged, "judge infeasible", InfeasibleCase, dimacs.judge_infeasible_arrays, ["inside"], cut_text),
     *(judged_paths, certified_infeasible, certified_paths, solved_paths),
-    functools.partial(certified, "certify max", MaxCase, dimacs.certify_max_arrays, "judge-max", "cut"),
-    functools.partial(certified, "certify min", MinCase, dimacs.certify_min_arrays, "judge-min", "potentials"),
-    functools.partial(solved, "solve max", MaxCase, dimacs.solve_max_arrays, dimacs.solve_max, "cut"),
-    functools.partial(solved, "solve min", InfeasibleCase, dimacs.solve_min_arrays, dimacs.solve_min, "potentials"),
+    functools.partial(certified, "certify max", MaxCase, dimacs.certify_max_arrays, "judge-max", cut_text),
+    functools.partial(certified, "certify min", MinCase, dimacs.certify_min_arrays, "judge-min", potentials_text),
+    functools.partial(solved, "solve max", MaxCase, dimacs.solve_max_arrays, dimacs.solve_max, cut_text),
+    functools.partial(solved, "solve min", InfeasibleCase, dimacs.solve_min_arrays, dimacs.solve_min, potentials_text),
 ]
 
 

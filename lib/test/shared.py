@@ -9,6 +9,8 @@ import pickle
 import random
 import unittest
 
+from instances import text
+
 
 def found(name):
     try:
@@ -47,6 +49,17 @@ def form(chance, numbers):
     forms += [lambda items: array.array("q", items)] * fits(numbers)
     forms += [lambda items: numpy_of(chance, items)] * (numpy is not None)
     return chance.choice(forms)(numbers)
+
+
+def cut_text(inside):
+    """The text of a set, by whether each node is inside."""
+    members = [node for node, is_inside in enumerate(inside, 1) if is_inside]
+    return text(f"p cut {len(inside)} {len(members)}", *(f"u {node}" for node in members))
+
+
+def solution_text(value, ends, flows):
+    """The text of a flow with a value, by the ends of each arc."""
+    return text(f"s {value}", *(f"f {tail} {head} {it}" for (tail, head), it in zip(ends, flows)))
 
 
 def draws(seed, count):

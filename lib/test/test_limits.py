@@ -9,8 +9,9 @@ import random
 import unittest
 
 import dimacs
-from instances import max_text, nets, text
-from shared import ENDS, KINDS, TIMES, csgraph, fits, form, near, networkx, numpy, numpy_of, sparse
+from instances import max_text, nets
+from shared import ENDS, KINDS, TIMES, csgraph, cut_text, fits, form, near
+from shared import networkx, numpy, numpy_of, solution_text, sparse
 
 if networkx:
     from dimacs import backend
@@ -60,13 +61,10 @@ class Net:
         """What leaves each node less what enters it."""
         return nets(self.nodes, self.ends, flows)[1:]
 
-    def solution(self, value, flows):
-        return text(f"s {value}", *(f"f {tail} {head} {it}" for (tail, head), it in zip(self.ends, flows)))
-
     def texts(self, flows):
         """An instance of maximum flow, and a flow with its value."""
         arcs = [(*ends, 0, cap) for ends, cap in zip(self.ends, self.caps)]
-        return max_text(self.nodes, 1, self.nodes, arcs), self.solution(self.sent(flows)[0], flows)
+        return max_text(self.nodes, 1, self.nodes, arcs), solution_text(self.sent(flows)[0], self.ends, flows)
 
 
 def claimed(chance, net):
@@ -76,12 +74,6 @@ def claimed(chance, net):
         flows = list(dimacs.solve_max_arrays(*net.max()).flows)
     flows[chance.randrange(len(flows))] += chance.choice((0, 0, 0, 0, *OFFSETS))
     return flows
-
-
-def cut(inside):
-    """The text of a set, by whether each node is inside."""
-    members = [node for node, is_inside in enumerate(inside, 1) if is_inside]
-    return text(f"p cut {len(inside)} {len(members)}", *(f"u {node}" for node in members))
 
 
 def parts(chance, total, least, greatest):
@@ -168,7 +160,7 @@ class Limits(unittest.TestCase):
         self.is_wanted(found, wanted[0])
         if found[0] == "yes":
             self.assertEqual(found[1].value, wanted[1].value)
-            self.assertEqual(dimacs.judge_max(*net.texts(flows), cut(found[1].inside)).value, found[1].value)
+            self.assertEqual(dimacs.judge_max(*net.texts(flows), cut_text(found[1].inside)).value, found[1].value)
         if found[0] == "better":
             again = better(found[1])
             self.is_wanted(self.outcome(dimacs.certify_max, *net.texts(again)), "yes", "better")
