@@ -27,6 +27,11 @@ def changed(words, place, item):
     return (*words[:place], item, *words[place + 1 :])
 
 
+def solve(number, scale=None, base=1):
+    """A maximum flow with this capacity of the second arc."""
+    return dimacs.solve_max_arrays(*changed(MAX, 5, [5, number]), scale=scale, base=base)
+
+
 class Errors(Said):
     def rows(self, kind, *rows):
         for message, call, *words in rows:
@@ -140,9 +145,6 @@ class Arrays(Errors):
         long, shown, third = 10**5000, "about 1E+5000", "about 3.33333E+4999"
         no, nan, wide = object(), Decimal("sNaN"), "with the least common denominator 1 it has more than 64 bits"
 
-        def solve(number, scale=None, base=1):
-            return dimacs.solve_max_arrays(*changed(MAX, 5, [5, number]), scale=scale, base=base)
-
         values = [
             (f"caps[1] is {shown}, not a whole number of 64 bits", solve, long),
             (f"caps[1] is {third}, not a whole number", solve, Fraction(long, 3)),
@@ -190,9 +192,6 @@ class Arrays(Errors):
         pandas = importlib.util.find_spec("pandas") and importlib.import_module("pandas")
         no = [numpy.array([5]), numpy.complex128(1)]
         no += [pandas.NA, pandas.NaT, pandas.Series([5])] if pandas else []
-
-        def solve(number, scale=None, base=1):
-            return dimacs.solve_max_arrays(*changed(MAX, 5, [5, number]), scale=scale, base=base)
 
         time = numpy.timedelta64(5, "s")
         for scale in None, 10, "exact":

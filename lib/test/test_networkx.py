@@ -36,10 +36,9 @@ def shipping():
     return graph
 
 
+@unittest.skipUnless(networkx, "networkx isn't there")
 class Networkx(Said):
-    def setUp(self):
-        if networkx is None:
-            self.skipTest("networkx isn't there")
+    """What needs networkx."""
 
 
 class MaximumFlow(Networkx):
@@ -205,7 +204,6 @@ class Distances(Networkx):
 
 class Solves(Networkx):
     def setUp(self):
-        super().setUp()
         self.graph = weighted(zip("aabbc", "bccdd", [4, 2, 2, 3, 5]))
 
     def test_no_flow(self):

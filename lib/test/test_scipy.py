@@ -1,5 +1,6 @@
 """dimacs.scipy, next to SciPy's own answers."""
 
+import functools
 import random
 import unittest
 import warnings
@@ -26,6 +27,12 @@ def stored(values, columns, rows):
     """A matrix with these entries, several at a place and zeros among them."""
     parts = [numpy.array(it) for it in (values, columns, rows)]
     return sparse.csr_matrix(tuple(parts), shape=(len(rows) - 1, len(rows) - 1))
+
+
+def asked(chance, *indices):
+    """What is asked of shortest paths."""
+    ways = {name: chance.choice([True, False]) for name in ("directed", "unweighted")}
+    return {**ways, "indices": chance.choice(indices)}
 
 
 @unittest.skipUnless(csgraph, "no SciPy")
@@ -170,13 +177,8 @@ class ShortestPath(Scipy):
             graph = drawn(chance, chance.randrange(1, 8), 1, 9, dtype=dtype)
             graph = chance.choice([graph, graph.toarray(), graph.tocsc()])
             last = graph.shape[0] - 1
-            more = {
-                "directed": chance.choice([True, False]),
-                "unweighted": chance.choice([True, False]),
-                "return_predecessors": chance.choice([True, False]),
-                "indices": chance.choice([None, 0, -1, [0], [last, 0], [], [[0], [last]]]),
-            }
-            self.same(graph, **more)
+            more = asked(chance, None, 0, -1, [0], [last, 0], [], [[0], [last]])
+            self.same(graph, return_predecessors=chance.choice([True, False]), **more)
 
     def test_predecessors(self):
         graph = drawn(random.Random(3), 30, 1, 99, 0.1)
@@ -302,11 +304,7 @@ class Tables(Scipy):
         for chance in draws(5, 300):
             graph = drawn(chance, chance.randrange(1, 8), 1, 9, dtype=chance.choice(["int64", "float64"]))
             last = graph.shape[0] - 1
-            more = {
-                "directed": chance.choice([True, False]),
-                "unweighted": chance.choice([True, False]),
-                "indices": chance.choice([None, 0, [0], [last, 0]]),
-            }
+            more = asked(chance, None, 0, [0], [last, 0])
             dist, before = csgraph.shortest_path(graph, return_predecessors=True, **more)
             for words in (dist,), (dist, before):
                 found = ours.certify_shortest_path(graph, *words, **more)
@@ -467,6 +465,11 @@ class Assignments(Scipy):
             self.assertEqual(graph[found].sum(), graph[theirs].sum())
 
 
+def certify_program(x, fun, **program):
+    """What is certified of the result of a program."""
+    return ours.certify_linprog(optimize.OptimizeResult(x=x, fun=fun, status=0), **program)
+
+
 class Programs(Scipy):
     def drawn(self, chance):
         """A program of a network, or one that is near it."""
@@ -549,19 +552,14 @@ class Programs(Scipy):
             ([[1, 1], [1, -1]], r"no signs of constraints give x\[1\] entries"),
         ]:
             program = {"c": [1, 1], "A_eq": A_eq, "b_eq": [1] * len(A_eq)}
-            result = optimize.OptimizeResult(x=[1, 1], fun=2, status=0)
-            self.raises(ValueError, message, ours.certify_linprog, result, **program)
+            self.raises(ValueError, message, certify_program, [1, 1], 2, **program)
         program = {"c": [1], "A_eq": [[numpy.nan]], "b_eq": [1]}
-        self.raises(ValueError, r"A_eq\[0, 0\] is nan", ours.certify_linprog, result, **program)
+        self.raises(ValueError, r"A_eq\[0, 0\] is nan", certify_program, [1, 1], 2, **program)
         free = {"c": [1], "A_eq": [[1]], "b_eq": [1], "bounds": (None, None)}
-        self.raises(ValueError, r"x\[0\] has no lower bound", ours.certify_linprog, result, **free)
+        self.raises(ValueError, r"x\[0\] has no lower bound", certify_program, [1, 1], 2, **free)
 
     def test_what_is_refused(self):
-        program = {"c": [3, 7], "A_eq": [[1, 1]], "b_eq": [6], "bounds": (0, 5)}
-
-        def certify(x, fun):
-            return ours.certify_linprog(optimize.OptimizeResult(x=numpy.array(x), fun=fun, status=0), **program)
-
+        certify = functools.partial(certify_program, c=[3, 7], A_eq=[[1, 1]], b_eq=[6], bounds=(0, 5))
         self.assertEqual(certify([5 + 1e-9, 1.0], 22).x.tolist(), [5, 1])
         no = self.raises(dimacs.NotOptimal, "it costs 26, and a better flow 22", certify, [4.0, 2.0], 26)
         self.assertEqual(no.better.tolist(), [5, 1])
@@ -576,22 +574,17 @@ class Programs(Scipy):
         self.raises(ValueError, "fun is inf, not a finite number", certify, [5.0, 1.0], numpy.inf)
 
     def test_a_tolerance(self):
-        program = {"c": [1], "A_eq": [[1]], "b_eq": [2**53 + 1], "bounds": (0, None)}
-
-        def certify(fun, tolerance):
-            result = optimize.OptimizeResult(x=[2**53 + 1], fun=fun, status=0)
-            return ours.certify_linprog(result, **program, tolerance=tolerance)
-
-        self.assertEqual(certify(2**53 + 1, 0).x.tolist(), [2**53 + 1])
+        last = 2**53 + 1
+        certify = functools.partial(certify_program, [last], c=[1], A_eq=[[1]], b_eq=[last], bounds=(0, None))
+        self.assertEqual(certify(last, tolerance=0).x.tolist(), [last])
         for fun in 2.0**53, numpy.float64(2**53):
-            self.raises(dimacs.Refused, "ValueDiffers", certify, fun, 0)
+            self.raises(dimacs.Refused, "ValueDiffers", certify, fun, tolerance=0)
         for wrong in numpy.nan, numpy.inf, -1e-9:
-            self.raises(ValueError, f"tolerance is {wrong}, and has to be", certify, 2**53 + 1, wrong)
+            self.raises(ValueError, f"tolerance is {wrong}, and has to be", certify, last, tolerance=wrong)
 
     def test_sizes(self):
         program = {"c": [3], "A_ub": [[1]], "b_ub": [9], "A_eq": [[1]], "b_eq": [5]}
-        result = optimize.OptimizeResult(x=[5.0], fun=15, status=0)
-        self.assertEqual(ours.certify_linprog(result, **program).value, 15)
+        self.assertEqual(certify_program([5.0], 15, **program).value, 15)
         for name, numbers, message in (
             ("b_eq", [5, 9], "b_eq has 2 numbers, and A_eq has 1 rows"),
             ("b_eq", [], "b_eq has 0 numbers, and A_eq has 1 rows"),
@@ -599,11 +592,10 @@ class Programs(Scipy):
             ("b_ub", [9, 5], "b_ub has 2 numbers, and A_ub has 1 rows"),
             ("A_ub", None, "b_ub has 1 numbers, and A_ub has 0 rows"),
         ):
-            self.raises(ValueError, message, ours.certify_linprog, result, **{**program, name: numbers})
+            self.raises(ValueError, message, certify_program, [5.0], 15, **{**program, name: numbers})
         both = {**program, "b_ub": [9, 5], "b_eq": []}
-        self.raises(ValueError, "b_ub has 2 numbers", ours.certify_linprog, result, **both)
-        result.x = [5, 0, 7, 8]
-        self.raises(ValueError, "x has 4 numbers, and c has 1", ours.certify_linprog, result, **program)
+        self.raises(ValueError, "b_ub has 2 numbers", certify_program, [5.0], 15, **both)
+        self.raises(ValueError, "x has 4 numbers, and c has 1", certify_program, [5, 0, 7, 8], 15, **program)
 
     def test_bounds(self):
         """A pair for each variable or for all, in each form that linprog takes, and no other."""
@@ -627,23 +619,20 @@ class Programs(Scipy):
     def test_numbers_of_numpy(self):
         """The numbers of a program are exact, also where those of numpy wrap around or are rounded."""
         program = {"c": [4], "A_eq": [[1]], "b_eq": [5], "bounds": numpy.array([[-(2**62), 2**61]])}
-        result = optimize.OptimizeResult(x=[5.0], fun=20, status=0)
-        self.assertEqual(ours.certify_linprog(result, **program).value, 20)
+        self.assertEqual(certify_program([5.0], 20, **program).value, 20)
         for name, numbers, message in (
             ("b_eq", [1e-17], r"b_eq\[0\] is 1e-17, not a whole number"),
             ("c", [4.5], r"c\[0\] is 4.5, not a whole number"),
             ("bounds", [(-0.5, 5.5)], r"bounds\[0\] is -0.5, not a whole number"),
         ):
             low = {"bounds": (-1, None), name: numbers}
-            self.raises(ValueError, message, ours.certify_linprog, result, **{**program, **low})
+            self.raises(ValueError, message, certify_program, [5.0], 20, **{**program, **low})
         last = 2**53 + 1
         program = {"c": [last, 0.0], "A_eq": [[1, 1]], "b_eq": [1], "bounds": [(0, 1), (0, 0)]}
-        result = optimize.OptimizeResult(x=[1.0, 0.0], fun=last, status=0)
-        self.assertEqual(ours.certify_linprog(result, **program).value, last)
+        self.assertEqual(certify_program([1.0, 0.0], last, **program).value, last)
         wrapped = sparse.coo_matrix((numpy.array([127, 127, 3], "int8"), ([0] * 3, [0] * 3)), shape=(1, 1))
         program = {"c": [1], "A_eq": wrapped, "b_eq": [1]}
-        result = optimize.OptimizeResult(x=[1.0], fun=1, status=0)
-        self.raises(ValueError, r"x\[0\] has an entry of 257", ours.certify_linprog, result, **program)
+        self.raises(ValueError, r"x\[0\] has an entry of 257", certify_program, [1.0], 1, **program)
 
 
 class Lists(Scipy):
