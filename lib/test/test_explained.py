@@ -16,7 +16,7 @@ from dimacs import library
 import test_arrays
 from test_arrays import DISTANCES, ENDS, GRAPH, POTENTIALS, PREDECESSORS
 from test_networkx import pipes
-from test_texts import CLAIMED, CUT, FLOW, LEAST, MAX, MIN, PAIRS, POT, SOURCE
+from test_texts import CLAIMED, CUT, FLOW, LEAST, MAX, MIN, PAIRS, POT, SOURCE, SURPLUS
 from test_texts import GRAPH as ROADS
 from shared import networkx, pandas, raised
 
@@ -54,7 +54,6 @@ arcs out of it, all full: 2
 4 + 8 = 12, the value of the flow: all flow to the sink has to cross these arcs, so none has a greater value
 """
 
-SURPLUS = "p min 2 1\nn 1 1\na 1 2 0 5 1\n"
 IN_SURPLUS = (2, [1], [2], [0], [5], [1], [1, 0])
 
 BALANCE = """\
