@@ -421,6 +421,6 @@ int main() {
     values();
     unknown_answers();
     moved_exceptions();
-    check_that("LEMON's part and Boost's aren't seen", lemon && boost);
+    check_that("LEMON's part and Boost's aren't seen", dimacs::lemon && dimacs::boost);
     return count();
 }
