@@ -86,7 +86,8 @@ class Arcs:
 
 
 def potentials_text(numbers):
-    return text(f"p pot {len(numbers)} {len(numbers)}", *(f"y {node} {number}" for node, number in enumerate(numbers, 1)))
+    lines = (f"y {node} {number}" for node, number in enumerate(numbers, 1))
+    return text(f"p pot {len(numbers)} {len(numbers)}", *lines)
 
 
 class MaxCase(Arcs):
