@@ -188,9 +188,8 @@ def texts(runs):
 
 
 def judged(runs, command, instance, claim, certificate, size=None):
-    """What a judge answers to these texts, of which `infeasible` has no claim."""
-    words = "I C" if command == "infeasible" else "I S C"
-    return runs.answers(f"judge-{command} {words}", {"I": instance, "S": claim, "C": certificate}, (), size)
+    """What a judge answers to these texts."""
+    return runs.answers(f"judge-{command} I S C", {"I": instance, "S": claim, "C": certificate}, (), size)
 
 
 def cut_off(runs, command, given):
@@ -204,13 +203,10 @@ def cut_off(runs, command, given):
 
 
 def judges(runs):
-    for command in ("max", "min", "paths"):
-        for name, instance, claim, certificate, output in rows(f"judge-{command}"):
-            given = {"I": instance, "S": claim, "C": certificate}
-            runs.case(f"judge-{command}, {name}", unlike(runs, f"judge-{command} I S C", given, [output]))
-    for name, instance, certificate, output in rows("judge-infeasible"):
-        given = {"I": instance, "C": certificate}
-        runs.case(f"judge-infeasible, {name}", unlike(runs, "judge-infeasible I C", given, [output]))
+    for words in ("judge-max I S C", "judge-min I S C", "judge-paths I S C", "judge-infeasible I C"):
+        command, *names = words.split()
+        for name, *given, output in rows(command):
+            runs.case(f"{command}, {name}", unlike(runs, words, dict(zip(names, given)), [output]))
     for command, cut_row in CUT_OFF:
         given = next(texts for name, *texts, _ in rows(f"judge-{command}") if name == cut_row)
         runs.case(f"judge-{command}, cut off", cut_off(runs, command, given))
@@ -235,31 +231,37 @@ def better_leads_to(runs, command, instance, solution, verdict):
     yield "steps without end"
 
 
+def made_right(runs, words, texts, wanted, output, judge, sizes=SIZES):
+    """Yields what is wrong with a run that makes the texts of these names, in pieces of each size: with what it prints, and
+    with what it makes, which is the same each time, and which a judge has to accept after a yes."""
+    first = None
+    for size in sizes:
+        status, printed, *made = runs.answers(words, texts, list(wanted), size)
+        first = first or made
+        is_made = made == first and all(map(is_right, made, wanted.values()))
+        if (status, printed) != (status_of(output), output) or not is_made:
+            yield f"by {size} bytes prints {printed!r} and writes {made!r}"
+        elif status == 0 and runs.run(judge) != (0, output, ""):
+            yield f"{made!r} isn't accepted"
+
+
 def certified_flow(runs, command, instance, solution, certificate, output, verdict=""):
     """Yields what is wrong with a row of a certified flow."""
-    given = {"I": instance, "S": solution}
-    for size in sizes_for(instance):
-        status, printed, made = runs.answers(f"certify-{command} I S W", given, ["W"], size)
-        if (status, printed) != (status_of(output), output) or not is_right(made, certificate):
-            yield f"by {size} bytes prints {printed!r} and writes {made!r}"
-        elif status == 0 and judged(runs, command, instance, solution, made) != (0, output):
-            yield f"{made!r} isn't accepted"
-        elif verdict:
-            yield from better_leads_to(runs, command, instance, made, verdict)
+    words, given = f"{command} I S W", {"I": instance, "S": solution}
+    sizes = sizes_for(instance)
+    yield from made_right(runs, f"certify-{words}", given, {"W": certificate}, output, f"judge-{words}", sizes)
+    if verdict:
+        yield from better_leads_to(runs, command, instance, runs.read("W"), verdict)
 
 
 def certified_set(runs, instance, certificate, output):
     """Yields what is wrong with a row of an infeasible instance."""
-    for size in sizes_for(instance):
-        status, printed, made = runs.answers("certify-infeasible I W", {"I": instance}, ["W"], size)
-        if (status, printed) != (status_of(output), output) or not is_right(made, certificate):
-            yield f"by {size} bytes prints {printed!r} and writes {made!r}"
-        elif status == 0 and judged(runs, "infeasible", instance, "", made) != (0, output):
-            yield f"{made!r} isn't accepted"
-        elif made and status == 1:
-            _, answer, _ = runs.answers("certify-min I S W", {"S": made}, ["W"])
-            if not re.fullmatch(r"v min .*\n|x solution 1 2 NotLeast\n", answer):
-                yield f"{made!r} isn't feasible: {answer!r}"
+    words, sizes = "infeasible I W", sizes_for(instance)
+    yield from made_right(runs, f"certify-{words}", {"I": instance}, {"W": certificate}, output, f"judge-{words}", sizes)
+    if output.startswith("x ") and runs.read("W"):
+        _, answer, _ = runs.run("certify-min I W B")
+        if not re.fullmatch(r"v min .*\n|x solution 1 2 NotLeast\n", answer):
+            yield f"{runs.read('W')!r} isn't feasible: {answer!r}"
 
 
 def certifiers(runs):
@@ -278,26 +280,15 @@ def certifiers(runs):
 
 def solved(runs, command, limit, instance, solution, certificate, output):
     """Yields what is wrong with a row of a solver of flows."""
-    for size in SIZES:
-        words = f"solve-{command} I S C --limit {limit}"
-        status, printed, *made = runs.answers(words, {"I": instance}, ["S", "C"], size)
-        is_made = all(map(is_right, made, (solution, certificate)))
-        if (status, printed) != (status_of(output), output) or not is_made:
-            yield f"by {size} bytes prints {printed!r} and writes {made!r}"
-        elif status == 0:
-            judge = "infeasible" if output == "v infeasible\n" else command
-            if judged(runs, judge, instance, *made) != (0, output):
-                yield f"{made!r} isn't accepted"
+    judge = "judge-infeasible I C" if output == "v infeasible\n" else f"judge-{command} I S C"
+    wanted = {"S": solution, "C": certificate}
+    yield from made_right(runs, f"solve-{command} I S C --limit {limit}", {"I": instance}, wanted, output, judge)
 
 
 def solved_paths(runs, graph, queries, labels, output):
     """Yields what is wrong with a row of the solver of distances."""
-    for size in SIZES:
-        status, printed, made = runs.answers("solve-paths I S C", {"I": graph, "S": queries}, ["C"], size)
-        if (status, printed) != (status_of(output), output) or not is_right(made, labels):
-            yield f"by {size} bytes prints {printed!r} and writes {made!r}"
-        elif status == 0 and judged(runs, "paths", graph, queries, made) != (0, output):
-            yield f"{made!r} isn't accepted"
+    words, given = "paths I S C", {"I": graph, "S": queries}
+    yield from made_right(runs, f"solve-{words}", given, {"C": labels}, output, f"judge-{words}")
 
 
 def solvers(runs):
