@@ -166,14 +166,34 @@ class Place(Folder):
         return status, rows(out), err
 
     def expect(self, status, err, *words, **how):
-        """Runs it, which has to end with this status and this standard error."""
-        found, _, printed = self.run(*words, **how)
+        """Runs it, which has to end with this status and this standard error; the rows on the standard output."""
+        found, table, printed = self.run(*words, **how)
         assert (found, printed) == (status, err), (words, found, printed)
+        return table
+
+    def under_way(self, *words):
+        """A run of these words whose program has been begun once."""
+        self.runs()
+        process = self.started(*words)
+        self.wait_for("ran", 1)
+        return process
+
+    def written_over(self, *names, text="0 0 v max 1\n"):
+        """Writes a text to each of these files: one that the stand-in answers by a yes, if none is given."""
+        for name in names:
+            self.write(name, text)
 
     def refuses(self, part, *words, **how):
         """Runs it with words or files that it refuses, in a line that has this part, and no more."""
         status, table, err = self.run(*words, **how)
         assert status == 2 and not table and part in err and "Traceback" not in err, (words, status, err)
+
+    def is_told_of_broken_pipe(self, *words):
+        """Runs it with a reader of the standard output that has gone."""
+        process = self.started(*words)
+        process.stdout.close()
+        err = process.stderr.read()
+        assert err == "dimacs-batch: standard output: Broken pipe\n" and process.wait() == 2, err
 
     def runs(self):
         """How many runs there were since it was asked last."""
@@ -225,8 +245,7 @@ def order_and_columns(place):
     lines += ["0 1 x solution 2 2 ValueDiffers", "0 3 dimacs: it: cannot be opened", "0 5 g limit", "0 0 v min -7"]
     lines += ["0 0 i max 2 1", "0 1 not a refusal", "0 0"]
     place.list(lines)
-    status, table, err = place.run("list")
-    assert status == 3, status
+    table = place.expect(3, counted(yes=2, no=2, faulty_text=1, gave_up=1, failed=4, instance_faulty=1), "list")
     assert column(table, "instance") == [f"{k}.max" for k in range(len(lines))], table
     assert column(table, "answers") == [f"{k}.solution" for k in range(len(lines))], table
     assert column(table, "verdict") == [line.partition(" ")[2][2:] for line in lines], table
@@ -235,15 +254,12 @@ def order_and_columns(place):
     classes = "yes,no,instance faulty,faulty text,no,failed,gave up,yes,failed,failed,failed"
     assert column(table, "class") == classes.split(","), table
     assert column(table, "kind") == ["max"] * 11 and 0.3 <= float(table[0]["seconds"]) < 5, table
-    assert err == counted(yes=2, no=2, faulty_text=1, gave_up=1, failed=4, instance_faulty=1), err
 
 
 def commands(place):
     """The command is that of the kind and of how many answers there are; --run names another."""
-    for name in ("a.max", "b.min", "c.gr", "d", "{name}.max"):
-        place.write(name, "0 0 v\np sp 2 1\n")
-    for name in ("s", "c", "t t.solution", "p", "q", "it.cut", "d.dist"):
-        place.write(name, "")
+    place.written_over("a.max", "b.min", "c.gr", "d", "{name}.max", text="0 0 v\np sp 2 1\n")
+    place.written_over("s", "c", "t t.solution", "p", "q", "it.cut", "d.dist", text="")
     listed = ["a.max", "a.max\t../t t.solution", "a.max ../s ../c", "b.min", "b.min ../s", "b.min ../it.cut"]
     listed += ["b.min ../s ../p", "c.gr", "c.gr ../q ../d", "d ../q ../d"]
     place.write("sub/list", "".join(f"../{line}\n" for line in listed))
@@ -271,10 +287,8 @@ def commands(place):
 
 def folders(place):
     """Queries alone are no answer, unless a command takes them, and a folder with an answer's ending is none."""
-    for name in ("deep/a.max", "deep/g.gr", "x.min"):
-        place.write(f"all/{name}", "0 0 v max 1\n")
-    for name in ("a.solution", "a.cut", "a-c.sol", "ab.solution", "g.ss"):
-        place.write(f"all/deep/{name}", "")
+    place.written_over("all/deep/a.max", "all/deep/g.gr", "all/x.min")
+    place.written_over(*(f"all/deep/{it}" for it in ("a.solution", "a.cut", "a-c.sol", "ab.solution", "g.ss")), text="")
     _, table, _ = place.run("all --show")
     names = [" ".join(map(os.path.basename, row["command"].split())) for row in table]
     wanted = ["show min x.min", "certify-max a.max a-c.sol", "judge-max a.max a.solution a.cut", "show gr g.gr", ""]
@@ -305,15 +319,12 @@ def layouts(place):
 
 def gaps(place):
     """A solver whose folder lacks an answer has a row for it, which isn't yes, and stays in a table."""
-    for name in ("set/instances/a.max", "set/instances/b.max", "set/answers/lemon/a.sol", "set/answers/igraph/b.sol"):
-        place.write(name, "0 0 v max 1\n")
+    place.written_over("set/instances/a.max", "set/instances/b.max", "set/answers/lemon/a.sol", "set/answers/igraph/b.sol")
     for again in (0, 2):
         place.expect(3, counted(yes=2, no_answer=2, taken_over=again), "set", "-o", "table")
-        seen = [(row["class"], row["solver"], row["verdict"]) for row in place.table()]
+        seen = [(row["solver"], row["verdict"]) for row in place.table()]
         lacks = "it has no answer of this solver"
-        assert seen == [("yes", "lemon", "v max 1"), ("no answer", "igraph", lacks)] + [
-            ("yes", "igraph", "v max 1"), ("no answer", "lemon", lacks)
-        ], seen
+        assert seen == [("lemon", "v max 1"), ("igraph", lacks), ("igraph", "v max 1"), ("lemon", lacks)], seen
     place.expect(3, counted(yes=2, no_answer=2), "set", "--show")
     place.write("set/answers/lemon/b.sol", "s 1\n")
     place.expect(3, counted(yes=3, no_answer=1, taken_over=2), "set", "-o", "table")
@@ -321,8 +332,7 @@ def gaps(place):
 
 def links(place):
     """Folders that are links are searched, and one that leads back isn't searched again."""
-    for name in ("set/instances/a.max", "elsewhere/a.sol", "set/answers/igraph/a.sol"):
-        place.write(name, "0 0 v max 1\n")
+    place.written_over("set/instances/a.max", "elsewhere/a.sol", "set/answers/igraph/a.sol")
     os.symlink("../../elsewhere", place.path("set/answers/lemon"))
     os.symlink("igraph", place.path("set/answers/same"))
     os.symlink("..", place.path("elsewhere/back"))
@@ -355,20 +365,17 @@ def unanswered(place):
     for k in range(3):
         place.write(f"in/{k}.max", "0 0 i max 2 1\n")
         place.write(f"out/{k}.solution", "s 1\n")
-    status, table, err = place.run("in")
-    assert (status, err, place.runs()) == (3, counted(no_answer=3), 0), err
-    assert column(table, "class") == ["no answer"] * 3 and set(column(table, "verdict")) == {"it has no answer"}, table
-    status, table, err = place.run("in", "--show")
-    assert status == 3 and err == counted(no_answer=3) and place.runs() == 3, err
-    assert column(table, "verdict") == ["i max 2 1"] * 3, table
+    table = place.expect(3, counted(no_answer=3), "in")
+    assert set(column(table, "verdict")) == {"it has no answer"} and place.runs() == 0, table
+    table = place.expect(3, counted(no_answer=3), "in --show")
+    assert place.runs() == 3 and column(table, "verdict") == ["i max 2 1"] * 3, table
     for k, line in enumerate(["0 v max 1", "0 v max 2", "1 x arc 1 AboveCap"]):
         place.write(f"in/{k}.max", f"0 {line}\n")
     assert place.run("in", "--answers", "out")[0] == 1
     place.write("in/2.max", "0 0 v max 2\n")
     assert place.run("in", "--answers", "out")[0] == 0
     place.write("out/other.solution", "s 1\n")
-    status, table, err = place.run("in", "--answers", "out")
-    assert status == 3 and err == counted(yes=3, unmatched=1), err
+    table = place.expect(3, counted(yes=3, unmatched=1), "in --answers out")
     assert (table[3]["answers"], table[3]["class"]) == ("out/other.solution", "unmatched"), table
     os.mkdir(place.path("empty"))
     place.refuses("no instance", "empty")
@@ -397,9 +404,8 @@ def made_anew(place):
     place.list([f"0 0 v max {k}" for k in range(4)])
 
     def again(taken_over, *words):
-        status, _, err = place.run("list", "-o", "table", *words)
-        assert status == 0 and place.runs() == 4 - taken_over, (taken_over, words, err)
-        assert err == counted(yes=4, taken_over=taken_over, made_anew=4 - taken_over), err
+        place.expect(0, counted(yes=4, taken_over=taken_over, made_anew=4 - taken_over), "list", "-o", "table", *words)
+        assert place.runs() == 4 - taken_over, (taken_over, words)
 
     place.run("list", "-o", "table")
     place.runs()
@@ -420,15 +426,14 @@ def made_anew(place):
     place.write("3.max", "0 3 no\n")
     place.run("list", "-o", "table", "--seconds", "70")
     place.runs()
-    status, _, err = place.run("list", "-o", "table", "--seconds", "70")
-    assert place.runs() == 1 and err == counted(yes=2, gave_up=1, failed=1, taken_over=3), err
+    place.expect(3, counted(yes=2, gave_up=1, failed=1, taken_over=3), "list -o table --seconds 70")
+    assert place.runs() == 1
 
 
 def changed_while_judged(place):
     """A file that changes while it is judged has no verdict."""
     place.list(["1 0 v max 1"])
-    process = place.started("list")
-    place.wait_for("ran", 1)
+    process = place.under_way("list")
     place.write("0.solution", "s 77\n")
     out, _ = process.communicate()
     assert process.returncode == 3 and column(rows(out), "class") == ["failed"] and "changed" in out, out
@@ -446,10 +451,9 @@ def taken_up(place):
     assert place.runs() == 6
     place.write("2.max", "0 0 v max 2\n")
     place.write("table", place.read("table")[:-9])
-    status, _, _ = place.run("list", "-o", "table")
-    assert status == 0 and place.runs() == 2
-    assert column(place.table(), "value") == [str(k) for k in range(6)], place.read("table")
-    assert place.run("list", "-o", "table")[0] == 0 and place.runs() == 0
+    for runs_again in (2, 0):
+        assert place.run("list -o table")[0] == 0 and place.runs() == runs_again
+        assert column(place.table(), "value") == [str(k) for k in range(6)], place.read("table")
     assert not [name for name in os.listdir(place.folder) if name.startswith("table.")]
     place.write("other", "5.max 5.solution\n")
     place.refuses("has rows of other commands", "other -o table")
@@ -497,9 +501,7 @@ def beside(place):
     os.unlink(place.path("table.part"))
     place.write("list", "2.max\n" + place.read("list"))
     place.write("2.max", "30 0 i\n")
-    place.runs()
-    process = place.started("list", "--show", "-j", "1", "-o", "table")
-    place.wait_for("ran", 1)
+    process = place.under_way("list --show -j 1 -o table")
     process.kill()
     process.communicate()
     assert column(place.table(), "number") == ["2", "3"], place.table()
@@ -568,9 +570,7 @@ def safe_files(place):
     place.run("list", "-o", "link")
     assert os.stat(place.path("real/table")).st_mode & 0o777 == 0o640
     place.write("0.max", "3 0 v max 1\n")
-    place.runs()
-    process = place.started("list", "-o", "link")
-    place.wait_for("ran", 1)
+    process = place.under_way("list -o link")
     place.expect(2, "dimacs-batch: real/table: another dimacs-batch writes it\n", "list", "-o", "real/table")
     process.kill()
     process.communicate()
@@ -608,8 +608,8 @@ def others_beside(place):
     """What lies beside the table stays."""
     place.list(["0 0 v max 1"])
     place.write("table.new", "1\n")
-    status, _, err = place.run("list", "-o", "table")
-    assert place.read("table.new") == "1\n" and len(place.table()) == 1, err
+    place.expect(0, counted(yes=1), "list -o table")
+    assert place.read("table.new") == "1\n" and len(place.table()) == 1
 
 
 def closed_streams(place):
@@ -634,10 +634,7 @@ def full(place):
     place.list([f"0 0 v max {k}" for k in range(300)])
     with open("/dev/full", "w", encoding="ascii") as it:
         place.expect(2, "dimacs-batch: standard output: No space left on device\n", "list", stdout=it)
-    process = place.started("list")
-    process.stdout.close()
-    err = process.stderr.read()
-    assert err == "dimacs-batch: standard output: Broken pipe\n" and process.wait() == 2, err
+    place.is_told_of_broken_pipe("list")
     place.write("short", "0.max 0.solution\n")
     place.run("short", "-o", "table")
     for room in (1_000, 50_000):  # bytes that a file may have, as on a disk with little room
@@ -645,8 +642,7 @@ def full(place):
         place.refuses(": File too large\n", "list -o table", preexec_fn=limit)
         table = place.table()
         assert table and all(int(row["value"]) == int(row["number"]) - 1 for row in table), table
-    status, _, _ = place.run("list", "-o", "table")
-    assert status == 0 and len(place.table()) == 300
+    assert place.run("list -o table")[0] == 0 and len(place.table()) == 300
 
 
 def shards(place):
@@ -666,14 +662,13 @@ def shards(place):
         err = place.run("list", "-o", "s.{shard}", env=names)[2]
         assert err.startswith(f"shard {task + 1} of 4: "), err
     for tables in (["t.3", "t.1", "t.2"], ["s.1", "s.2", "s.3", "s.4", "t.2"]):
-        status, table, err = place.run("--join", *tables)
-        assert status == 3 and err == counted(yes=4, no=1, gave_up=1, failed=1), err
+        table = place.expect(3, counted(yes=4, no=1, gave_up=1, failed=1), "--join", *tables)
         assert timeless(table) == timeless(place.table("whole")), table
 
-    status, table, err = place.run("--join", "s.1", "s.4")
     gaps = "numbers 2 to 3 are in no table\nnumbers 6 to 7 are in no table\n"
-    assert status == 3 and column(table, "number") == ["1", "4", "5"], table
-    assert err == gaps + counted(yes=2, gave_up=1).rstrip("\n") + "; 4 in no table\n", err
+    gaps += counted(yes=2, gave_up=1).rstrip("\n") + "; 4 in no table\n"
+    table = place.expect(3, gaps, "--join s.1 s.4")
+    assert column(table, "number") == ["1", "4", "5"], table
     place.write("other", place.read("s.1").replace("v max 2", "v max 7"))
     differs = "dimacs-batch: number 5: verdict is v max 7 in other, and v max 2 in s.1\n"
     place.expect(2, differs, "--join s.1 other -o joined")
@@ -738,16 +733,12 @@ def formats(place):
 def line_ends(place):
     """A name with the end of a line in it is a name in each format."""
     names = [f"a{end}b.max" for end in ("\n", "\r", "\r\n")]
-    for name in names:
-        place.write(f"in/{name}", "0 0 v max 1\n")
-        place.write(f"in/{name[:-4]}.solution", "s 1\n")
+    place.written_over(*(f"in/{it}" for it in names), *(f"in/{it[:-4]}.solution" for it in names))
     for form in ("csv", "jsonl"):
         for taken_over in (0, 3):
-            _, _, err = place.run("in", "-o", f"table.{form}", "--format", form)
-            assert err == counted(yes=3, taken_over=taken_over), (form, err)
-        _, _, err = place.run("--join", f"table.{form}", "-o", "joined")
+            place.expect(0, counted(yes=3, taken_over=taken_over), f"in -o table.{form} --format {form}")
+        place.expect(0, counted(yes=3), f"--join table.{form} -o joined")
         assert column(place.table("joined"), "instance") == [f"in/{it}" for it in sorted(names)], place.table("joined")
-        assert err == counted(yes=3), (form, err)
         for read in ("markdown", "latex"):
             _, out, _ = place.ended(f"--join table.{form} --format {read}", text=False)
             assert b"\r" not in out and out.count(b"a b.max") == 2 and out.count(b"a  b.max") == 1, out
@@ -979,14 +970,14 @@ def cut_off(place):
     place.list(["0 0 v max 1"] * 12)
     place.run("list", "-o", "table")
     head, *lines = place.read("table").splitlines(keepends=True)
+    wrote = f"wrote {os.path.realpath(place.path('cut.html'))}\n"
     for kept, wanted in (
         (range(12), ""), (range(9), "3 of 12 rows are missing: 10 to 12."),
         (range(1, 12), "1 of 12 rows are missing: 1."), (range(0, 12, 2), "6 of 12 rows are missing: 2, 4, 6, 8, 10 and others."), ((), "There is no row."),
     ):
         place.write("cut", head + "".join(lines[it] for it in kept))
-        status, _, err = place.run("--report", "cut")
-        assert status == (3 if wanted else 0) and f'"missing">{wanted}<' in place.read("cut.html"), (wanted, err)
-        assert not wanted or err.endswith(f"dimacs-batch: cut: {wanted}\n"), err
+        place.expect(3 if wanted else 0, wrote + (f"dimacs-batch: cut: {wanted}\n" if wanted else ""), "--report cut")
+        assert f'"missing">{wanted}<' in place.read("cut.html"), wanted
         for form in ("markdown", "latex", "jsonl"):
             status, out, err = place.ended(f"--join cut --format {form}")
             assert status == (3 if wanted else 0), (form, wanted, err)
@@ -995,8 +986,7 @@ def cut_off(place):
     for more, wanted in ((lines[3:5], "Rows that stand there again: 2."),
                          ([other], "Rows that stand there again: 1. The rows are of 2 lists.")):
         place.write("cut", head + "".join([*lines, *more]))
-        status, _, err = place.run("--report", "cut")
-        assert status == 3 and err.endswith(f"dimacs-batch: cut: {wanted}\n"), err
+        place.expect(3, f"{wrote}dimacs-batch: cut: {wanted}\n", "--report cut")
 
 
 def compressed(place):
@@ -1056,12 +1046,11 @@ def signalled(place):
     place.list(["0 0 v max 1"])
     does = 'case $(cat "$2") in *kill) kill -9 $$ ;; *child) (sleep 1; echo >late) & wait ;; esac\nread -r'
     place.write("stand-in", STAND_IN.replace("read -r", does))
-    place.write("0.max", "0 0 kill\n")
-    status, (row,), _ = place.run("list")
-    assert status == 3 and (row["verdict"], row["status"]) == ("killed by SIGKILL", "137"), row
-    place.write("0.max", "0 0 child\n")
-    status, (row,), _ = place.run("list", "--seconds", "0.3")
-    assert status == 3 and (row["verdict"], row["status"]) == ("ended after 0.3 s", "124"), row
+    for does, words, ended in (("kill", "list", ("killed by SIGKILL", "137")),
+                               ("child", "list --seconds 0.3", ("ended after 0.3 s", "124"))):
+        place.write("0.max", f"0 0 {does}\n")
+        status, (row,), _ = place.run(words)
+        assert status == 3 and (row["verdict"], row["status"]) == ended, row
     time.sleep(1.2)
     assert not os.path.exists(place.path("late"))
 
@@ -1113,13 +1102,10 @@ def odd_names(place):
     os.mkdir(place.path("in"))
     for name in ("pipes.max", "pipes.solution", "pipes-careless.solution"):
         shutil.copy(f"{TEXTS}/{name}", place.path(f"{odd}{name}"))
-    words = ["in", "-o", "table", "--keep", "kept"]
-    status, _, err = place.run(*words)
-    assert status == 1 and err == counted(yes=1, no=1), (err, place.table())
-    assert column(place.table(), "gap") == ["2", ""] and len(names_kept(place)) == 2, place.table()
-    assert place.run(*words)[2] == counted(yes=1, no=1, taken_over=2)
-    status, _, err = place.run("--recheck", "--referee", "table", "kept")
-    assert status == 0, err
+    for taken_over in (0, 2):
+        place.expect(1, counted(yes=1, no=1, taken_over=taken_over), "in -o table --keep kept")
+        assert column(place.table(), "gap") == ["2", ""] and len(names_kept(place)) == 2, place.table()
+    assert place.run("--recheck --referee table kept")[0] == 0
     place.run("--report", "table")
     assert "has 2 more than the 10 that is claimed" in place.read("table.html"), place.read("table.html")
 
@@ -1198,16 +1184,14 @@ def kept(place):
     for row in table:
         text = place.read(f"kept/{row['kept']}").encode() if row["kept"] else b""
         assert row["kept_sha256"] == (hashlib.sha256(text).hexdigest() if text else ""), row
-    status, _, err = place.run(*words)
-    assert err == counted(yes=10, no=4, faulty_text=1, no_answer=1, taken_over=15), err
+    place.expect(3, counted(yes=10, no=4, faulty_text=1, no_answer=1, taken_over=15), *words)
     place.expect(0, "15 agree, 0 differ, 0 not there, 1 not judged\n", "--recheck --referee table kept")
 
     place.write("kept/pipes.cut", place.read("kept/pipes.cut") + "c\n")
     place.write("in/canning.solution", place.read("in/canning.solution") + "c\n")
     os.unlink(place.path("kept/trucks.cut"))
     assert place.run("--recheck table kept")[2] == "12 agree, 2 differ, 1 not there, 1 not judged\n"
-    status, _, err = place.run(*words)
-    assert err == counted(yes=10, no=4, faulty_text=1, no_answer=1, taken_over=12, made_anew=3), err
+    place.expect(3, counted(yes=10, no=4, faulty_text=1, no_answer=1, taken_over=12, made_anew=3), *words)
     spoiled = place.read("table").replace(",v max 23,23,", ",v max 24,24,").replace("AboveCap", "BelowLow")
     place.write("table", spoiled)
     assert place.run("--recheck table kept")[2] == "13 agree, 2 differ, 0 not there, 1 not judged\n"
@@ -1216,8 +1200,7 @@ def kept(place):
     for old, new in ((",v max 23,23,", ",v max 24,24,"), (",v infeasible,,", ",v infeasible; 1 more,,"),
                      ("NotLeast", "NotMaximum"), ("; sources 1 6,", "; sources 1,")):
         place.write("forged", place.read("bare").replace(old, new, 1))
-        status, _, err = place.run("--recheck", "forged", "kept")
-        assert status == 1 and err == "14 agree, 1 differ, 0 not there, 1 not judged\n", (old, err)
+        place.expect(1, "14 agree, 1 differ, 0 not there, 1 not judged\n", "--recheck forged kept")
 
 
 def recheck_whole(place):
@@ -1234,8 +1217,7 @@ def recheck_whole(place):
         (whole[:-9], "number 3 is in no table\n" + counts),
     ):
         place.write("cut", text)
-        status, _, err = place.run("--recheck", "cut", ".")
-        assert status == 3 and err == wanted, (text, err)
+        place.expect(3, wanted, "--recheck cut .")
     for old, new in ((",v max 12,12,yes", ",v max 12,13,yes"), (",v max 12,12,yes", ",v max 12,12,no")):
         place.write("edited", whole.replace(old, new))
         place.expect(1, "2 agree, 1 differ, 0 not there, 0 not judged\n", "--recheck", "edited", ".")
@@ -1248,10 +1230,7 @@ def recheck_whole(place):
         place.write("forged", json.dumps(row) + "\n")
         status, _, err = place.run("--report", "forged")
         assert status == 3 and "Traceback" not in err, (command, err)
-    process = place.started("--recheck", "edited", ".")
-    process.stdout.close()
-    err = process.stderr.read()
-    assert err == "dimacs-batch: standard output: Broken pipe\n" and process.wait() == 2, err
+    place.is_told_of_broken_pipe("--recheck edited .")
     place.write("table", whole.replace(",v max 12,12,yes,0,", ",x arc 1 AboveCap,,yes,1,"))
     place.expect(0, counted(yes=3, taken_over=2, made_anew=1), ".", "-o", "table")
 
@@ -1263,8 +1242,7 @@ def recheck_others(place):
     run = "max=judge-max in/pipes.max pipes.solution pipes.cut"
     assert place.run("in", "-o", "table", "--run", run)[0] == 0
     for status, wanted in ((0, "2 agree, 0 differ, 0 not there"), (1, "0 agree, 2 differ, 0 not there")):
-        found, _, err = place.run("--recheck", "table", ".")
-        assert found == status and err == f"{wanted}, 0 not judged\n", err
+        place.expect(status, f"{wanted}, 0 not judged\n", "--recheck table .")
         place.write("pipes.cut", place.read("pipes.cut") + "c\n")
     os.unlink(place.path("pipes.cut"))
     assert place.run("--recheck", "table", ".")[2].startswith("0 agree, 0 differ, 2 not there")
@@ -1303,9 +1281,8 @@ def repeated(place):
     place.write("trucks-lemon.solution", "s 1\n")
     words = [".", "-o", "table", "--run", "max=solve-max {instance} {name}.solution {name}.cut"]
     words += ["--run", "gr=certify-paths {instance} {answers} {name}.dist"]
-    place.expect(0, counted(yes=3), *words)
-
-    place.expect(0, counted(yes=3, taken_over=3), *words)
+    for taken_over in (0, 3):
+        place.expect(0, counted(yes=3, taken_over=taken_over), *words)
     place.write("pipes.solution", "s 77\n")
     place.expect(0, counted(yes=3, taken_over=2, made_anew=1), *words)
     assert place.read("pipes.solution").startswith("s 12\n")
@@ -1316,8 +1293,8 @@ def other_files(place):
     place.list(["0 0 v max 1"])
     place.write("certificate", "c\n")
     words = ["list", "-o", "table", "--run", "max=judge-max {instance} {answers} certificate"]
-    place.run(*words)
-    assert place.run(*words)[2] == counted(yes=1, taken_over=1)
+    for taken_over in (0, 1):
+        place.expect(0, counted(yes=1, taken_over=taken_over), *words)
     digest = hashlib.sha256(b"c\n").hexdigest()
     assert column(place.table(), "files_sha256") == [digest], place.table()
     place.write("certificate", "d\n")
@@ -1326,9 +1303,7 @@ def other_files(place):
     assert place.run(*words)[2] == counted(yes=1, made_anew=1)
     place.write("certificate", "c\n")
     place.write("0.max", "1 0 v max 1\n")
-    place.runs()
-    process = place.started(*words)
-    place.wait_for("ran", 1)
+    process = place.under_way(*words)
     place.write("certificate", "e\n")
     process.communicate()
     assert process.returncode == 3 and "changed" in place.table()[0]["verdict"], place.table()
@@ -1336,8 +1311,7 @@ def other_files(place):
 
 def same_command(place):
     """Instances that are judged by one command have a row each."""
-    for name in "ab":
-        place.write(f"in/{name}.max", "0 0 v max 1\n")
+    place.written_over("in/a.max", "in/b.max")
     words = ["in", "-o", "table", "--run", "max=solve-max in/a.max out cut"]
     for _ in range(2):
         assert place.run(*words)[0] == 0
