@@ -1,4 +1,5 @@
 """The command."""
+import gzip
 import os
 import sys
 import zlib
@@ -22,21 +23,9 @@ def content_of(name):
     if not content.startswith(GZIPPED):
         return content
     try:
-        return unzipped(content)
-    except zlib.error as error:
+        return gzip.decompress(content)
+    except (EOFError, gzip.BadGzipFile, zlib.error) as error:
         raise OSError(0, f"isn't whole as gzip writes it: {error}", name) from error
-
-
-def unzipped(content):
-    """What gzip compressed, in one piece or in several."""
-    found = []
-    while content:
-        piece = zlib.decompressobj(16 + zlib.MAX_WBITS)
-        found.append(piece.decompress(content))
-        if not piece.eof:
-            raise zlib.error("its end is missing")
-        content = piece.unused_data.lstrip(b"\0")
-    return b"".join(found)
 
 
 def draw(options):
