@@ -20,7 +20,7 @@ import xml.etree.ElementTree as ElementTree
 
 import scripts
 from explained_yes import flow_of, lines_of
-from instances import BINARY as BUILT, compiled_once
+from instances import BINARY as BUILT, Folder, compiled_once
 from scripts import TOP
 
 DRAW = f"{TOP}/tools/dimacs-draw"
@@ -130,8 +130,7 @@ def run(*words, folder, **how):
 
 
 def printed(command, texts, folder, certificate):
-    kind = {"max": "max", "min": "min", "gr": "gr"}[texts[0].split(".")[-1]]
-    words = ["show", kind, *texts] if command == "show" else [command, *texts]
+    words = ["show", texts[0].split(".")[-1], *texts] if command == "show" else [command, *texts]
     if command.startswith("certify"):
         words.append(certificate)
     ran = subprocess.run([BINARY, *words], cwd=folder, capture_output=True, text=True, check=False)
@@ -163,11 +162,6 @@ class Picture:
 
 
 # ---- what the definitions say
-
-
-def text_of(path):
-    with open(path, encoding="ascii") as it:
-        return it.read()
 
 
 class Claim:
@@ -287,7 +281,7 @@ def test_examples(counts, place):
         claim = Claim(texts.split())
         certificate = {"certify-max": "cut", "certify-paths": "dist"}.get(command)
         if certificate and lines[0].startswith("v ") and claim.kind != "sp":
-            claim.texts[certificate] = text_of(found)
+            claim.texts[certificate] = Folder(place).read("found")
         for how in (["--layers"], []):
             name = f"{command} {texts} {' '.join(how)}"
             ran = run(*how, *texts.split(), folder=folder)

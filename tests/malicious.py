@@ -1,5 +1,5 @@
 #!/usr/bin/env python3
-"""Runs the program on texts made to be slow: tests/malicious.py [BINARY] [LINES] [WORD]
+"""Runs the program on texts made to be slow: tests/malicious.py [BINARY] [LINES]
 
 Each text is made so that what looks nodes, arcs or labels up meets its worst keys: IDs far apart or falling, all arcs
 at one tail, many arcs between two nodes, blocks of labels with a node far off in each. It is run beside a kind text of
@@ -8,8 +8,8 @@ everything stands in order. Shown are the processor time and the most memory of 
 fails if a text takes more than LIMIT times what the kind one takes; more is allowed if each ID has a page to
 itself. A kind text that stands beside several is run once.
 
-BINARY is the built program; crates/dimacs/out/dimacs by default. With WORD only the cases run that have it in
-their name. refusals.c, which reports the most memory, is compiled with cc.
+BINARY is the built program; crates/dimacs/out/dimacs by default. refusals.c, which reports the most memory, is compiled
+with cc.
 """
 import functools
 import os
@@ -268,14 +268,11 @@ def end_after_a_minute():
 def main():
     binary = os.path.abspath(sys.argv[1] if len(sys.argv) > 1 else BINARY)
     count = int(sys.argv[2]) if len(sys.argv) > 2 else 100_000
-    word = sys.argv[3] if len(sys.argv) > 3 else ""
     counts = scripts.Counts()
     with tempfile.TemporaryDirectory() as folder:
         runner = Runner(binary, build(folder))
         for cases in (max_cases, min_cases, label_cases):
             for name, words, texts, kind_texts, (most_time, most_memory) in cases(count):
-                if word not in name:
-                    continue
                 status, time, peak = runner.measure(words, texts)
                 kind_status, kind_time, kind_peak = runner.measure_kind(words, tuple(kind_texts))
                 slower = (time + COARSE) / (kind_time + COARSE)

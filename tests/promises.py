@@ -1,11 +1,10 @@
 #!/usr/bin/env python3
-"""Finds what docs/PROMISES.md names: tests/promises.py [PAGE]
+"""Finds what docs/PROMISES.md names: tests/promises.py
 
 Each file that the page names has to be there, each definition in the file that the page names with it, each function,
 each clause at one of the functions that the page names with it, and each other name somewhere in the code or the
 definitions. The lines of definitions that the page counts have to be those that tools/believed.py counts. And each name
-is changed in turn, in a copy of its row or paragraph, which has to be found. What the names mean isn't seen. PAGE is
-another page than docs/PROMISES.md.
+is changed in turn, in a copy of its row or paragraph, which has to be found. What the names mean isn't seen.
 """
 import collections
 import glob
@@ -218,7 +217,7 @@ def changed(piece):
 
 def main():
     repository = Repository()
-    page = scripts.read([*sys.argv, "docs/PROMISES.md"][1])
+    page = scripts.read("docs/PROMISES.md")
     faults, passed = [*wrong_counts(page)], 0
     for piece in pieces(page):
         wrong = faults_of(repository, piece)

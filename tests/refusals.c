@@ -1,7 +1,8 @@
 /* Refuses calls of a program that is loaded after this library (LD_PRELOAD), and counts them.
  *
- * Growths (calls that take memory), reads, writes and openings of files count from 1, each kind for itself, from the
- * start of the program's own code. Writes to the standard error aren't counted, and never fail.
+ * Growths (malloc and realloc, by which the program takes all of its memory), reads, writes and openings of files count
+ * from 1, each kind for itself, from the start of the program's own code. Writes to the standard error aren't counted, and
+ * never fail.
  *
  *   REFUSE_GROWTH, REFUSE_READ, REFUSE_WRITE, REFUSE_OPENING   the number of the call that fails, once
  *   INTERRUPT   so many reads or writes in a row, from the one that fails on, are interrupted by a signal
@@ -25,9 +26,7 @@
 #include <sys/types.h>
 
 void *__libc_malloc(size_t);
-void *__libc_calloc(size_t, size_t);
 void *__libc_realloc(void *, size_t);
-void *__libc_memalign(size_t, size_t);
 ssize_t __read(int, void *, size_t);
 ssize_t __write(int, const void *, size_t);
 int __open(const char *, int, ...);
@@ -145,28 +144,9 @@ void *malloc(size_t size)
     return grows_not(size) ? NULL : __libc_malloc(size);
 }
 
-void *calloc(size_t count, size_t size)
-{
-    return grows_not(count * size) ? NULL : __libc_calloc(count, size);
-}
-
 void *realloc(void *old, size_t size)
 {
     return grows_not(size) ? NULL : __libc_realloc(old, size);
-}
-
-void *aligned_alloc(size_t alignment, size_t size)
-{
-    return grows_not(size) ? NULL : __libc_memalign(alignment, size);
-}
-
-int posix_memalign(void **place, size_t alignment, size_t size)
-{
-    void *memory = aligned_alloc(alignment, size);
-    if (!memory)
-        return ENOMEM;
-    *place = memory;
-    return 0;
 }
 
 ssize_t read(int file, void *into, size_t size)

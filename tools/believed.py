@@ -1,8 +1,6 @@
 #!/usr/bin/env python3
 """Counts the lines of definitions that one has to believe of the judge, of the command and of the whole library.
 
-usage: tools/believed.py [--others]
-
 What one has to believe of the judge is what the clauses of `run_judge` rest on, of the command what those of
 `run_command` do, of the library what those of all that is public do. To the clauses of a function belong the laws of the
 traits that it is generic over, as a source's, since they define what its sources do.
@@ -11,9 +9,9 @@ A definition counts if a clause of a public function or trait, or what a public 
 another that counts does. Public is what the lib.rt of a crate exports, with the types that signatures of it name. The
 invariant of a type isn't: callers don't see it. Blank lines and lines of imports don't count.
 
-The other definitions describe inner states: nobody has to believe them, and they should stand in specs/inside. --others
-names them, by their files. If one of them stands elsewhere, or one that counts stands there, the script names it and
-ends with 1. It reads the texts by their words alone, so it is no proof.
+The other definitions describe inner states: nobody has to believe them, and they should stand in specs/inside. If one
+of them stands elsewhere, or one that counts stands there, the script names it and ends with 1. It reads the texts by
+their words alone, so it is no proof.
 """
 
 import functools
@@ -281,24 +279,19 @@ CIRCLES = {
 }
 
 
-def main(words):
+def main():
     defined = all_definitions()
     circles = {name: reached_from(defined, named_by(*where)) for name, where in CIRCLES.items()}
     reached = reached_from(defined, named_by_all())
-    counts, others, misplaced = {}, {}, []
+    counts, misplaced = {}, []
     for it, block in defined.blocks.items():
         crate, path = it[0].split(".")[1], defined.files[it]
         is_inside = "/specs/inside/" in path
         counts.setdefault(crate, [0, 0])[it not in reached] += len(block)
-        if it not in reached:
-            others.setdefault(path, []).append(it[1])
         if is_inside == (it in reached) and os.path.basename(path) not in KEPT:
             misplaced.append(f"{os.path.relpath(path, ROOT)}: {it[1]} {'counts' if is_inside else 'does not count'}")
     for crate, (believed, other) in sorted(counts.items()):
         print(f"{crate}: {believed} lines of definitions to believe, {other} others")
-    if "--others" in words:
-        for path, names in sorted(others.items()):
-            print(f"{os.path.relpath(path, ROOT)}: {' '.join(names)}")
     for name, circle in circles.items():
         print(f"the {name}: {lines_of(defined, circle)} lines of definitions to believe")
     print(f"the library: {sum(it[0] for it in counts.values())} lines of definitions to believe, {sum(it[1] for it in counts.values())} others")
@@ -307,4 +300,4 @@ def main(words):
 
 
 if __name__ == "__main__":
-    sys.exit(main(sys.argv[1:]))
+    sys.exit(main())
