@@ -28,17 +28,12 @@ import tempfile
 
 import scripts
 import usage
+from library import CC, TEST, WARN, WRAPPED, package, run
 from scripts import TOP
 
-TEST, JS = f"{TOP}/lib/test", f"{TOP}/tests/js"
+JS = f"{TOP}/tests/js"
 PROVED = b"rattle logic="
 QEMU = ["qemu-aarch64", "-L", "/usr/aarch64-linux-gnu"]
-WRAPPED = ["-Wl,--wrap=malloc", "-Wl,--wrap=realloc", "-Wl,--wrap=free"]
-WARN = ["-O1", "-Wall", "-Wextra", "-Werror", f"-I{TOP}/lib/include"]
-
-
-def run(*words, **how):
-    return subprocess.run(words, capture_output=True, text=True, errors="replace", check=False, **how)
 
 
 class Tests(scripts.Counts):
@@ -94,22 +89,17 @@ def test_module(tests):
 # ---- WebAssembly
 
 
-def python_environment(build):
-    found = {"PYTHONPATH": f"{TOP}/lib/python:{TOP}/tests", "DIMACS_LIBRARY": f"{build}/libdimacs.so"}
-    return {**os.environ, **found, "PYTHONDONTWRITEBYTECODE": "1"}
-
-
 def test_wasm(tests):
     if not tests.made("wasm/dimacs.wasm", "npm/dimacs.tgz", "libdimacs.so", "dimacs"):
         return
     module, library = f"{tests.build}/wasm/dimacs.wasm", f"{tests.build}/libdimacs.so"
     instances = ["--instances", "50000" if tests.is_all else "2000", "--runs", "1", "--program", f"{tests.build}/dimacs"]
-    python = {**python_environment(tests.build), "CASES": "500"}
+    python = {**package(tests.build), "CASES": "500"}
     for name, *words in (("agree", *instances), ("test_texts",), ("test_arrays",), ("test_reading",)):
         words = [sys.executable, f"{JS}/through.py", module, library, f"{TEST}/{name}.py", *words]
         tests.counted(f"{name}.py through node", run(*words, env=python))
     tests.counted("heap.mjs", run("node", f"{JS}/heap.mjs", module))
-    test_in_c(tests, "this system", os.environ.get("CC", "cc"), [], [("int128", [])], [])
+    test_in_c(tests, "this system", CC, [], [("int128", [])], [])
     environment = {**os.environ, "DIMACS_WASM": module}
     tests.counted("test_js.mjs", run("node", f"{TEST}/test_js.mjs", env=environment))
     test_package(tests)
@@ -316,7 +306,7 @@ def test_aarch64(tests):
     folder = f"{tests.build}/aarch64"
     static, shared = [f"{folder}/libdimacs.a"], [f"-L{folder}", f"-Wl,-rpath,{folder}", "-ldimacs"]
     libraries = [("texts", static), ("arrays", shared), ("refused", [*static, *WRAPPED])]
-    test_in_c(tests, "aarch64", "aarch64-linux-gnu-gcc", ["-g"], libraries, QEMU)
+    test_in_c(tests, "aarch64", "aarch64-linux-gnu-gcc", [], libraries, QEMU)
     if tests.is_all:
         compare_commands(tests, "dimacs on aarch64", [*QEMU, f"{folder}/dimacs"])
         test_scripts(tests, f"{folder}/dimacs")
