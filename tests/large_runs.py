@@ -51,6 +51,16 @@ def chains():
             yield chain, tail, head
 
 
+def solutions(kind, value, entries, last, worse_value, worse):
+    """A best solution, the same with its entries falling, with an arc that isn't there, and with too much on the arc from the
+    last node to the sink; and one that isn't best, whose last entries are others."""
+    yield f"{kind}.flow", lines([f"s {value}", *entries])
+    yield f"{kind}.falling", lines([f"s {value}", *entries[::-1]])
+    yield f"{kind}.unknown", lines([f"s {value}", "f 2 1 1", *entries[1:]])
+    yield f"{kind}.above", lines([f"s {value}", *entries[:-1], f"f {last} 2 {CHAINS + 1}"])
+    yield f"{kind}.worse", lines([f"s {worse_value}", *entries[: -len(worse)], *worse])
+
+
 def max_texts():
     """An instance of maximum flow, whose flows are bounded by the last arcs of the chains. Each of these carries at most the
     number of its chain, and each other arc one more."""
@@ -60,12 +70,8 @@ def max_texts():
         + [f"a {tail} {head} {chain + (head != 2)}" for chain, tail, head in arcs]
     )
     entries = [f"f {tail} {head} {chain}" for chain, tail, head in arcs]
-    yield "flow", lines([f"s {VALUE}", *entries])
-    yield "falling", lines([f"s {VALUE}", *entries[::-1]])
-    yield "unknown", lines([f"s {VALUE}", "f 2 1 1", *entries[1:]])
-    yield "above", lines([f"s {VALUE}", *entries[:-1], f"f {arcs[-1][1]} 2 {CHAINS + 1}"])
     slow = [f"f {tail} {head} {chain - 1}" for chain, tail, head in arcs[-STEPS:]]
-    yield "slow", lines([f"s {VALUE - 1}", *entries[:-STEPS], *slow])
+    yield from solutions("max", VALUE, entries, arcs[-1][1], VALUE - 1, slow)
     inside = [1, *range(3, NODES + 1)]
     yield "cut", lines([f"p cut {NODES} {len(inside)}", *(f"u {node}" for node in inside)])
     yield "narrow", lines([f"p cut {NODES} {len(inside) - 1}", *(f"u {node}" for node in inside[:-1])])
@@ -81,13 +87,9 @@ def min_texts():
         + [f"a {tail} {head} 0 {chain} {1 + ((tail, head) == (last, 2))}" for chain, tail, head in arcs]
     )
     least = [f"f {tail} {head} {chain % CHAINS}" for chain, tail, head in arcs]
-    yield "least", lines([f"s {LESS * STEPS}", *least])
-    yield "min.falling", lines([f"s {LESS * STEPS}", *least[::-1]])
-    yield "min.unknown", lines([f"s {LESS * STEPS}", "f 2 1 1", *least[1:]])
-    yield "min.above", lines([f"s {LESS * STEPS}", *least[:-1], f"f {last} 2 {CHAINS + 1}"])
     moved = {CHAINS - 1: CHAINS - 2, CHAINS: 1}
     dear = [f"f {tail} {head} {moved[chain]}" for chain, tail, head in arcs[-2 * STEPS :]]
-    yield "dear", lines([f"s {LESS * STEPS + 1}", *least[: -2 * STEPS], *dear])
+    yield from solutions("min", LESS * STEPS, least, last, LESS * STEPS + 1, dear)
     heights = {1: STEPS}
     for _, tail, head in arcs:
         heights[head] = heights[tail] - 1
@@ -165,7 +167,7 @@ KINDS = [
     ("gr", "gr", "a", f"i sp {ITEMS} {ITEMS}\n"),
     ("query", "pairs", "q", f"i p2p {ITEMS}\n"),
     ("query", "sources", "s", f"i ss {ITEMS}\n"),
-    ("solution", "flow", "f", f"i solution {VALUE} {ITEMS}\n"),
+    ("solution", "max.flow", "f", f"i solution {VALUE} {ITEMS}\n"),
     ("cut", "cut", "u", f"i cut {NODES} {NODES - 1}\n"),
     ("pot", "pot", "y", f"i pot {NODES} {NODES - 1}\n"),
     ("pot", "wide.pot", "y", f"i pot {ITEMS} {ITEMS}\n"),
@@ -208,54 +210,42 @@ MAX_FAULT = f"x instance {3 + ITEMS} 4 BadNumber\n"
 MIN_FAULT = f"x instance {3 + ITEMS} 6 BadNumber\n"
 GRAPH_FAULT = f"x instance {1 + ITEMS} 4 BadNumber\n"
 
-MAX_RUNS = [
-    Run("judge-max max flow cut", 0, f"v max {VALUE}\n"),
-    Run("judge-max max falling cut", 0, f"v max {VALUE}\n"),
-    Run("judge-max max unknown cut", 1, "x solution 2 0 UnknownArc\n"),
-    Run("judge-max max above cut", 1, f"x arc {ITEMS} AboveCap\n"),
-    Run("judge-max max flow narrow", 1, f"x arc {ITEMS - 1} NotSaturated\n"),
-    Run("judge-max max.last flow cut", 1, MAX_FAULT),
-    Run("certify-max max flow shown", 0, f"v max {VALUE}\n"),
-    Run("judge-max max flow shown", 0, f"v max {VALUE}\n"),
-    Run("certify-max max falling shown", 0, f"v max {VALUE}\n"),
-    Run("certify-max max flow", 0, f"v max {VALUE}\n"),
-    Run("certify-max max slow shown", 1, "x solution 1 2 NotMaximum\n"),
-    Run("judge-max max shown cut", 0, f"v max {VALUE}\n"),
-    Run("certify-max max slow", 1, "x solution 1 2 NotMaximum\n"),
-    Run("certify-max max unknown shown", 1, "x solution 2 0 UnknownArc\n"),
-    Run("certify-max max above shown", 1, f"x arc {ITEMS} AboveCap\n"),
-    Run("certify-max max.last flow shown", 1, MAX_FAULT),
-    Run("spread-max max falling shown", 0, ""),
-    Run("convert solution shown", 0, File("flow")),
-    Run("spread-max max unknown shown", 1, "x solution 2 0 UnknownArc\n"),
-    Run("spread-max max.last flow shown", 1, MAX_FAULT),
+
+def flow_runs(kind, certificate, value, not_best, fault):
+    """The runs over all solutions of a kind, with a certificate of the best one."""
+    verdict, not_best = f"v {kind} {value}\n", f"x solution 1 2 {not_best}\n"
+    unknown, above = "x solution 2 0 UnknownArc\n", f"x arc {ITEMS} AboveCap\n"
+    yield Run(f"judge-{kind} {kind} {kind}.flow {certificate}", 0, verdict)
+    yield Run(f"judge-{kind} {kind} {kind}.falling {certificate}", 0, verdict)
+    yield Run(f"judge-{kind} {kind} {kind}.unknown {certificate}", 1, unknown)
+    yield Run(f"judge-{kind} {kind} {kind}.above {certificate}", 1, above)
+    yield Run(f"judge-{kind} {kind}.last {kind}.flow {certificate}", 1, fault)
+    yield Run(f"certify-{kind} {kind} {kind}.flow shown", 0, verdict)
+    yield Run(f"judge-{kind} {kind} {kind}.flow shown", 0, verdict)
+    yield Run(f"certify-{kind} {kind} {kind}.falling shown", 0, verdict)
+    yield Run(f"certify-{kind} {kind} {kind}.flow", 0, verdict)
+    yield Run(f"certify-{kind} {kind} {kind}.worse shown", 1, not_best)
+    yield Run(f"judge-{kind} {kind} shown {certificate}", 0, verdict)
+    yield Run(f"certify-{kind} {kind} {kind}.worse", 1, not_best)
+    yield Run(f"certify-{kind} {kind} {kind}.unknown shown", 1, unknown)
+    yield Run(f"certify-{kind} {kind} {kind}.above shown", 1, above)
+    yield Run(f"certify-{kind} {kind}.last {kind}.flow shown", 1, fault)
+    yield Run(f"spread-{kind} {kind} {kind}.falling shown", 0, "")
+    yield Run("convert solution shown", 0, File(f"{kind}.flow"))
+    yield Run(f"spread-{kind} {kind} {kind}.unknown shown", 1, unknown)
+    yield Run(f"spread-{kind} {kind}.last {kind}.flow shown", 1, fault)
+
+
+FLOW_RUNS = [
+    *flow_runs("max", "cut", VALUE, "NotMaximum", MAX_FAULT),
+    Run("judge-max max max.flow narrow", 1, f"x arc {ITEMS - 1} NotSaturated\n"),
     Run("solve-max max claim shown", 0, f"v max {VALUE}\n"),
     Run("judge-max max claim shown", 0, f"v max {VALUE}\n"),
     Run("solve-max max claim shown --limit 1", 5, "g limit\n"),
     Run("solve-max max.first claim shown", 1, "x instance 4 4 BadNumber\n"),
     Run("solve-max max.last claim shown", 1, MAX_FAULT),
-]
-
-MIN_RUNS = [
-    Run("judge-min min least pot", 0, f"v min {LESS * STEPS}\n"),
-    Run("judge-min min min.falling pot", 0, f"v min {LESS * STEPS}\n"),
-    Run("judge-min min min.unknown pot", 1, "x solution 2 0 UnknownArc\n"),
-    Run("judge-min min min.above pot", 1, f"x arc {ITEMS} AboveCap\n"),
-    Run("judge-min min least steep", 1, f"x arc {ITEMS} NotTight\n"),
-    Run("judge-min min.last least pot", 1, MIN_FAULT),
-    Run("certify-min min least shown", 0, f"v min {LESS * STEPS}\n"),
-    Run("judge-min min least shown", 0, f"v min {LESS * STEPS}\n"),
-    Run("certify-min min min.falling shown", 0, f"v min {LESS * STEPS}\n"),
-    Run("certify-min min least", 0, f"v min {LESS * STEPS}\n"),
-    Run("certify-min min dear shown", 1, "x solution 1 2 NotLeast\n"),
-    Run("judge-min min shown pot", 0, f"v min {LESS * STEPS}\n"),
-    Run("certify-min min dear", 1, "x solution 1 2 NotLeast\n"),
-    Run("certify-min min min.unknown shown", 1, "x solution 2 0 UnknownArc\n"),
-    Run("certify-min min min.above shown", 1, f"x arc {ITEMS} AboveCap\n"),
-    Run("certify-min min.last least shown", 1, MIN_FAULT),
-    Run("spread-min min min.falling shown", 0, ""),
-    Run("convert solution shown", 0, File("least")),
-    Run("spread-min min.last least shown", 1, MIN_FAULT),
+    *flow_runs("min", "pot", LESS * STEPS, "NotLeast", MIN_FAULT),
+    Run("judge-min min min.flow steep", 1, f"x arc {ITEMS} NotTight\n"),
     Run("certify-infeasible unmet shown", 0, "v infeasible\n"),
     Run("judge-infeasible unmet shown", 0, "v infeasible\n"),
     Run("certify-infeasible unmet", 0, "v infeasible\n"),
@@ -339,7 +329,7 @@ def runs(place):
         for name, text in texts():
             place.write(name, text)
     yield from reading_runs(place)
-    yield from MAX_RUNS + MIN_RUNS + PATH_RUNS
+    yield from FLOW_RUNS + PATH_RUNS
 
 
 def main():
