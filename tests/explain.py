@@ -14,18 +14,14 @@ import sys
 import tempfile
 
 import explained_yes
+import refusals
 import scripts
 from instances import BINARY, MEMORY, Folder
 
-MAX = "p max 4 5\nn 1 s\nn 4 t\na 1 2 4\na 1 3 2\na 2 3 2\na 2 4 3\na 3 4 5\n"
-FLOW = "s 6\nf 1 2 4\nf 1 3 2\nf 2 3 1\nf 2 4 3\nf 3 4 3\n"
-CUT = "p cut 4 1\nu 1\n"
-MIN = "p min 4 5\nn 1 4\nn 4 -4\na 1 2 0 4 2\na 1 3 0 2 2\na 2 3 0 2 1\na 2 4 0 3 3\na 3 4 0 5 1\n"
-LEAST = "s 14\nf 1 2 2\nf 1 3 2\nf 2 3 2\nf 3 4 4\n"
-POT = "p pot 4 3\ny 1 4\ny 2 2\ny 3 1\n"
-CYCLE = "p sp 4 3\na 1 2 5\na 3 4 0\na 4 3 0\n"
+MAX, FLOW, CUT = (refusals.TEXTS[it] for it in ("max", "flow", "cut"))
+MIN, LEAST, POT = (refusals.TEXTS[it] for it in ("min", "least", "pot"))
+CYCLE, ASKED = (refusals.TEXTS[it] for it in ("cycle", "source"))
 NEAR = "p sp 4 3\na 1 2 5\na 2 3 4\na 3 4 0\n"
-ASKED = "p aux sp ss 1\ns 1\n"
 HUGE = 9 * 10**18
 
 # Of a pipe that gives more MB nothing is kept.
