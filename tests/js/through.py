@@ -18,25 +18,15 @@ import sys
 import traceback
 
 HERE = os.path.dirname(os.path.abspath(__file__))
-HEADER = os.path.join(HERE, "../../lib/include/dimacs.h")
+sys.path.append(os.path.dirname(HERE))
+from abi import declared  # noqa: E402  (the folder isn't a package of this one)
+
 WIDTHS = {"uint8_t": 1, "uint32_t": 4, "int64_t": 8}
 ARRAYS = {"dimacs_nodes": 4, "dimacs_numbers": 8}
 
 
-def read_header():
-    """The parameters of each call, and the fields of each instance, as dimacs.h declares them."""
-    with open(HEADER, encoding="ascii") as it:
-        text = re.sub(r"/\*.*?\*/", "", it.read(), flags=re.DOTALL)
-    calls = re.findall(r"^uint32_t (\w+)\(([^)]*)\);", text, re.MULTILINE)
-    structs = {}
-    for body, name in re.findall(r"typedef struct \{([^}]*)\} (\w+);", text):
-        fields = [line.split(None, 1) for line in body.split(";") if line.strip()]
-        structs[name] = [(kind, name.strip()) for kind, names in fields for name in names.split(",")]
-    parameters = {name: [" ".join(it.split()) for it in words.split(",")] for name, words in calls}
-    return {name: [it for it in words if it != "void"] for name, words in parameters.items()}, structs
-
-
-CALLS, STRUCTS = read_header()
+# The types of the parameters of each call, and the fields of each instance, as dimacs.h declares them.
+CALLS, STRUCTS = declared()
 
 
 def address(it):
@@ -67,10 +57,16 @@ def number_at(at):
     return ctypes.c_uint64.from_address(at).value
 
 
+def kinds_of(struct):
+    """Yields the type of each field."""
+    for line in STRUCTS[struct].rstrip(";").split("; "):
+        yield from [line.split()[0]] * len(line.split(","))
+
+
 def instance(struct, at):
     """The numbers and the arrays of an instance in memory."""
     parts, place = [], at
-    for kind, _ in STRUCTS[struct]:
+    for kind in kinds_of(struct):
         if kind == "uint32_t":
             parts.append({"n": ctypes.c_uint32.from_address(place).value})
             place += 4
@@ -101,7 +97,6 @@ class Room:
 def described(parameters, given):
     """The arguments of a call as calls.mjs takes them, and its rooms."""
     words, rooms, given = [], [], list(given)
-    parameters = [re.sub(r"\w+$", "", it).strip() for it in parameters]
     while parameters:
         kind = parameters.pop(0)
         struct = re.match(r"const (dimacs_\w+) \*", kind)
@@ -144,7 +139,7 @@ class Function:
         self.argtypes = self.restype = None
 
     def __call__(self, *given):
-        words, rooms = described(CALLS[self.name], given)
+        words, rooms = described([it for it in CALLS[self.name].split(", ") if it != "void"], given)
         self.native.argtypes, self.native.restype = self.argtypes, ctypes.c_uint32
         status = self.native(*given)
         wanted = status, [it.now() for it in rooms]
