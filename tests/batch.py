@@ -178,8 +178,8 @@ class Place(Folder):
         self.wait_for("ran", 1)
         return process
 
-    def written_over(self, *names, text="0 0 v max 1\n"):
-        """Writes a text to each of these files: one that the stand-in answers by a yes, if none is given."""
+    def write_each(self, *names, text="0 0 v max 1\n"):
+        """Writes a text to each of these files: if none is given, one that the stand-in answers by a yes."""
         for name in names:
             self.write(name, text)
 
@@ -188,8 +188,8 @@ class Place(Folder):
         status, table, err = self.run(*words, **how)
         assert status == 2 and not table and part in err and "Traceback" not in err, (words, status, err)
 
-    def is_told_of_broken_pipe(self, *words):
-        """Runs it with a reader of the standard output that has gone."""
+    def run_unread(self, *words):
+        """Runs it with a reader of its output that has gone, which it has to tell."""
         process = self.started(*words)
         process.stdout.close()
         err = process.stderr.read()
@@ -258,8 +258,8 @@ def order_and_columns(place):
 
 def commands(place):
     """The command is that of the kind and of how many answers there are; --run names another."""
-    place.written_over("a.max", "b.min", "c.gr", "d", "{name}.max", text="0 0 v\np sp 2 1\n")
-    place.written_over("s", "c", "t t.solution", "p", "q", "it.cut", "d.dist", text="")
+    place.write_each("a.max", "b.min", "c.gr", "d", "{name}.max", text="0 0 v\np sp 2 1\n")
+    place.write_each("s", "c", "t t.solution", "p", "q", "it.cut", "d.dist", text="")
     listed = ["a.max", "a.max\t../t t.solution", "a.max ../s ../c", "b.min", "b.min ../s", "b.min ../it.cut"]
     listed += ["b.min ../s ../p", "c.gr", "c.gr ../q ../d", "d ../q ../d"]
     place.write("sub/list", "".join(f"../{line}\n" for line in listed))
@@ -287,8 +287,8 @@ def commands(place):
 
 def folders(place):
     """Queries alone are no answer, unless a command takes them, and a folder with an answer's ending is none."""
-    place.written_over("all/deep/a.max", "all/deep/g.gr", "all/x.min")
-    place.written_over(*(f"all/deep/{it}" for it in ("a.solution", "a.cut", "a-c.sol", "ab.solution", "g.ss")), text="")
+    place.write_each("all/deep/a.max", "all/deep/g.gr", "all/x.min")
+    place.write_each(*(f"all/deep/{it}" for it in ("a.solution", "a.cut", "a-c.sol", "ab.solution", "g.ss")), text="")
     _, table, _ = place.run("all --show")
     names = [" ".join(map(os.path.basename, row["command"].split())) for row in table]
     wanted = ["show min x.min", "certify-max a.max a-c.sol", "judge-max a.max a.solution a.cut", "show gr g.gr", ""]
@@ -319,12 +319,13 @@ def layouts(place):
 
 def gaps(place):
     """A solver whose folder lacks an answer has a row for it, which isn't yes, and stays in a table."""
-    place.written_over("set/instances/a.max", "set/instances/b.max", "set/answers/lemon/a.sol", "set/answers/igraph/b.sol")
+    place.write_each("set/instances/a.max", "set/instances/b.max")
+    place.write_each("set/answers/lemon/a.sol", "set/answers/igraph/b.sol")
     for again in (0, 2):
         place.expect(3, counted(yes=2, no_answer=2, taken_over=again), "set", "-o", "table")
-        seen = [(row["solver"], row["verdict"]) for row in place.table()]
-        lacks = "it has no answer of this solver"
-        assert seen == [("lemon", "v max 1"), ("igraph", lacks), ("igraph", "v max 1"), ("lemon", lacks)], seen
+        has, lacks = ("yes", "v max 1"), ("no answer", "it has no answer of this solver")
+        seen = [(row["solver"], (row["class"], row["verdict"])) for row in place.table()]
+        assert seen == [("lemon", has), ("igraph", lacks), ("igraph", has), ("lemon", lacks)], seen
     place.expect(3, counted(yes=2, no_answer=2), "set", "--show")
     place.write("set/answers/lemon/b.sol", "s 1\n")
     place.expect(3, counted(yes=3, no_answer=1, taken_over=2), "set", "-o", "table")
@@ -332,7 +333,7 @@ def gaps(place):
 
 def links(place):
     """Folders that are links are searched, and one that leads back isn't searched again."""
-    place.written_over("set/instances/a.max", "elsewhere/a.sol", "set/answers/igraph/a.sol")
+    place.write_each("set/instances/a.max", "elsewhere/a.sol", "set/answers/igraph/a.sol")
     os.symlink("../../elsewhere", place.path("set/answers/lemon"))
     os.symlink("igraph", place.path("set/answers/same"))
     os.symlink("..", place.path("elsewhere/back"))
@@ -517,7 +518,7 @@ def odd(place):
         it.write(b"1.max s\n\xff.max s\n")
     place.expect(3, counted(no=1, failed=1), "list -o table")
     table = place.table()
-    assert column(table, "instance") == ["1.max", name], table
+    assert column(table, "instance") == ["1.max", name] and column(table, "class") == ["no", "failed"], table
     assert column(table, "verdict") == ["x solution 2 2 NotMaximum; 1 more", "dimacs: usage"], table
     place.write("list", "1.max gone\ngone.max s\n1.max .\n")
     _, table, _ = place.run("list")
@@ -633,7 +634,7 @@ def full(place):
     place.list([f"0 0 v max {k}" for k in range(300)])
     with open("/dev/full", "w", encoding="ascii") as it:
         place.expect(2, "dimacs-batch: standard output: No space left on device\n", "list", stdout=it)
-    place.is_told_of_broken_pipe("list")
+    place.run_unread("list")
     place.write("short", "0.max 0.solution\n")
     place.run("short", "-o", "table")
     for room in (1_000, 50_000):  # bytes that a file may have, as on a disk with little room
@@ -732,7 +733,7 @@ def formats(place):
 def line_ends(place):
     """A name with the end of a line in it is a name in each format."""
     names = [f"a{end}b.max" for end in ("\n", "\r", "\r\n")]
-    place.written_over(*(f"in/{it}" for it in names), *(f"in/{it[:-4]}.solution" for it in names))
+    place.write_each(*(f"in/{it}" for it in names), *(f"in/{it[:-4]}.solution" for it in names))
     for form in ("csv", "jsonl"):
         for taken_over in (0, 3):
             place.expect(0, counted(yes=3, taken_over=taken_over), f"in -o table.{form} --format {form}")
@@ -1116,7 +1117,7 @@ def infeasible(place):
         "certify-infeasible shortage.min",
     ], table
     verdicts = ["v infeasible", "v min 55", "x instance 0 0 Feasible", "v infeasible"]
-    assert column(table, "verdict") == verdicts, table
+    assert column(table, "verdict") == verdicts and column(table, "class") == ["yes", "yes", "no", "yes"], table
     place.expect(1, counted(yes=3, no=1, taken_over=4), "set -o table --keep kept")
     for status in (0, 1):
         assert place.run("--recheck --referee table kept")[0] == status
@@ -1219,7 +1220,7 @@ def recheck_whole(place):
         place.write("forged", json.dumps(row) + "\n")
         status, _, err = place.run("--report", "forged")
         assert status == 3 and "Traceback" not in err, (command, err)
-    place.is_told_of_broken_pipe("--recheck edited .")
+    place.run_unread("--recheck edited .")
     place.write("table", whole.replace(",v max 12,12,yes,0,", ",x arc 1 AboveCap,,yes,1,"))
     place.expect(0, counted(yes=3, taken_over=2, made_anew=1), ".", "-o", "table")
 
@@ -1299,7 +1300,7 @@ def other_files(place):
 
 def same_command(place):
     """Instances that are judged by one command have a row each."""
-    place.written_over("in/a.max", "in/b.max")
+    place.write_each("in/a.max", "in/b.max")
     words = ["in", "-o", "table", "--run", "max=solve-max in/a.max out cut"]
     for _ in range(2):
         assert place.run(*words)[0] == 0
