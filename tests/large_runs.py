@@ -52,8 +52,8 @@ def chains():
 
 
 def solutions(kind, value, entries, last, worse_value, worse):
-    """A best solution, the same with its entries falling, with an arc that isn't there, and with too much on the arc from the
-    last node to the sink; and one that isn't best, whose last entries are others."""
+    """A best solution, the same with its entries falling, with an arc that isn't there, and with too much on the arc from
+    the last node to the sink; and one that isn't best, whose last entries are others."""
     yield f"{kind}.flow", lines([f"s {value}", *entries])
     yield f"{kind}.falling", lines([f"s {value}", *entries[::-1]])
     yield f"{kind}.unknown", lines([f"s {value}", "f 2 1 1", *entries[1:]])

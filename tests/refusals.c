@@ -1,8 +1,8 @@
 /* Refuses calls of a program that is loaded after this library (LD_PRELOAD), and counts them.
  *
  * Growths (malloc and realloc, by which the program takes all of its memory), reads, writes and openings of files count
- * from 1, each kind for itself, from the start of the program's own code. Writes to the standard error aren't counted, and
- * never fail.
+ * from 1, each kind for itself, from the start of the program's own code. Writes to the standard error aren't counted,
+ * and never fail.
  *
  *   REFUSE_GROWTH, REFUSE_READ, REFUSE_WRITE, REFUSE_OPENING   the number of the call that fails, once
  *   INTERRUPT   so many reads or writes in a row, from the one that fails on, are interrupted by a signal

@@ -232,8 +232,8 @@ def better_leads_to(runs, command, instance, solution, verdict):
 
 
 def made_right(runs, words, texts, wanted, output, judge, sizes=SIZES):
-    """Yields what is wrong with a run that makes the texts of these names, in pieces of each size: with what it prints, and
-    with what it makes, which is the same each time, and which a judge has to accept after a yes."""
+    """Yields what is wrong with a run that makes the texts of these names, in pieces of each size: with what it prints,
+    and with what it makes, which is the same each time, and which a judge has to accept after a yes."""
     first = None
     for size in sizes:
         status, printed, *made = runs.answers(words, texts, list(wanted), size)
@@ -256,8 +256,9 @@ def certified_flow(runs, command, instance, solution, certificate, output, verdi
 
 def certified_set(runs, instance, certificate, output):
     """Yields what is wrong with a row of an infeasible instance."""
-    words, sizes = "infeasible I W", sizes_for(instance)
-    yield from made_right(runs, f"certify-{words}", {"I": instance}, {"W": certificate}, output, f"judge-{words}", sizes)
+    words, given = "infeasible I W", {"I": instance}
+    sizes = sizes_for(instance)
+    yield from made_right(runs, f"certify-{words}", given, {"W": certificate}, output, f"judge-{words}", sizes)
     if output.startswith("x ") and runs.read("W"):
         _, answer, _ = runs.run("certify-min I W B")
         if not re.fullmatch(r"v min .*\n|x solution 1 2 NotLeast\n", answer):
