@@ -19,6 +19,7 @@ in the text above it. tests/theorem.py tests that the page is what it would writ
 """
 import functools
 import itertools
+import operator
 import os
 import re
 import sys
@@ -211,39 +212,29 @@ def spaced(blocks):
 
 def joined(lines):
     """The lines of a definition, with its fields, its equations, or the items of a list side by side if they fit."""
-    head, *inner = lines = carried_on(lines)
+    # a line that begins with an operator carries on the one before it
+    head, *inner = lines = side_by_side(lines, " ", re.compile(" +[∷⊎×→] ").match)
     if not inner:
         return lines
     if re.match(r"(record|data) .* where$", head):
         whole = f"{head} {'; '.join(it.strip() for it in inner)}"
         is_flat = all(re.match(r" {2}\S", it) for it in inner)
-        return [whole] if is_flat and len(whole) <= WIDTH else [head, *side_by_side(inner)]
+        fields = re.split(r"\n(?= {2}\S)", "\n".join(inner))
+        return [whole] if is_flat and len(whole) <= WIDTH else [head, *side_by_side(fields, "; ", bool)]
     name = head.split()[0]
     equations = "; ".join(inner)
     return [head, equations] if len(equations) <= WIDTH and all(it.startswith(f"{name} ") for it in inner) else lines
 
 
-def carried_on(lines):
-    """The lines, where one that begins with an operator carries on the one before it, if it fits."""
-    told = lines[:1]
-    for line in lines[1:]:
-        beside = f"{told[-1]} {line.strip()}"
-        if re.match(r" +[∷⊎×→] ", line) and len(beside) <= WIDTH:
+def side_by_side(items, joint, may_join):
+    """The lines of items. One that may join the one before it does, if it fits; one of several lines keeps them."""
+    told = []
+    for item in items:
+        beside = f"{told[-1]}{joint}{item.strip()}" if told else ""
+        if beside and may_join(item) and "\n" not in beside and len(beside) <= WIDTH:
             told[-1] = beside
         else:
-            told.append(line)
-    return told
-
-
-def side_by_side(lines):
-    """Fields with as many on a line as fit. One that has several lines keeps them."""
-    fields, told = re.split(r"\n(?= {2}\S)", "\n".join(lines)), []
-    for field in fields:
-        beside = f"{told[-1]}; {field.strip()}" if told else ""
-        if beside and "\n" not in beside and len(beside) <= WIDTH:
-            told[-1] = beside
-        else:
-            told.append(field)
+            told.append(item)
     return "\n".join(told).split("\n")
 
 
@@ -258,13 +249,9 @@ def fused(lines):
     taken, left = types[len(given) :][: len(names)], types[len(given) + len(names) :]
     if not left or any(it.count("(") != it.count(")") for it in types):
         return lines
-    groups = []
-    for name, its_type in zip(names, (re.sub(r"^\(([^()]*)\)$", r"\1", it) for it in taken)):
-        if groups and groups[-1][1] == its_type:
-            groups[-1][0].append(name)
-        else:
-            groups.append(([name], its_type))
-    told = [*given, *(f"({' '.join(names)} : {its_type})" for names, its_type in groups)]
+    typed = zip((re.sub(r"^\(([^()]*)\)$", r"\1", it) for it in taken), names)
+    groups = itertools.groupby(typed, operator.itemgetter(0))
+    told = [*given, *(f"({' '.join(name for _, name in alike)} : {its_type})" for its_type, alike in groups)]
     start = f"{' '.join([head[1], *told])} : {' → '.join(left)} ="
     if len(start + equation[3]) <= WIDTH:
         return [start + equation[3], *lines[2:]]
