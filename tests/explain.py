@@ -2,9 +2,9 @@
 """Has answers explained, a refusal for each reason: tests/explain.py [BINARY [COUNT [SEED]]]
 
 `dimacs explain WORDS ..` has to print first what `dimacs WORDS ..` prints, and to end with its status. Lines follow: of
-those after a refusal the case names parts, after a yes it has all, worked out by hand. No clause fixes the text of these
-lines. Then COUNT random instances, 150 by default, are solved, judged and certified, and a second reader has to write
-the same lines. BINARY is the built program; crates/dimacs/out/dimacs by default.
+those after a refusal the case names parts, after a yes it has all, worked out by hand or by a second reader. No clause
+fixes the text of these lines. Then COUNT random instances, 150 by default, are solved, judged and certified, and the
+second reader has to write the same lines. BINARY is the built program; crates/dimacs/out/dimacs by default.
 """
 import contextlib
 import os
