@@ -77,18 +77,10 @@ def max_path(ids, nodes, arcs=None, entries=None):
     return max_texts(nodes, arcs or along, (ids[0], ids[-1]), 1, entries or along)
 
 
-def max_star(heads, entries):
-    """Arcs from node 1 to these heads; that to the last node carries 1."""
-    last = max(heads)
-    arcs = [(1, head) for head in heads]
-    return max_texts(last, arcs, (1, last), 1, entries(arcs), lambda arc: int(arc[1] == last))
-
-
-def max_sink(tails, entries):
-    """Arcs from these tails to the last node; that from node 1 carries 1."""
-    last = max(tails) + 1
-    arcs = [(tail, last) for tail in tails]
-    return max_texts(last, arcs, (1, last), 1, entries(arcs), lambda arc: int(arc[0] == 1))
+def max_fan(arcs, entries):
+    """Arcs with one tail or one head, of which that from node 1 to the last one carries 1."""
+    last = max(head for _, head in arcs)
+    return max_texts(last, arcs, (1, last), 1, entries(arcs), lambda arc: int(arc == (1, last)))
 
 
 def max_parallels(count, entries):
@@ -156,10 +148,11 @@ def max_cases(n):
     yield "max: arcs falling", words, max_path(ids, n, falling(arcs)), kind, LIMIT
     yield "max: entries falling", words, max_path(ids, n, arcs, falling(arcs)), kind, LIMIT
     yield "max: entries in no order", words, max_path(ids, n, arcs, shuffled(arcs)), kind, LIMIT
-    yield "max: one tail", words, max_star(ids[1:], list), kind, LIMIT
-    yield "max: one tail, entries falling", words, max_star(ids[1:], falling), kind, LIMIT
-    yield "max: one tail, arcs falling", words, max_star(falling(ids[1:]), list), kind, LIMIT
-    yield "max: one head in no order", words, max_sink(shuffled(ids[:-1]), shuffled), kind, LIMIT
+    star, sink = [(1, head) for head in ids[1:]], shuffled([(tail, n) for tail in ids[:-1]])
+    yield "max: one tail", words, max_fan(star, list), kind, LIMIT
+    yield "max: one tail, entries falling", words, max_fan(star, falling), kind, LIMIT
+    yield "max: one tail, arcs falling", words, max_fan(falling(star), list), kind, LIMIT
+    yield "max: one head in no order", words, max_fan(sink, shuffled), kind, LIMIT
     pair = arcs + [(1, 1)] * 2
     yield "max: two arcs with the same ends", words, max_path(ids, n, pair, falling(pair)), kind, LIMIT
     yield "max: many arcs between two nodes", words, max_parallels(n, list), kind, LIMIT
@@ -172,7 +165,7 @@ def max_cases(n):
     yield "certify-max: IDs far apart", certify, max_path(far(n), MOST), wide, PAGES_LIMIT
     yield "certify-max: entries in no order", certify, max_path(ids, n, arcs, shuffled(arcs)), kind, LIMIT
     yield "certify-max: arcs and entries in no order", certify, max_path(ids, n, shuffled(arcs), arcs), kind, LIMIT
-    yield "certify-max: one head in no order", certify, max_sink(shuffled(ids[:-1]), shuffled), kind, LIMIT
+    yield "certify-max: one head in no order", certify, max_fan(sink, shuffled), kind, LIMIT
     yield "solve-max: IDs far apart", "solve-max I claim shown", max_path(far(n), MOST), wide, PAGES_LIMIT
 
 
