@@ -1,13 +1,12 @@
 //! Claims and certificates: queries, solutions, cuts, potentials and labels.
 
 use crate::network::NodeSet;
-use crate::text::{Reading, Record, Refusal, refuse};
+use crate::text::{Declared, Reading, Record, Refusal, refuse};
 
 /// Queries for all distances from some nodes.
 #[derive(Default)]
 pub struct Queries {
-    has_problem: bool,
-    declared: usize,
+    declared: Declared,
     pub sources: Vec<u32>,
 }
 
@@ -15,31 +14,16 @@ impl Reading for Queries {
     fn take(&mut self, record: &Record, _line: u64) -> Result<(), Refusal> {
         let numbers = &record.numbers;
         if record.letter == b'p' {
-            if self.has_problem {
-                return refuse(0, "ProblemTwice");
-            }
-            self.has_problem = true;
-            self.declared = numbers[3] as usize;
-            return Ok(());
+            return self.declared.declare(numbers[3]);
         }
-        if !self.has_problem {
-            return refuse(0, "ProblemMissing");
-        }
-        if self.sources.len() == self.declared {
-            return refuse(0, "TooMany");
-        }
+        self.declared.test()?;
+        self.declared.test_one_more(self.sources.len())?;
         self.sources.push(numbers[0] as u32);
         Ok(())
     }
 
     fn finish(&self) -> Result<(), Refusal> {
-        if !self.has_problem {
-            return refuse(0, "ProblemMissing");
-        }
-        if self.sources.len() < self.declared {
-            return refuse(0, "TooFew");
-        }
-        Ok(())
+        self.declared.test_full(self.sources.len())
     }
 }
 
@@ -112,9 +96,8 @@ impl Reading for Solution {
 /// The named nodes of a cut or of potentials.
 #[derive(Default)]
 pub struct Cut {
-    has_problem: bool,
     pub nodes: u32,
-    declared: usize,
+    declared: Declared,
     count: usize,
     named: NodeSet,
 }
@@ -131,18 +114,12 @@ impl Reading for Cut {
     fn take(&mut self, record: &Record, _line: u64) -> Result<(), Refusal> {
         let numbers = &record.numbers;
         if record.letter == b'p' {
-            if self.has_problem {
-                return refuse(0, "ProblemTwice");
-            }
-            self.has_problem = true;
+            self.declared.declare(numbers[2])?;
             self.nodes = numbers[1] as u32;
-            self.declared = numbers[2] as usize;
             self.named = NodeSet::new(self.nodes);
             return Ok(());
         }
-        if !self.has_problem {
-            return refuse(0, "ProblemMissing");
-        }
+        self.declared.test()?;
         let node = numbers[0] as u32;
         if node > self.nodes {
             return refuse(2, "NodeRange");
@@ -150,21 +127,13 @@ impl Reading for Cut {
         if !self.named.insert(node) {
             return refuse(2, "NodeTwice");
         }
-        if self.count == self.declared {
-            return refuse(0, "TooMany");
-        }
+        self.declared.test_one_more(self.count)?;
         self.count += 1;
         Ok(())
     }
 
     fn finish(&self) -> Result<(), Refusal> {
-        if !self.has_problem {
-            return refuse(0, "ProblemMissing");
-        }
-        if self.count < self.declared {
-            return refuse(0, "TooFew");
-        }
-        Ok(())
+        self.declared.test_full(self.count)
     }
 }
 
@@ -219,9 +188,8 @@ pub struct Block {
 
 #[derive(Default)]
 pub struct Labels {
-    has_problem: bool,
     pub nodes: u32,
-    declared_blocks: usize,
+    declared_blocks: Declared,
     pub blocks: Vec<Block>,
     /// The labels of all blocks.
     labels: Vec<Label>,
@@ -243,21 +211,15 @@ impl Labels {
     }
 
     fn take_problem(&mut self, numbers: &[i64; 5]) -> Result<(), Refusal> {
-        if self.has_problem {
-            return refuse(0, "ProblemTwice");
-        }
-        self.has_problem = true;
+        self.declared_blocks.declare(numbers[2])?;
         self.nodes = numbers[1] as u32;
-        self.declared_blocks = numbers[2] as usize;
         self.labelled_in = vec![0; self.nodes as usize + 1];
         self.sources = NodeSet::new(self.nodes);
         Ok(())
     }
 
     fn take_block(&mut self, numbers: &[i64; 5]) -> Result<(), Refusal> {
-        if !self.has_problem {
-            return refuse(0, "ProblemMissing");
-        }
+        self.declared_blocks.test()?;
         let source = numbers[0] as u32;
         if source > self.nodes {
             return refuse(2, "NodeRange");
@@ -265,9 +227,7 @@ impl Labels {
         if !self.sources.insert(source) {
             return refuse(2, "NodeTwice");
         }
-        if self.blocks.len() == self.declared_blocks {
-            return refuse(0, "TooMany");
-        }
+        self.declared_blocks.test_one_more(self.blocks.len())?;
         if self.last_block_is_short() {
             return refuse(0, "TooFew");
         }
@@ -282,9 +242,7 @@ impl Labels {
 
     #[inline(always)]
     fn take_label(&mut self, numbers: &[i64; 5], distance: i128) -> Result<(), Refusal> {
-        if !self.has_problem {
-            return refuse(0, "ProblemMissing");
-        }
+        self.declared_blocks.test()?;
         let Some(block) = self.blocks.last() else {
             return refuse(0, "RecordOrder");
         };
@@ -335,10 +293,8 @@ impl Reading for Labels {
     }
 
     fn finish(&self) -> Result<(), Refusal> {
-        if !self.has_problem {
-            return refuse(0, "ProblemMissing");
-        }
-        if self.blocks.len() < self.declared_blocks || self.last_block_is_short() {
+        self.declared_blocks.test_full(self.blocks.len())?;
+        if self.last_block_is_short() {
             return refuse(0, "TooFew");
         }
         Ok(())

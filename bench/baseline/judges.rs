@@ -1,7 +1,7 @@
 //! The judges. A yes is what is printed, and so is a no: the line of the first fault or of the first test that fails.
 
 use crate::claims::{Cut, Labels, NO_DISTANCE, Potentials, Queries, Solution};
-use crate::network::{ArcIndex, Network, NetworkKind, read_network};
+use crate::network::{ArcIndex, Network, NetworkKind};
 use crate::text::{self, Fault, Reading};
 use std::collections::HashSet;
 
@@ -9,7 +9,7 @@ use std::collections::HashSet;
 pub type Outcome = Result<String, String>;
 
 /// The line of a text's fault.
-pub fn refusal_line(text: &str, fault: Fault) -> String {
+fn refusal_line(text: &str, fault: Fault) -> String {
     format!(
         "x {} {} {} {}\n",
         text, fault.line, fault.refusal.field, fault.refusal.reason
@@ -42,13 +42,16 @@ fn read<R: Reading>(
     Ok(reading)
 }
 
+pub fn read_instance(kind: NetworkKind, path: &str) -> Result<Network, String> {
+    read("instance", kind.text_kind(), path, Network::new(kind))
+}
+
 pub fn judge_max(instance: &str, solution: &str, cut: &str) -> Outcome {
-    let network = read_network(NetworkKind::Max, instance)
-        .map_err(|fault| refusal_line("instance", fault))?;
+    let network = read_instance(NetworkKind::Max, instance)?;
     let solution = read("solution", &text::SOLUTION, solution, Solution::default())?;
     let cut = read("certificate", &text::CUT, cut, Cut::default())?;
     let flows = flows_of(&network, &solution)?;
-    test_capacities(&network, &flows)?;
+    test_bounds(&flows, network.values.iter().map(|&cap| (0, cap)))?;
     let nets = nets_of(&network, &flows);
     for node in 1..=network.nodes {
         if node != network.source && node != network.sink && nets[node as usize] != 0 {
@@ -62,9 +65,9 @@ pub fn judge_max(instance: &str, solution: &str, cut: &str) -> Outcome {
     Ok(format!("v max {}\n", solution.value()))
 }
 
-fn test_capacities(network: &Network, flows: &[i64]) -> Result<(), String> {
-    for (arc, (&flow, &cap)) in flows.iter().zip(&network.values).enumerate() {
-        if flow < 0 {
+fn test_bounds(flows: &[i64], bounds: impl Iterator<Item = (i64, i64)>) -> Result<(), String> {
+    for (arc, (&flow, (low, cap))) in flows.iter().zip(bounds).enumerate() {
+        if flow < low {
             return Err(at_arc(arc, "BelowLow"));
         }
         if flow > cap {
@@ -97,8 +100,7 @@ fn test_cut(network: &Network, flows: &[i64], cut: &Cut) -> Result<(), String> {
 }
 
 pub fn judge_min(instance: &str, solution: &str, potentials: &str) -> Outcome {
-    let network = read_network(NetworkKind::Min, instance)
-        .map_err(|fault| refusal_line("instance", fault))?;
+    let network = read_instance(NetworkKind::Min, instance)?;
     let solution = read("solution", &text::SOLUTION, solution, Solution::default())?;
     let potentials = read(
         "certificate",
@@ -107,7 +109,7 @@ pub fn judge_min(instance: &str, solution: &str, potentials: &str) -> Outcome {
         Potentials::default(),
     )?;
     let flows = flows_of(&network, &solution)?;
-    test_bounds(&network, &flows)?;
+    test_bounds(&flows, network.bounds.iter().copied())?;
     let nets = nets_of(&network, &flows);
     for node in 1..=network.nodes {
         if nets[node as usize] != network.supplies[node as usize] as i128 {
@@ -117,18 +119,6 @@ pub fn judge_min(instance: &str, solution: &str, potentials: &str) -> Outcome {
     test_cost(&network, &flows, &solution)?;
     test_reduced_costs(&network, &flows, &potentials)?;
     Ok(format!("v min {}\n", solution.value()))
-}
-
-fn test_bounds(network: &Network, flows: &[i64]) -> Result<(), String> {
-    for (arc, (&flow, &(low, cap))) in flows.iter().zip(&network.bounds).enumerate() {
-        if flow < low {
-            return Err(at_arc(arc, "BelowLow"));
-        }
-        if flow > cap {
-            return Err(at_arc(arc, "AboveCap"));
-        }
-    }
-    Ok(())
 }
 
 fn test_cost(network: &Network, flows: &[i64], solution: &Solution) -> Result<(), String> {
@@ -257,8 +247,7 @@ fn nets_of(network: &Network, flows: &[i64]) -> Vec<i128> {
 }
 
 pub fn judge_paths(graph: &str, queries: &str, labels: &str) -> Outcome {
-    let graph = read_network(NetworkKind::Graph, graph)
-        .map_err(|fault| refusal_line("instance", fault))?;
+    let graph = read_instance(NetworkKind::Graph, graph)?;
     let queries = read("query", &text::QUERIES, queries, Queries::default())?;
     let mut labels = read("certificate", &text::LABELS, labels, Labels::default())?;
     labels.shrink();

@@ -19,8 +19,8 @@ mod network;
 mod output;
 mod text;
 
-use judges::{Outcome, judge_max, judge_min, judge_paths, refusal_line};
-use network::{Network, NetworkKind, print, read_network, summary};
+use judges::{Outcome, judge_max, judge_min, judge_paths, read_instance};
+use network::{NetworkKind, print, summary};
 
 fn main() {
     let words: Vec<String> = std::env::args().skip(1).collect();
@@ -56,15 +56,11 @@ fn network_kind(word: &str) -> NetworkKind {
     }
 }
 
-fn instance(kind: NetworkKind, file: &str) -> Result<Network, String> {
-    read_network(kind, file).map_err(|fault| refusal_line("instance", fault))
-}
-
 fn convert(kind: NetworkKind, file: &str) -> Outcome {
-    print(&instance(kind, file)?);
+    print(&read_instance(kind, file)?);
     Ok(String::new())
 }
 
 fn show(kind: NetworkKind, file: &str) -> Outcome {
-    Ok(summary(&instance(kind, file)?) + "\n")
+    Ok(summary(&read_instance(kind, file)?) + "\n")
 }

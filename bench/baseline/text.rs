@@ -123,6 +123,49 @@ pub trait Reading {
     fn finish(&self) -> Result<(), Refusal>;
 }
 
+/// How many records of one sort follow a problem line, once it came.
+#[derive(Default)]
+pub struct Declared {
+    is_there: bool,
+    pub count: usize,
+}
+
+impl Declared {
+    pub fn declare(&mut self, count: i64) -> Result<(), Refusal> {
+        if self.is_there {
+            return refuse(0, "ProblemTwice");
+        }
+        self.is_there = true;
+        self.count = count as usize;
+        Ok(())
+    }
+
+    #[inline(always)]
+    pub fn test(&self) -> Result<(), Refusal> {
+        if !self.is_there {
+            return refuse(0, "ProblemMissing");
+        }
+        Ok(())
+    }
+
+    /// Whether one may follow these.
+    #[inline(always)]
+    pub fn test_one_more(&self, found: usize) -> Result<(), Refusal> {
+        if found == self.count {
+            return refuse(0, "TooMany");
+        }
+        Ok(())
+    }
+
+    pub fn test_full(&self, found: usize) -> Result<(), Refusal> {
+        self.test()?;
+        if found < self.count {
+            return refuse(0, "TooFew");
+        }
+        Ok(())
+    }
+}
+
 /// Gives all records of a file to the reading, up to the first fault.
 pub fn read<R: Reading>(kind: &Kind, path: &str, reading: &mut R) -> Result<(), Fault> {
     match kind.forms[0].types.len() {
