@@ -32,12 +32,7 @@ fn at_certificate(reason: &str) -> String {
     format!("x certificate 0 0 {reason}\n")
 }
 
-fn read<R: Reading>(
-    text: &str,
-    kind: &text::Kind,
-    path: &str,
-    mut reading: R,
-) -> Result<R, String> {
+fn read<R: Reading>(text: &str, kind: text::Kind, path: &str, mut reading: R) -> Result<R, String> {
     text::read(kind, path, &mut reading).map_err(|fault| refusal_line(text, fault))?;
     Ok(reading)
 }
@@ -48,8 +43,8 @@ pub fn read_instance(kind: NetworkKind, path: &str) -> Result<Network, String> {
 
 pub fn judge_max(instance: &str, solution: &str, cut: &str) -> Outcome {
     let network = read_instance(NetworkKind::Max, instance)?;
-    let solution = read("solution", &text::SOLUTION, solution, Solution::default())?;
-    let cut = read("certificate", &text::CUT, cut, Cut::default())?;
+    let solution = read("solution", text::SOLUTION, solution, Solution::default())?;
+    let cut = read("certificate", text::CUT, cut, Cut::default())?;
     let flows = flows_of(&network, &solution)?;
     test_bounds(&flows, network.values.iter().map(|&cap| (0, cap)))?;
     let nets = nets_of(&network, &flows);
@@ -101,10 +96,10 @@ fn test_cut(network: &Network, flows: &[i64], cut: &Cut) -> Result<(), String> {
 
 pub fn judge_min(instance: &str, solution: &str, potentials: &str) -> Outcome {
     let network = read_instance(NetworkKind::Min, instance)?;
-    let solution = read("solution", &text::SOLUTION, solution, Solution::default())?;
+    let solution = read("solution", text::SOLUTION, solution, Solution::default())?;
     let potentials = read(
         "certificate",
-        &text::POTENTIALS,
+        text::POTENTIALS,
         potentials,
         Potentials::default(),
     )?;
@@ -248,8 +243,8 @@ fn nets_of(network: &Network, flows: &[i64]) -> Vec<i128> {
 
 pub fn judge_paths(graph: &str, queries: &str, labels: &str) -> Outcome {
     let graph = read_instance(NetworkKind::Graph, graph)?;
-    let queries = read("query", &text::QUERIES, queries, Queries::default())?;
-    let mut labels = read("certificate", &text::LABELS, labels, Labels::default())?;
+    let queries = read("query", text::QUERIES, queries, Queries::default())?;
+    let mut labels = read("certificate", text::LABELS, labels, Labels::default())?;
     labels.shrink();
     if labels.nodes != graph.nodes {
         return Err(at_certificate("NodesDiffer"));

@@ -44,9 +44,7 @@ pub struct Form {
 }
 
 /// The lines of a kind of text. Most lines have the first form, whose fields are numbers alone: the fast path reads it.
-pub struct Kind {
-    pub forms: &'static [Form],
-}
+pub type Kind = &'static [Form];
 
 use FieldType::*;
 
@@ -54,57 +52,38 @@ const fn form(letter: u8, types: &'static [FieldType]) -> Form {
     Form { letter, types }
 }
 
-pub static MAX: Kind = Kind {
-    forms: &[
-        form(b'a', &[Id, Id, Whole]),
-        form(b'n', &[Id, Word(&["s", "t"])]),
-        form(b'p', &[Word(&["max"]), Nodes, Count]),
-    ],
-};
-pub static MIN: Kind = Kind {
-    forms: &[
-        form(b'a', &[Id, Id, Whole, Whole, Whole]),
-        form(b'n', &[Id, Whole]),
-        form(b'p', &[Word(&["min"]), Nodes, Count]),
-    ],
-};
-pub static GRAPH: Kind = Kind {
-    forms: &[
-        form(b'a', &[Id, Id, Whole]),
-        form(b'p', &[Word(&["sp"]), Nodes, Count]),
-    ],
-};
-pub static QUERIES: Kind = Kind {
-    forms: &[
-        form(b's', &[Id]),
-        form(
-            b'p',
-            &[Word(&["aux"]), Word(&["sp"]), Word(&["ss"]), Count],
-        ),
-    ],
-};
-pub static SOLUTION: Kind = Kind {
-    forms: &[form(b'f', &[Id, Id, Whole]), form(b's', &[Wide])],
-};
-pub static CUT: Kind = Kind {
-    forms: &[
-        form(b'u', &[Id]),
-        form(b'p', &[Word(&["cut"]), Nodes, Count]),
-    ],
-};
-pub static POTENTIALS: Kind = Kind {
-    forms: &[
-        form(b'y', &[Id, Wide]),
-        form(b'p', &[Word(&["pot"]), Nodes, Count]),
-    ],
-};
-pub static LABELS: Kind = Kind {
-    forms: &[
-        form(b'd', &[Id, Wide, Id]),
-        form(b't', &[Id, Count]),
-        form(b'p', &[Word(&["dist"]), Nodes, Count]),
-    ],
-};
+pub static MAX: Kind = &[
+    form(b'a', &[Id, Id, Whole]),
+    form(b'n', &[Id, Word(&["s", "t"])]),
+    form(b'p', &[Word(&["max"]), Nodes, Count]),
+];
+pub static MIN: Kind = &[
+    form(b'a', &[Id, Id, Whole, Whole, Whole]),
+    form(b'n', &[Id, Whole]),
+    form(b'p', &[Word(&["min"]), Nodes, Count]),
+];
+pub static GRAPH: Kind = &[
+    form(b'a', &[Id, Id, Whole]),
+    form(b'p', &[Word(&["sp"]), Nodes, Count]),
+];
+pub static QUERIES: Kind = &[
+    form(b's', &[Id]),
+    form(b'p', &[Word(&["aux"]), Word(&["sp"]), Word(&["ss"]), Count]),
+];
+pub static SOLUTION: Kind = &[form(b'f', &[Id, Id, Whole]), form(b's', &[Wide])];
+pub static CUT: Kind = &[
+    form(b'u', &[Id]),
+    form(b'p', &[Word(&["cut"]), Nodes, Count]),
+];
+pub static POTENTIALS: Kind = &[
+    form(b'y', &[Id, Wide]),
+    form(b'p', &[Word(&["pot"]), Nodes, Count]),
+];
+pub static LABELS: Kind = &[
+    form(b'd', &[Id, Wide, Id]),
+    form(b't', &[Id, Count]),
+    form(b'p', &[Word(&["dist"]), Nodes, Count]),
+];
 
 const FIELDS_MAX: usize = 5;
 
@@ -167,8 +146,8 @@ impl Declared {
 }
 
 /// Gives all records of a file to the reading, up to the first fault.
-pub fn read<R: Reading>(kind: &Kind, path: &str, reading: &mut R) -> Result<(), Fault> {
-    match kind.forms[0].types.len() {
+pub fn read<R: Reading>(kind: Kind, path: &str, reading: &mut R) -> Result<(), Fault> {
+    match kind[0].types.len() {
         1 => read_usual::<R, 1>(kind, path, reading),
         2 => read_usual::<R, 2>(kind, path, reading),
         3 => read_usual::<R, 3>(kind, path, reading),
@@ -178,11 +157,11 @@ pub fn read<R: Reading>(kind: &Kind, path: &str, reading: &mut R) -> Result<(), 
 
 /// The same, where `K` is the number of fields after the letter of a usual line.
 fn read_usual<R: Reading, const K: usize>(
-    kind: &Kind,
+    kind: Kind,
     path: &str,
     reading: &mut R,
 ) -> Result<(), Fault> {
-    let usual = &kind.forms[0];
+    let usual = &kind[0];
     let mut is_id = [false; FIELDS_MAX];
     for i in 0..K {
         is_id[i] = matches!(usual.types[i], Id);
@@ -296,7 +275,7 @@ fn leading_digits(bytes: &[u8], at: usize) -> (u64, usize) {
 
 /// Any line: skipped, refused, or given to the reading.
 fn take_line<R: Reading>(
-    kind: &Kind,
+    kind: Kind,
     bytes: &[u8],
     reading: &mut R,
     line: u64,
@@ -307,7 +286,7 @@ fn take_line<R: Reading>(
     }
 }
 
-fn record(kind: &Kind, line: &[u8]) -> Result<Option<Record>, Refusal> {
+fn record(kind: Kind, line: &[u8]) -> Result<Option<Record>, Refusal> {
     if line.len() > LINE_MAX {
         return refuse(0, "LineTooLong");
     }
@@ -320,7 +299,7 @@ fn record(kind: &Kind, line: &[u8]) -> Result<Option<Record>, Refusal> {
     if first[0] == b'c' {
         return Ok(None);
     }
-    let Some(form) = kind.forms.iter().find(|form| first == [form.letter]) else {
+    let Some(form) = kind.iter().find(|form| first == [form.letter]) else {
         return refuse(1, "UnknownLine");
     };
     let mut texts: [&[u8]; FIELDS_MAX] = [b""; FIELDS_MAX];
