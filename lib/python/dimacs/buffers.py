@@ -43,29 +43,15 @@ class Buffer(NamedTuple):
         return array.array(items.code, ctypes.string_at(self.address, self.length * items.width)).tolist()
 
 
-class _View(ctypes.Structure):
-    """Python's Py_buffer."""
-
-    _fields_ = [
-        ("address", ctypes.c_void_p),
-        ("object", ctypes.py_object),
-        ("length", ctypes.c_ssize_t),
-        ("itemsize", ctypes.c_ssize_t),
-        ("readonly", ctypes.c_int),
-        ("ndim", ctypes.c_int),
-        ("format", ctypes.c_char_p),
-        ("shape", ctypes.c_void_p),
-        ("strides", ctypes.c_void_p),
-        ("suboffsets", ctypes.c_void_p),
-        ("internal", ctypes.c_void_p),
-    ]
+#: Room for Python's Py_buffer, of which the address is the first field. It has 11 fields, none longer than an address.
+_VIEW = ctypes.c_void_p * 11
 
 
 def _address_of(view: memoryview) -> int:
     """The address of the bytes of a view. They stay there as long as the view lives."""
-    seen = _View()
+    seen = _VIEW()
     ctypes.pythonapi.PyObject_GetBuffer(ctypes.py_object(view), ctypes.byref(seen), 0)
-    address = int(seen.address or 0)
+    address = int(seen[0] or 0)
     ctypes.pythonapi.PyBuffer_Release(ctypes.byref(seen))
     return address
 
@@ -172,13 +158,13 @@ def _refuse(name: str, number: Any, items: Items) -> ValueError:
     return ValueError(f"{name} is {written(number)}, not a whole number of {width}")
 
 
-def _is_numpy_bool(number: Any) -> bool:
-    numpy = sys.modules.get("numpy")
-    return numpy is not None and isinstance(number, numpy.bool_)
+def _is_of(given: Any, module: str, name: str) -> bool:
+    """Whether this is of a class of a module, which may not be imported."""
+    return isinstance(given, getattr(sys.modules.get(module), name, ()))
 
 
 def is_bool(number: Any) -> bool:
-    return isinstance(number, bool) or _is_numpy_bool(number)
+    return isinstance(number, bool) or _is_of(number, "numpy", "bool_")
 
 
 def is_infinite(number: Any) -> bool:
@@ -188,7 +174,7 @@ def is_infinite(number: Any) -> bool:
 
 
 def _whole(number: Any, items: Items, name: str) -> int:
-    if _is_numpy_bool(number):
+    if _is_of(number, "numpy", "bool_"):
         return int(number)
     if hasattr(number, "__index__"):
         return _as_int(operator.index, number, name)
@@ -284,8 +270,7 @@ def _array(name: Name) -> str:
 
 def test_mask(numbers: Any, name: Name) -> None:
     """Raises TypeError for a masked array."""
-    numpy = sys.modules.get("numpy")
-    if numpy is not None and isinstance(numbers, numpy.ma.MaskedArray):
+    if _is_of(numbers, "numpy.ma", "MaskedArray"):
         raise TypeError(f"{_array(name)} is a masked array, and what is masked has no number")
 
 
@@ -322,8 +307,7 @@ def _items_of(numbers: Any, view: memoryview, name: Name) -> list[Any]:
 
 
 def is_numpy(given: Any) -> bool:
-    numpy = sys.modules.get("numpy")
-    return numpy is not None and isinstance(given, numpy.ndarray)
+    return _is_of(given, "numpy", "ndarray")
 
 
 def is_single(given: Any) -> bool:
@@ -346,9 +330,8 @@ def array_of(numbers: Any, items: Items, name: Name) -> Buffer:
     if type(numbers) in (list, tuple):
         return _from_numbers(numbers, items, name)
     numbers = unlabelled(numbers)
-    numpy = sys.modules.get("numpy")
-    if numpy is not None and isinstance(numbers, numpy.ndarray):
-        return _from_numpy(numpy, numbers, items, name)
+    if is_numpy(numbers):
+        return _from_numpy(sys.modules["numpy"], numbers, items, name)
     try:
         view = memoryview(numbers)
     except TypeError:
