@@ -110,14 +110,6 @@ function readTexts(names, files) {
     return {read, failure: null};
 }
 
-function answer(texts, {what, kind, limit}, read) {
-    const [instance, claim = NONE, certificate = NONE] = read;
-    if (what === "judge" && kind === "infeasible") return texts.judge(kind, instance, NONE, claim);
-    if (what === "judge") return texts.judge(kind, instance, claim, certificate);
-    if (what === "solve") return texts.solve(kind, instance, claim, limit);
-    return Object.hasOwn(ONE_FILE, what) ? texts[what](kind, instance) : texts[what](kind, instance, claim);
-}
-
 /** How many of the texts that were read precede the one that a line refuses. */
 const ORDER = {instance: 0, query: 1, solution: 1, distances: 1, certificate: 2};
 
@@ -131,7 +123,8 @@ function isOfEarlier({handed: [line]}, {what, kind}, count) {
 function answered(texts, job, names, files) {
     const {read, failure} = readTexts(names, files);
     if (failure && read.length === 0) throw failure;
-    const all = [...read, ...Array(names.length - read.length).fill(NONE)], given = answer(texts, job, all);
+    const all = [...read, ...Array(names.length - read.length).fill(NONE)];
+    const given = texts.run(job.what, job.kind, all, job.limit);
     if (failure && !isOfEarlier(given, job, read.length)) throw failure;
     return {...given, read: all};
 }
@@ -169,7 +162,7 @@ const replaced = (text, from, to) => from.reduce((made, it, i) => made.replaceAl
 /** The lines of an answer, and those that explain it, over the texts that were read and those that were made. */
 function explained(texts, {explains}, read, made) {
     const words = explains.map((it) => replaced(it, BLANKS, STAND_INS)).join(" ");
-    const {handed: [lines]} = texts.explain(Buffer.from(words), ...[...read, ...made, NONE, NONE].slice(0, 3));
+    const {handed: [lines]} = texts.explain(Buffer.from(words), [...read, ...made]);
     return replaced(Buffer.from(lines).toString(), QUOTED, SPACES);
 }
 

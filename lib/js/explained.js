@@ -49,9 +49,8 @@ export function explanationOf(answer) {
 
 /** The lines for a command over texts; `shown` names the last one, if it isn't the certificate. */
 export function explanation(command, given, shown) {
-    const [first, second, third] = [...given, "", ""].map(bytesOf);
     const words = bytesOf(commandOf(command, given.length, shown));
-    const {handed: [lines]} = texts.explain(words, first, second, third);
+    const {handed: [lines]} = texts.explain(words, given.map(bytesOf));
     // Nothing was written here: a run of the command empties its files.
     return inFormOf("", lines).replace(/^.* is empty: a solve run creates.*\n/gm, "");
 }

@@ -200,46 +200,40 @@ function run(call, words) {
     }
 }
 
+/** In place of a text that a call doesn't read. */
+const NONE = new Uint8Array(0);
+
+/** How many texts the call of a command takes, and how much room it is given at first, by the lengths of two of them. */
+const VERBS = {
+    judge: [3, () => [LINE]],
+    certify: [2, (first, second) => [LINE, LINE + first + second]],
+    spread: [2, (first, second) => [LINE, LINE + first + second]],
+    // An answer to a query is a longer line than the query, and a potential or label may be one than an arc.
+    solve: [2, (first, second) => [LINE + 4 * second, LINE + first, LINE + 2 * first]],
+    convert: [1, (first) => [LINE + first]],
+    show: [1, () => [LINE]],
+};
+
 /** The calls over texts, as bytes. Each returns its status, and the texts that it handed out, the printed one first. */
 export class Texts {
     constructor(library) {
         this.library = library;
     }
 
-    #call(name, given, ...rooms) {
+    #call(name, given, rooms) {
         return this.library.call(name, given, rooms.map((length) => new Room(Uint8Array, length)));
     }
 
-    judge(kind, instance, claim, certificate) {
-        return this.#call("dimacs_judge", [KINDS[kind], instance, claim, certificate], LINE);
+    /** Makes the call of a command over the texts that it reads. */
+    run(verb, kind, texts, limit = LIMIT) {
+        const [count, roomsFor] = VERBS[verb], isOfSet = verb === "judge" && kind === "infeasible";
+        const read = isOfSet ? [texts[0], NONE, texts[1]] : [...texts, NONE].slice(0, count);
+        const words = [(count === 1 ? TEXTS : KINDS)[kind], ...read, ...(verb === "solve" ? [limit] : [])];
+        return this.#call(`dimacs_${verb}`, words, roomsFor(...read.map((it) => it.length)));
     }
 
-    certify(kind, instance, claim) {
-        const room = LINE + instance.length + claim.length;
-        return this.#call("dimacs_certify", [KINDS[kind], instance, claim], LINE, room);
-    }
-
-    spread(kind, instance, claim) {
-        const room = LINE + instance.length + claim.length;
-        return this.#call("dimacs_spread", [KINDS[kind], instance, claim], LINE, room);
-    }
-
-    /** An answer to a query is a longer line than the query, and a potential or label may be one than an arc. */
-    solve(kind, instance, queries, limit) {
-        const rooms = [LINE + 4 * queries.length, LINE + instance.length, LINE + 2 * instance.length];
-        return this.#call("dimacs_solve", [KINDS[kind], instance, queries, limit], ...rooms);
-    }
-
-    convert(kind, text) {
-        return this.#call("dimacs_convert", [TEXTS[kind], text], LINE + text.length);
-    }
-
-    show(kind, text) {
-        return this.#call("dimacs_show", [TEXTS[kind], text], LINE);
-    }
-
-    /** The words of a command, and the texts that its files stand for. */
-    explain(command, first, second, third) {
-        return this.#call("dimacs_explain", [command, first, second, third], 16 * LINE);
+    /** The words of a command, and the texts that its files stand for, of which some may be missing. */
+    explain(command, texts) {
+        return this.#call("dimacs_explain", [command, ...[...texts, NONE, NONE].slice(0, 3)], [16 * LINE]);
     }
 }

@@ -7,9 +7,6 @@ import {DONE, LIMIT, TEXTS} from "./library.js";
 import {texts} from "./loaded.js";
 import {limitOf} from "./numbers.js";
 
-/** In place of a text that a call doesn't read. */
-const NONE = new Uint8Array(0);
-
 /** The printed lines of a call, and what else it handed out; throws what leaves the claim undecided. */
 function decided({status, handed: [printed, ...more]}, name, limit) {
     const lines = linesOf(printed);
@@ -18,8 +15,7 @@ function decided({status, handed: [printed, ...more]}, name, limit) {
 }
 
 /** What a call answers or refuses, kept with what it was asked of, and what it shows. */
-function asked(command, given, call) {
-    const read = given.filter((it) => it !== NONE);
+function asked(command, read, call) {
     try {
         const answer = call(), shown = answer instanceof Certified ? [answer.certificate] : [];
         return kept(answer, command, [...read, ...shown], "certificate");
@@ -30,14 +26,14 @@ function asked(command, given, call) {
 }
 
 function keepRefused(no, command, read) {
-    if (no instanceof Infeasible) return kept(no, command, [read[0], NONE, no.certificate], "certificate");
+    if (no instanceof Infeasible) return kept(no, command, [read[0], "", no.certificate], "certificate");
     const shown = no instanceof NotOptimal ? "better" : no instanceof Feasible ? "flow" : null;
     return kept(no, command, shown && no[shown] !== null ? [...read, no[shown]] : read, shown ?? "certificate");
 }
 
 function judge(kind, ...given) {
     return asked(`judge-${kind}`, given, () => {
-        const {status, lines} = decided(texts.judge(kind, ...given.map(bytesOf)));
+        const {status, lines} = decided(texts.run("judge", kind, given.map(bytesOf)));
         throwRefused(status, lines);
         return verdict(lines);
     });
@@ -45,28 +41,28 @@ function judge(kind, ...given) {
 
 export const judgeMax = (instance, solution, cut) => judge("max", instance, solution, cut);
 export const judgeMin = (instance, solution, potentials) => judge("min", instance, solution, potentials);
-export const judgeInfeasible = (instance, cut) => judge("infeasible", instance, NONE, cut);
+export const judgeInfeasible = (instance, cut) => judge("infeasible", instance, cut);
 export const judgePaths = (graph, queries, labels) => judge("paths", graph, queries, labels);
 
-/** A better flow has the form of the claim, and a certificate that of the instance. */
-function certify(kind, instance, claim, formOfFlow = claim) {
-    return asked(`certify-${kind}`, [instance, claim], () => {
-        const {status, lines, more: [shown]} = decided(texts.certify(kind, bytesOf(instance), bytesOf(claim)));
-        throwRefused(status, lines, () => (shown.length ? inFormOf(formOfFlow, shown) : null));
+/** A better flow has the form of the claim, if there is one, and a certificate that of the instance. */
+function certify(kind, ...given) {
+    return asked(`certify-${kind}`, given, () => {
+        const {status, lines, more: [shown]} = decided(texts.run("certify", kind, given.map(bytesOf)));
+        throwRefused(status, lines, () => (shown.length ? inFormOf(given.at(-1), shown) : null));
         const hasValue = kind === "max" || kind === "min";
-        return new Certified(hasValue ? verdict(lines).value : null, inFormOf(instance, shown));
+        return new Certified(hasValue ? verdict(lines).value : null, inFormOf(given[0], shown));
     });
 }
 
 export const certifyMax = (instance, solution) => certify("max", instance, solution);
 export const certifyMin = (instance, solution) => certify("min", instance, solution);
-export const certifyInfeasible = (instance) => certify("infeasible", instance, NONE, instance);
+export const certifyInfeasible = (instance) => certify("infeasible", instance);
 export const certifyPaths = (graph, distances) => certify("paths", graph, distances);
 
-function spread(kind, instance, solution) {
-    const {status, lines, more: [made]} = decided(texts.spread(kind, bytesOf(instance), bytesOf(solution)));
-    refusing(`spread-${kind}`, [instance, solution], status, lines);
-    return inFormOf(solution, made);
+function spread(kind, ...given) {
+    const {status, lines, more: [made]} = decided(texts.run("spread", kind, given.map(bytesOf)));
+    refusing(`spread-${kind}`, given, status, lines);
+    return inFormOf(given[1], made);
 }
 
 /** Throws the refusal of a call that hands out a text alone. */
@@ -77,12 +73,11 @@ function refusing(command, given, status, lines) {
 export const spreadMax = (instance, solution) => spread("max", instance, solution);
 export const spreadMin = (instance, solution) => spread("min", instance, solution);
 
-function solve(kind, instance, queries, limit) {
-    const most = limitOf(limit);
-    const answer = decided(texts.solve(kind, bytesOf(instance), bytesOf(queries), most), `solve_${kind}`, most);
-    const [solution, certificate] = answer.more.map((it) => inFormOf(instance, it));
-    const given = [instance, kind === "paths" ? queries : answer.status === DONE ? solution : NONE];
-    return asked(`solve-${kind}`, given, () => {
+function solve(kind, given, limit) {
+    const most = limitOf(limit), answer = decided(texts.run("solve", kind, given.map(bytesOf), most), `solve_${kind}`, most);
+    const [solution, certificate] = answer.more.map((it) => inFormOf(given[0], it));
+    const made = kind !== "paths" && answer.status === DONE ? [solution] : [];
+    return asked(`solve-${kind}`, [...given, ...made], () => {
         throwRefused(answer.status, answer.lines);
         const found = verdict(answer.lines), value = kind === "paths" ? null : found.value;
         if (found.kind === "infeasible") throw new Infeasible(certificate);
@@ -90,16 +85,16 @@ function solve(kind, instance, queries, limit) {
     });
 }
 
-export const solveMax = (instance, limit = LIMIT) => solve("max", instance, NONE, limit);
-export const solveMin = (instance, limit = LIMIT) => solve("min", instance, NONE, limit);
+export const solveMax = (instance, limit = LIMIT) => solve("max", [instance], limit);
+export const solveMin = (instance, limit = LIMIT) => solve("min", [instance], limit);
 
-export const solvePaths = (graph, queries) => solve("paths", graph, queries, LIMIT);
+export const solvePaths = (graph, queries) => solve("paths", [graph, queries], LIMIT);
 
 function printed(call, kind, text) {
     if (!Object.hasOwn(TEXTS, kind)) {
         throw new RangeError(`${kind} is no kind of text: these are ${Object.keys(TEXTS).join(", ")}`);
     }
-    const {status, handed: [out]} = texts[call](kind, bytesOf(text));
+    const {status, handed: [out]} = texts.run(call, kind, [bytesOf(text)]);
     refusing(`${call} ${kind}`, [text], status, linesOf(out));
     return inFormOf(text, out);
 }

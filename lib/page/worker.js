@@ -1,6 +1,6 @@
 // The worker: keeps the texts as bytes, and makes the calls.
 import {explanation} from "../js/explained.js";
-import {DONE, GAVE_UP, LIMIT, Library, Texts} from "../js/library.js";
+import {DONE, GAVE_UP, Library, Texts} from "../js/library.js";
 import {FORMATS} from "./kinds.js";
 
 /** Texts of more bytes are refused: an array of bytes can't be longer everywhere. */
@@ -13,7 +13,6 @@ const SHOWN_LINES = 100;
 
 /** The most bytes of a line that are looked at here. */
 const MOST_OF_LINE = 1000;
-const NONE = new Uint8Array(0);
 const NEWLINE = 10;
 
 /** How compressed files begin. Those by gzip are unpacked. */
@@ -29,7 +28,7 @@ const PACKED = {
 class Unreadable extends Error {}
 
 const latin = new TextDecoder("latin1"), utf8 = new TextEncoder();
-const EMPTY = {bytes: NONE, file: "", kind: null};
+const EMPTY = {bytes: new Uint8Array(0), file: "", kind: null};
 const held = {instance: EMPTY, claim: EMPTY, certificate: EMPTY};
 
 /** The calls, and the last run. */
@@ -180,20 +179,12 @@ function planned(what, kind, isAlone) {
     return plan;
 }
 
-/** The call of each command: its status, and the texts that it hands out, the printed one first. */
-const CALLS = {
-    judge: (kind, instance, ...more) => texts.judge(kind, instance, more.length > 1 ? more[0] : NONE, more.at(-1)),
-    certify: (kind, instance, claim = NONE) => texts.certify(kind, instance, claim),
-    solve: (kind, instance, queries = NONE) => texts.solve(kind, instance, queries, LIMIT),
-    show: (kind, instance) => texts.show(kind, instance),
-};
-
 /** A command as it is typed. */
 const typed = (verb, kind) => `${verb}${verb === "show" ? " " : "-"}${kind}`;
 
 /** Makes the call of a plan, and keeps what explains it. */
 function called({verb, kind, certificate, given}) {
-    const {status, handed: [printed, ...made]} = CALLS[verb](kind, ...given);
+    const {status, handed: [printed, ...made]} = texts.run(verb, kind, given);
     const isInfeasible = verb === "solve" && latin.decode(printed.subarray(0, 12)) === "v infeasible";
     const shows = isInfeasible ? "cut" : certificate, isMade = verb === "solve" || status !== DONE;
     const names = isMade ? ["solution", shows] : [shows];
@@ -250,7 +241,7 @@ const ANSWERS = {
         if (plan.missing) {
             const {missing, reads: [instance]} = plan;
             plan = {verb: "show", kind: instance.wanted, reads: [instance]};
-            if (texts.show(plan.kind, held.instance.bytes).status === DONE) throw new Unreadable(missing);
+            if (texts.run("show", plan.kind, [held.instance.bytes]).status === DONE) throw new Unreadable(missing);
         }
         const judged = plan.reads.map((it) => ({...it, ...held[it.slot]})), given = judged.map((it) => it.bytes);
         const begun = performance.now(), sums = given.map(sumOf);

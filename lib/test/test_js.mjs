@@ -241,12 +241,12 @@ const CASES = {
     },
     "a trap is an error, and its instance is dropped": () => {
         const texts = new Texts(new Library(failing(SOME_PLACE, TRAPS_FIRST)));
-        throws(() => texts.show("cut", bytes(CUT)), dimacs.Trapped);
-        throws(() => texts.show("cut", bytes(CUT)), dimacs.Trapped);
+        throws(() => texts.run("show", "cut", [bytes(CUT)]), dimacs.Trapped);
+        throws(() => texts.run("show", "cut", [bytes(CUT)]), dimacs.Trapped);
     },
     "memory that isn't there is an error": () => {
         for (const module of [failing(NO_PLACE, TRAPS_FIRST), failing(SOME_PLACE, NO_MEMORY)]) {
-            throws(() => new Texts(new Library(module)).show("cut", bytes(CUT)), dimacs.OutOfMemory);
+            throws(() => new Texts(new Library(module)).run("show", "cut", [bytes(CUT)]), dimacs.OutOfMemory);
         }
     },
     "answers over texts are explained": () => {
