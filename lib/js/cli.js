@@ -30,9 +30,6 @@ const FILES = {
     "spread-min": [2, [1]],
 };
 
-/** The verbs whose file has a kind before it. */
-const ONE_FILE = {convert: true, show: true};
-
 /** An I/O error: what failed, and how. */
 class Failure extends Error {
     constructor(name, call, why) {
@@ -63,7 +60,7 @@ function jobOf(words) {
 }
 
 function runOf([verb, ...rest]) {
-    if (Object.hasOwn(ONE_FILE, verb ?? "")) {
+    if (verb === "convert" || verb === "show") {
         const [kind, ...files] = rest;
         return files.length === 1 && Object.hasOwn(TEXTS, kind) ? {what: verb, kind, reads: files, writes: []} : null;
     }

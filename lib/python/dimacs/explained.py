@@ -27,10 +27,6 @@ _NAMES = {
 _KINDS = {"query": "query", "solution": "solution", "distances": "distances"}
 _KINDS |= dict.fromkeys(("max", "min", "gr"), "instance") | dict.fromkeys(("cut", "pot", "dist"), "certificate")
 
-#: How many texts a certifier reads, or a solver; 2 if it isn't here.
-_READ = {"certify_infeasible": 1}
-
-
 _Answer = TypeVar("_Answer", bound=Explainable)
 
 
@@ -195,7 +191,8 @@ class AskedOfArrays(Asked):
     def _told(self) -> list[str]:
         names = _NAMES[self._call].split()
         if not self._call.startswith("judge"):
-            names = [*names[: _READ.get(self._call, 2)], *(it for it in self._more if it == "better")]
+            read = 1 if self._call == "certify_infeasible" else 2
+            names = [*names[:read], *(it for it in self._more if it == "better")]
         try:
             texts = [self._text(it) for it in names]
         except PastLimit:

@@ -135,9 +135,8 @@ class Instance(Value):
     def to_frame(self) -> Any:
         """The arcs in a DataFrame of pandas, a row each: tail, head, and their numbers. The index has the numbers of arcs."""
         pandas = importlib.import_module("pandas")
-        by_arc = [_COLUMNS.get(name, name) for name in self.fields if name in _COLUMNS]
         columns = dict(zip(("tail", "head"), ([row[k] for row in self._listed()] for k in (0, 1))))
-        columns.update(zip(by_arc, (getattr(self, name) for name in self.fields if name in _COLUMNS)))
+        columns.update((_COLUMNS[name], getattr(self, name)) for name in self.fields if name in _COLUMNS)
         return pandas.DataFrame(columns, pandas.RangeIndex(1, len(self) + 1, name="arc"))
 
 
