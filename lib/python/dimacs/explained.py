@@ -256,7 +256,7 @@ class AskedOfArrays(Asked):
 
     def _notes(self, lines: list[str]) -> Iterator[str]:
         """What numbers in these lines are for the caller."""
-        names, units = self._given.names, self._given.units()
+        names, units = self._given.names, self._given.units
         if units:
             yield f"numbers are whole here: {self._scaled(*units)}"
         if type(names) is not Names:

@@ -143,7 +143,8 @@ class Given:
         """The arguments. Raises ValueError or TypeError if one of them has a wrong value, length or type."""
         numbers = {name: self._single(name, IDS) for name in self.form.numbers}
         self._count = {"nodes": numbers["nodes"]}
-        self._units = units_of(self._scale, self._groups)
+        #: The scales of amounts and costs, if numbers aren't whole.
+        self.units = units_of(self._scale, self._groups)
         for kind in self._raw:
             self._convert(kind)
         self._test_lengths()
@@ -179,11 +180,11 @@ class Given:
         numbers = self._raw[kind]
         wanted = f"an array of {self._count[kind.each]}" if kind.each in self._count else "an array"
         test_array(numbers, kind.items, kind.name, wanted)
-        if self._units and kind.unit:
-            scale, name = self._units.of(kind.unit), self._namer(kind)
+        if self.units and kind.unit:
+            scale, name = self.units.of(kind.unit), self._namer(kind)
             numbers = [scale.whole(it, partial(item, name, k)) for k, it in enumerate(gone_through(numbers, name))]
         self._buffers[kind.name] = found = self._buffer(kind, numbers)
-        if kind.items is LENGTHS and (self._units or self.names.has_inf_alone):
+        if kind.items is LENGTHS and (self.units or self.names.has_inf_alone):
             self._test_reached(kind, numbers)
         self._count.setdefault("arcs", found.length)  # one arc for each tail, which are the first
 
@@ -285,18 +286,18 @@ class Given:
     def _in_numbers(self, kind: Array, room: Room, came: Any) -> Any:
         if kind.items is IDS and self.names.base == 0:
             return room.in_form_of(came).astype("q") - 1 if is_numpy(came) else [it - 1 for it in room.items()]
-        if not (self._units and kind.unit):
+        if not (self.units and kind.unit):
             return room.in_form_of(came)
-        scale = self._units.of(kind.unit)
+        scale = self.units.of(kind.unit)
         is_distance = kind.items is LENGTHS
         shown = [math.inf if is_distance and it == UNREACHED else scale.shown(it) for it in room.items()]
         return sys.modules["numpy"].array(shown, "O") if is_numpy(came) else shown
 
     def value(self, number: int | None) -> Any:
         """The value of a maximum flow, or a cost, in the user's numbers."""
-        if self._units is None or number is None:
+        if self.units is None or number is None:
             return number
-        amount, cost = self._units
+        amount, cost = self.units
         return (amount if self.form is MAX else amount.times(cost)).shown(number)
 
     def value_of(self, flows: Sequence[int]) -> int:
@@ -316,13 +317,9 @@ class Given:
         ids = numpy.frombuffer(ctypes.string_at(buffer.address, buffer.length * kind.items.width), kind.items.code)
         return list(numpy.flatnonzero(ids == node).tolist())
 
-    def units(self) -> Any:
-        """The scales of amounts and costs, if numbers aren't whole."""
-        return self._units
-
     def amount(self, unit: str, number: int) -> Any:
         """A number of this unit, in the user's numbers."""
-        return self._units.of(unit).shown(number) if self._units else number
+        return self.units.of(unit).shown(number) if self.units else number
 
     @contextmanager
     def named(self, asked: Any = None) -> Iterator[None]:

@@ -30,18 +30,13 @@ def records(text: bytes) -> Iterator[Tuple[str, List[str]]]:
         yield letter, fields
 
 
-def counts_of(text: bytes) -> Tuple[int, int]:
-    """The two numbers of a problem line."""
-    _, fields = next(records(text))
-    return int(fields[1]), int(fields[2])
-
-
 # ---- instances
 
 
 def read_instance(kind: str, text: bytes, only: Iterable[int]) -> Network:
     """The part of an instance that is drawn: all of it, or only these nodes and their neighbours."""
-    network = Network(kind, *counts_of(text))
+    _, (_, nodes, arcs) = next(records(text))
+    network = Network(kind, int(nodes), int(arcs))
     drawn = _neighbourhood(network, text, set(only)) if only else _all_nodes(network, text)
     network.nodes = {node: Node() for node in sorted(drawn)}
     for letter, fields in records(text):
