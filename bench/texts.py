@@ -79,10 +79,6 @@ def declared(file):
     return [int(number) for number in problem.split()[2:]]
 
 
-def declared_arcs(file):
-    return declared(file)[1]
-
-
 def instance(kind, family, megabytes):
     """The file of an instance of a family."""
     make, *numbers = FAMILIES[kind][family][megabytes]

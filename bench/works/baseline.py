@@ -10,7 +10,7 @@ import subprocess
 from collections import namedtuple
 
 from measure import head, measure_in_turn, row, spread, wants
-from texts import declared_arcs, flow_texts, road_texts
+from texts import declared, flow_texts, road_texts
 
 SIZES, ROUNDS, PROGRAMS = "1,20,200", 5, ["baseline"]
 
@@ -31,7 +31,7 @@ class Work:
     def __init__(self, words, files, note="", other=None):
         self.words, self.files, self.name = words, files, " ".join(words) + note
         self.other = other or words + files
-        self.arcs = declared_arcs(files[0])
+        _, self.arcs = declared(files[0])
         self.megabytes = sum(map(os.path.getsize, files)) / 1e6
 
 

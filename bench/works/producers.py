@@ -12,7 +12,7 @@ import sys
 
 from measure import HERE, NO_SUCH_PROGRAM, OVER_LIMIT, PYTHON, Rounds, head, measure_in_turn, row, wants
 from measure import measure as run
-from texts import FAMILIES, claimed, declared_arcs, instance, labelled, queries, sources
+from texts import FAMILIES, claimed, declared, instance, labelled, queries, sources
 
 SIZES, ROUNDS, PROGRAMS = "1,20", 3, ["lemon", "boost", "igraph", "certify_paths"]
 
@@ -139,7 +139,7 @@ def measure_kind(asked, kind, megabytes):
     ratios = {name: [] for name in ours}
     for family, file in wanted:
         taken = measure_instance(kind, file, commands(asked.binary, kind, megabytes, file), asked.rounds)
-        arcs, solved, peer = declared_arcs(file), taken[ours[0]], fastest(taken)
+        (_, arcs), solved, peer = declared(file), taken[ours[0]], fastest(taken)
         memory = f"{solved.peak_bytes() / arcs:.0f}" if solved.runs else ""
         row(family, f"{arcs:,}", *(cell(taken, name, ours[0]) for name in ours + peers), memory)
         for name in ours:
