@@ -1,7 +1,7 @@
 //! Claims and certificates: queries, solutions, cuts, potentials and labels.
 
 use crate::network::NodeSet;
-use crate::text::{Declared, Reading, Record, Refusal, refuse};
+use crate::text::{refuse, Declared, Reading, Record, Refusal};
 
 /// Queries for all distances from some nodes.
 #[derive(Default)]
@@ -78,10 +78,7 @@ impl Reading for Solution {
             self.lines.push(line);
         }
         let numbers = &record.numbers;
-        self.entries.push(Entry {
-            ends: (numbers[0] as u32, numbers[1] as u32),
-            flow: numbers[2],
-        });
+        self.entries.push(Entry { ends: (numbers[0] as u32, numbers[1] as u32), flow: numbers[2] });
         Ok(())
     }
 
@@ -231,11 +228,7 @@ impl Labels {
         if self.last_block_is_short() {
             return refuse(0, "TooFew");
         }
-        self.blocks.push(Block {
-            source,
-            declared: numbers[1] as usize,
-            first_label: self.labels.len(),
-        });
+        self.blocks.push(Block { source, declared: numbers[1] as usize, first_label: self.labels.len() });
         self.labelled_in[source as usize] = self.blocks.len() as u32;
         Ok(())
     }
@@ -267,18 +260,12 @@ impl Labels {
         if distance.abs() >= 1 << 61 {
             beyond_61_bits();
         }
-        self.labels.push(Label {
-            distance: distance as i64,
-            id,
-            pred,
-        });
+        self.labels.push(Label { distance: distance as i64, id, pred });
         Ok(())
     }
 
     fn last_block_is_short(&self) -> bool {
-        self.blocks
-            .last()
-            .is_some_and(|block| self.labels.len() - block.first_label < block.declared)
+        self.blocks.last().is_some_and(|block| self.labels.len() - block.first_label < block.declared)
     }
 }
 

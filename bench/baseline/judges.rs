@@ -1,6 +1,6 @@
 //! The judges. A yes is what is printed, and so is a no: the line of the first fault or of the first test that fails.
 
-use crate::claims::{Cut, Labels, NO_DISTANCE, Potentials, Queries, Solution};
+use crate::claims::{Cut, Labels, Potentials, Queries, Solution, NO_DISTANCE};
 use crate::network::{ArcIndex, Network, NetworkKind};
 use crate::text::{self, Fault, Reading};
 use std::collections::HashSet;
@@ -10,10 +10,7 @@ pub type Outcome = Result<String, String>;
 
 /// The line of a text's fault.
 fn refusal_line(text: &str, fault: Fault) -> String {
-    format!(
-        "x {} {} {} {}\n",
-        text, fault.line, fault.refusal.field, fault.refusal.reason
-    )
+    format!("x {} {} {} {}\n", text, fault.line, fault.refusal.field, fault.refusal.reason)
 }
 
 fn at_arc(arc: usize, reason: &str) -> String {
@@ -97,12 +94,7 @@ fn test_cut(network: &Network, flows: &[i64], cut: &Cut) -> Result<(), String> {
 pub fn judge_min(instance: &str, solution: &str, potentials: &str) -> Outcome {
     let network = read_instance(NetworkKind::Min, instance)?;
     let solution = read("solution", text::SOLUTION, solution, Solution::default())?;
-    let potentials = read(
-        "certificate",
-        text::POTENTIALS,
-        potentials,
-        Potentials::default(),
-    )?;
+    let potentials = read("certificate", text::POTENTIALS, potentials, Potentials::default())?;
     let flows = flows_of(&network, &solution)?;
     test_bounds(&flows, network.bounds.iter().copied())?;
     let nets = nets_of(&network, &flows);
@@ -130,11 +122,7 @@ fn test_cost(network: &Network, flows: &[i64], solution: &Solution) -> Result<()
     Ok(())
 }
 
-fn test_reduced_costs(
-    network: &Network,
-    flows: &[i64],
-    potentials: &Potentials,
-) -> Result<(), String> {
+fn test_reduced_costs(network: &Network, flows: &[i64], potentials: &Potentials) -> Result<(), String> {
     if potentials.nodes() != network.nodes {
         return Err(at_certificate("NodesDiffer"));
     }
@@ -154,9 +142,7 @@ fn flows_of(network: &Network, solution: &Solution) -> Result<Vec<i64>, String> 
     let mut flows = vec![0i64; network.ends.len()];
     let entries = &solution.entries;
     let both = entries.iter().zip(&network.ends);
-    let in_order = both
-        .take_while(|&(entry, &ends)| entry.ends == ends)
-        .count();
+    let in_order = both.take_while(|&(entry, &ends)| entry.ends == ends).count();
     for (flow, entry) in flows.iter_mut().zip(&entries[..in_order]) {
         *flow = entry.flow;
     }
@@ -173,11 +159,7 @@ fn flows_of(network: &Network, solution: &Solution) -> Result<Vec<i64>, String> 
 
 /// Puts the entries that come after those in order on their arcs.
 fn put_others(
-    network: &Network,
-    index: &ArcIndex,
-    solution: &Solution,
-    in_order: usize,
-    flows: &mut [i64],
+    network: &Network, index: &ArcIndex, solution: &Solution, in_order: usize, flows: &mut [i64],
 ) -> Result<(), String> {
     let mut came = vec![0u32; network.ends.len()];
     for (k, entry) in solution.entries.iter().enumerate().skip(in_order) {
@@ -203,11 +185,7 @@ const NEAR: usize = 8;
 
 /// The same where no two arcs have the same ends. Most entries stand in the order of the arcs, with some left out.
 fn put_others_alone(
-    network: &Network,
-    index: &ArcIndex,
-    solution: &Solution,
-    in_order: usize,
-    flows: &mut [i64],
+    network: &Network, index: &ArcIndex, solution: &Solution, in_order: usize, flows: &mut [i64],
 ) -> Result<(), String> {
     let mut came = vec![false; network.ends.len()];
     came[..in_order].fill(true);
@@ -276,31 +254,18 @@ struct LabelledNode {
 }
 
 impl LabelledNode {
-    const NONE: LabelledNode = LabelledNode {
-        distance: NO_DISTANCE,
-        pred: 0,
-        has_arc: false,
-    };
+    const NONE: LabelledNode = LabelledNode { distance: NO_DISTANCE, pred: 0, has_arc: false };
 }
 
 /// Tests a block in one pass over the arcs, and leaves its labels in the table of nodes.
-fn test_block(
-    graph: &Network,
-    labels: &Labels,
-    block: usize,
-    nodes: &mut [LabelledNode],
-) -> Result<(), String> {
+fn test_block(graph: &Network, labels: &Labels, block: usize, nodes: &mut [LabelledNode]) -> Result<(), String> {
     if block > 0 {
         nodes.fill(LabelledNode::NONE);
     }
     let block = &labels.blocks[block];
     nodes[block.source as usize].distance = 0;
     for label in labels.labels_of(block) {
-        nodes[label.id as usize] = LabelledNode {
-            distance: label.distance,
-            pred: label.pred,
-            has_arc: false,
-        };
+        nodes[label.id as usize] = LabelledNode { distance: label.distance, pred: label.pred, has_arc: false };
     }
     let mut failed = None; // reported only if every label has its arc
     for (arc, &(tail, head)) in graph.ends.iter().enumerate() {

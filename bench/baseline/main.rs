@@ -19,8 +19,8 @@ mod network;
 mod output;
 mod text;
 
-use judges::{Outcome, judge_max, judge_min, judge_paths, read_instance};
-use network::{NetworkKind, print, summary};
+use judges::{judge_max, judge_min, judge_paths, read_instance, Outcome};
+use network::{print, summary, NetworkKind};
 
 fn main() {
     let words: Vec<String> = std::env::args().skip(1).collect();

@@ -16,11 +16,7 @@ pub struct Output {
 
 impl Output {
     pub fn new() -> Output {
-        Output {
-            stdout: std::io::stdout(),
-            buffer: vec![0; PIECE + LINE_ROOM],
-            length: 0,
-        }
+        Output { stdout: std::io::stdout(), buffer: vec![0; PIECE + LINE_ROOM], length: 0 }
     }
 
     pub fn text(&mut self, text: &str) {
@@ -58,10 +54,7 @@ impl Output {
     }
 
     pub fn flush(&mut self) {
-        let put = self
-            .stdout
-            .write_all(&self.buffer[..self.length])
-            .and_then(|_| self.stdout.flush());
+        let put = self.stdout.write_all(&self.buffer[..self.length]).and_then(|_| self.stdout.flush());
         if put.is_err() {
             device_fault();
         }
@@ -79,10 +72,7 @@ impl Output {
     fn digits(&mut self, value: u64) {
         let spread = spread_digits(value);
         let leading_zeros = (spread.trailing_zeros() & !7).min(56);
-        self.put(
-            (spread | ASCII_ZEROS) >> leading_zeros,
-            8 - leading_zeros as usize / 8,
-        );
+        self.put((spread | ASCII_ZEROS) >> leading_zeros, 8 - leading_zeros as usize / 8);
     }
 
     /// A number below 10^8, with leading zeros.

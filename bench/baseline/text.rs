@@ -52,38 +52,20 @@ const fn form(letter: u8, types: &'static [FieldType]) -> Form {
     Form { letter, types }
 }
 
-pub static MAX: Kind = &[
-    form(b'a', &[Id, Id, Whole]),
-    form(b'n', &[Id, Word(&["s", "t"])]),
-    form(b'p', &[Word(&["max"]), Nodes, Count]),
-];
+pub static MAX: Kind =
+    &[form(b'a', &[Id, Id, Whole]), form(b'n', &[Id, Word(&["s", "t"])]), form(b'p', &[Word(&["max"]), Nodes, Count])];
 pub static MIN: Kind = &[
     form(b'a', &[Id, Id, Whole, Whole, Whole]),
     form(b'n', &[Id, Whole]),
     form(b'p', &[Word(&["min"]), Nodes, Count]),
 ];
-pub static GRAPH: Kind = &[
-    form(b'a', &[Id, Id, Whole]),
-    form(b'p', &[Word(&["sp"]), Nodes, Count]),
-];
-pub static QUERIES: Kind = &[
-    form(b's', &[Id]),
-    form(b'p', &[Word(&["aux"]), Word(&["sp"]), Word(&["ss"]), Count]),
-];
+pub static GRAPH: Kind = &[form(b'a', &[Id, Id, Whole]), form(b'p', &[Word(&["sp"]), Nodes, Count])];
+pub static QUERIES: Kind = &[form(b's', &[Id]), form(b'p', &[Word(&["aux"]), Word(&["sp"]), Word(&["ss"]), Count])];
 pub static SOLUTION: Kind = &[form(b'f', &[Id, Id, Whole]), form(b's', &[Wide])];
-pub static CUT: Kind = &[
-    form(b'u', &[Id]),
-    form(b'p', &[Word(&["cut"]), Nodes, Count]),
-];
-pub static POTENTIALS: Kind = &[
-    form(b'y', &[Id, Wide]),
-    form(b'p', &[Word(&["pot"]), Nodes, Count]),
-];
-pub static LABELS: Kind = &[
-    form(b'd', &[Id, Wide, Id]),
-    form(b't', &[Id, Count]),
-    form(b'p', &[Word(&["dist"]), Nodes, Count]),
-];
+pub static CUT: Kind = &[form(b'u', &[Id]), form(b'p', &[Word(&["cut"]), Nodes, Count])];
+pub static POTENTIALS: Kind = &[form(b'y', &[Id, Wide]), form(b'p', &[Word(&["pot"]), Nodes, Count])];
+pub static LABELS: Kind =
+    &[form(b'd', &[Id, Wide, Id]), form(b't', &[Id, Count]), form(b'p', &[Word(&["dist"]), Nodes, Count])];
 
 const FIELDS_MAX: usize = 5;
 
@@ -156,22 +138,14 @@ pub fn read<R: Reading>(kind: Kind, path: &str, reading: &mut R) -> Result<(), F
 }
 
 /// The same, where `K` is the number of fields after the letter of a usual line.
-fn read_usual<R: Reading, const K: usize>(
-    kind: Kind,
-    path: &str,
-    reading: &mut R,
-) -> Result<(), Fault> {
+fn read_usual<R: Reading, const K: usize>(kind: Kind, path: &str, reading: &mut R) -> Result<(), Fault> {
     let usual = &kind[0];
     let mut is_id = [false; FIELDS_MAX];
     for i in 0..K {
         is_id[i] = matches!(usual.types[i], Id);
     }
     // beyond the fields where there is none
-    let wide_place = usual
-        .types
-        .iter()
-        .position(|t| matches!(t, Wide))
-        .unwrap_or(FIELDS_MAX);
+    let wide_place = usual.types.iter().position(|t| matches!(t, Wide)).unwrap_or(FIELDS_MAX);
     let mut window = Window::open(path);
     let mut line = 0;
     loop {
@@ -180,14 +154,8 @@ fn read_usual<R: Reading, const K: usize>(
             line += 1;
             window.skip(length);
             let wide = numbers.get(wide_place).map_or(0, |&number| number as i128);
-            let record = Record {
-                letter: usual.letter,
-                numbers,
-                wide,
-            };
-            reading
-                .take(&record, line)
-                .map_err(|refusal| Fault { line, refusal })?;
+            let record = Record { letter: usual.letter, numbers, wide };
+            reading.take(&record, line).map_err(|refusal| Fault { line, refusal })?;
         }
         if window.can_fill_up_to(room(K)) {
             continue;
@@ -198,10 +166,7 @@ fn read_usual<R: Reading, const K: usize>(
         line += 1;
         take_line(kind, bytes, reading, line).map_err(|refusal| Fault { line, refusal })?;
     }
-    reading.finish().map_err(|refusal| Fault {
-        line: line + 1,
-        refusal,
-    })
+    reading.finish().map_err(|refusal| Fault { line: line + 1, refusal })
 }
 
 /// Bytes that are looked at for a usual line: a letter, K times a blank, a sign and 16 digits, and a line end, with
@@ -213,9 +178,7 @@ const fn room(k: usize) -> usize {
 /// A usual line, and its length with its end: the letter, then K times a blank, an optional minus and 1 to 16 digits.
 #[inline(always)]
 fn usual_line<const K: usize>(
-    bytes: &[u8],
-    letter: u8,
-    is_id: &[bool; FIELDS_MAX],
+    bytes: &[u8], letter: u8, is_id: &[bool; FIELDS_MAX],
 ) -> Option<([i64; FIELDS_MAX], usize)> {
     if bytes.len() < room(K) || bytes[0] != letter {
         return None;
@@ -252,9 +215,7 @@ fn usual_line<const K: usize>(
     Some((numbers, at + 1))
 }
 
-static POWERS_OF_TEN: [u64; 9] = [
-    1, 10, 100, 1000, 10000, 100000, 1000000, 10000000, 100000000,
-];
+static POWERS_OF_TEN: [u64; 9] = [1, 10, 100, 1000, 10000, 100000, 1000000, 10000000, 100000000];
 
 /// What the digits at the beginning of eight bytes spell, and how many they are. There is no branch on their number: a
 /// loop over the digits mispredicts at the end of nearly every number.
@@ -267,19 +228,11 @@ fn leading_digits(bytes: &[u8], at: usize) -> (u64, usize) {
     // pairs of digits, then fours, then all eight
     let pairs = (digits & 0x0f0f0f0f0f0f0f0f).wrapping_mul(2561) >> 8;
     let fours = (pairs & 0x00ff00ff00ff00ff).wrapping_mul(6553601) >> 16;
-    (
-        (fours & 0x0000ffff0000ffff).wrapping_mul(42949672960001) >> 32,
-        count,
-    )
+    ((fours & 0x0000ffff0000ffff).wrapping_mul(42949672960001) >> 32, count)
 }
 
 /// Any line: skipped, refused, or given to the reading.
-fn take_line<R: Reading>(
-    kind: Kind,
-    bytes: &[u8],
-    reading: &mut R,
-    line: u64,
-) -> Result<(), Refusal> {
+fn take_line<R: Reading>(kind: Kind, bytes: &[u8], reading: &mut R, line: u64) -> Result<(), Refusal> {
     match record(kind, bytes)? {
         Some(record) => reading.take(&record, line),
         None => Ok(()),
@@ -290,9 +243,7 @@ fn record(kind: Kind, line: &[u8]) -> Result<Option<Record>, Refusal> {
     if line.len() > LINE_MAX {
         return refuse(0, "LineTooLong");
     }
-    let mut fields = line
-        .split(|&b| b == b' ' || b == 9 || b == 13)
-        .filter(|field| !field.is_empty());
+    let mut fields = line.split(|&b| b == b' ' || b == 9 || b == 13).filter(|field| !field.is_empty());
     let Some(first) = fields.next() else {
         return Ok(None);
     };
@@ -313,11 +264,7 @@ fn record(kind: Kind, line: &[u8]) -> Result<Option<Record>, Refusal> {
     if count != form.types.len() {
         return refuse(0, "FieldCount");
     }
-    let mut record = Record {
-        letter: form.letter,
-        numbers: [0; FIELDS_MAX],
-        wide: 0,
-    };
+    let mut record = Record { letter: form.letter, numbers: [0; FIELDS_MAX], wide: 0 };
     for (i, (&field_type, text)) in form.types.iter().zip(texts).enumerate() {
         let value = match field(field_type, text) {
             Ok(value) => value,
@@ -381,13 +328,7 @@ struct Window {
 impl Window {
     fn open(path: &str) -> Window {
         let file = File::open(path).unwrap_or_else(|_| device_fault());
-        Window {
-            file,
-            buffer: vec![0; 256 * 1024],
-            start: 0,
-            end: 0,
-            is_last: false,
-        }
+        Window { file, buffer: vec![0; 256 * 1024], start: 0, end: 0, is_last: false }
     }
 
     #[inline(always)]
