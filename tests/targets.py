@@ -198,8 +198,13 @@ explain spread-max examples/pipes.max examples/pipes.solution out
 explain show gr missing
 """
 
-# Names with blanks.
-SPREAD_OUT = ["explain", "certify-max", "examples/pipes.max", "examples/pipes-careless.solution", "one \tname"]
+# Names with blanks, and with what might stand in for one.
+ODD = {"two words": "pipes.max", "two\1words": "pipes-careless.solution", "two\twords": "pipes.cut"}
+ODDLY_NAMED = [
+    ["explain", "certify-max", "examples/pipes.max", "examples/pipes-careless.solution", "one \tname"],
+    ["explain", "judge-max", *ODD],
+    ["explain", "judge-max", *reversed(ODD)],
+]
 
 # What is run with an output that is full.
 FULL = ["help", "--version", "help help", "help show", "frobnicate", "show gr examples/road.gr", "show gr missing"]
@@ -208,11 +213,12 @@ FULL = ["help", "--version", "help help", "help show", "frobnicate", "show gr ex
 def outcome(words, room, **outputs):
     """The status, output, complaint and files of a command."""
     place = tempfile.mkdtemp(dir=room)
-    os.symlink(f"{TOP}/examples", f"{place}/examples")
+    for name, example in {"examples": "", **ODD}.items():
+        os.symlink(f"{TOP}/examples/{example}", f"{place}/{name}")
     outputs = {"stdout": subprocess.PIPE, "stderr": subprocess.PIPE} | outputs
     ran = subprocess.run(words, cwd=place, check=False, **outputs)
     files = {}
-    for name in set(os.listdir(place)) - {"examples"}:
+    for name in set(os.listdir(place)) - {"examples", *ODD}:
         with open(f"{place}/{name}", "rb") as it:
             files[name] = it.read()
     return ran.returncode, ran.stdout or b"", ran.stderr or b"", files
@@ -231,7 +237,7 @@ def compare_commands(tests, name, words, likened=lambda text: text):
         wanted, found = ((status, likened(out), likened(told), files) for status, out, told, files in ran)
         tests.expect(f"{name} {arguments}", found == wanted, f"{found}\nand not {wanted}")
 
-    words_alone = [*map(str.split, helped), *wrong, ["show", "gr", "two\nlines"], SPREAD_OUT]
+    words_alone = [*map(str.split, helped), *wrong, ["show", "gr", "two\nlines"], *ODDLY_NAMED]
     for it in [*over_examples[::every], *special, *words_alone]:
         compare(it)
     with open("/dev/full", "wb") as full:

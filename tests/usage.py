@@ -55,6 +55,7 @@ WRONG = [
     (["help", "a", "b"], "help takes 0 or 1 arguments: [COMMAND]; 2 were given", "help"),
     (["--help", "judge-max"], "--help comes alone", None),
     (["explain"], "explain takes a command and its files", "explain"),
+    (["explain", "--version"], "no command --version", None),
     (["explain", "help"], "explain takes a command that runs, and help doesn't", "explain"),
     ([b"judge-\xff"], "an argument isn't UTF-8", None),
     (["judge-max", "a", "b", b"\xff"], "an argument isn't UTF-8", None),

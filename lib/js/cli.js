@@ -148,19 +148,31 @@ function writeTexts(job, handed, created) {
     }
 }
 
-/** What stands for the blanks in a file's name, where blanks separate words: no line has it otherwise. */
-const BLANKS = [" ", "\t", "\r"], STAND_INS = ["\u0001", "\u0002", "\u0003"];
-
-/** How lines quote these, and a blank. */
-const QUOTED = ["\\x01", "\\x02", "\\x03"], SPACES = [" ", " ", " "];
+/** Blanks, which separate words. In a file's name others stand in for them, which lines show as they are. */
+const BLANKS = [" ", "\t", "\r"];
 
 const replaced = (text, from, to) => from.reduce((made, it, i) => made.replaceAll(it, to[i]), text);
 
+/** So many characters that stand in none of these texts. */
+function unusedIn(given, count) {
+    const found = [];
+    for (let code = 0xe000; found.length < count; code++) {
+        const it = String.fromCodePoint(code);
+        if (!given.some((text) => Buffer.from(text.buffer, text.byteOffset, text.length).includes(it))) found.push(it);
+    }
+    return found;
+}
+
 /** The lines of an answer, and those that explain it, over the texts that were read and those that were made. */
-function explained(texts, {explains}, read, made) {
-    const words = explains.map((it) => replaced(it, BLANKS, STAND_INS)).join(" ");
-    const {handed: [lines]} = texts.explain(Buffer.from(words), [...read, ...made]);
-    return replaced(Buffer.from(lines).toString(), QUOTED, SPACES);
+function explained(texts, {explains, reads}, read, made) {
+    const given = [...read, ...made], [a, b, c, ...ends] = unusedIn([Buffer.from(explains.join("")), ...given], 3 + reads.length);
+    const words = explains.map((it) => replaced(it, BLANKS, [a, b, c])), lasts = reads.map((it) => [...it].at(-1));
+    // A stream that is named once more has another text, so it takes another name.
+    reads.forEach((name, i) => {
+        if (reads.indexOf(name) < i) words[1 + i] = words[1 + i].slice(0, -lasts[i].length) + ends[i];
+    });
+    const {handed: [lines]} = texts.explain(Buffer.from(words.join(" ")), given);
+    return replaced(Buffer.from(lines).toString(), [a, b, c, ...ends], [" ", " ", " ", ...lasts]);
 }
 
 function run(texts, job) {

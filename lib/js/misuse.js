@@ -57,6 +57,7 @@ function misuseOf(commands, words) {
 function explainMisuse(commands, words) {
     const [name] = words, command = commands.get("explain");
     if (words.length === 0) return {line: "explain takes a command and its files", command};
+    if (name.startsWith("-")) return {line: unknown("command", name, [...commands.keys()])};
     const runs = !["explain", "help"].includes(name);
     return runs ? misuseOf(commands, words) : {line: `explain takes a command that runs, and ${name} doesn't`, command};
 }

@@ -69,6 +69,15 @@ help me
 """
 
 
+# Names with characters that separate words, or might stand in for these.
+ODD = {"two words.max": "pipes.max", "two\1words.max": "pipes-careless.solution", "two\twords.max": "pipes.cut"}
+NAMED = [
+    ["certify-max", "two words.max", "pipes.solution"],
+    ["judge-max", *ODD],
+    ["judge-max", *reversed(ODD)],
+]
+TWICE = ["judge-infeasible", "/dev/stdin", "/dev/stdin"]
+
 @unittest.skipUnless((TOP / "examples" / "pipes.max").is_file() and PROGRAM.is_file(), "no program or examples beside it")
 class Command(unittest.TestCase):
     def ran(self, *words):
@@ -77,8 +86,10 @@ class Command(unittest.TestCase):
             place = pathlib.Path(folder)
             for it in (TOP / "examples").glob("*.*"):
                 (place / it.name).symlink_to(it)
-            (place / "two words.max").symlink_to(TOP / "examples" / "pipes.max")
-            found = subprocess.run(words, cwd=place, capture_output=True, check=False)
+            for name, example in ODD.items():
+                (place / name).symlink_to(TOP / "examples" / example)
+            given = (place / "shortage.min").read_bytes()
+            found = subprocess.run(words, cwd=place, capture_output=True, check=False, input=given)
             files = {it.name: it.read_bytes() for it in place.iterdir() if not it.is_symlink()}
             return found.returncode, found.stdout, found.stderr, files
 
@@ -99,7 +110,14 @@ class Command(unittest.TestCase):
             if not line.startswith(("show", "convert")):
                 with self.subTest(line):
                     self.same("explain", *line.split())
-        self.same("explain", "certify-max", "two words.max", "pipes.solution")
+        for words in NAMED:
+            self.same("explain", *words)
+
+    def test_a_stream_that_is_named_twice(self):
+        """The program can't read a pipe again, to explain it. The answer is the same."""
+        for explain in [], ["explain"]:
+            theirs, ours = (self.ran(*it, *explain, *TWICE) for it in ([PROGRAM], [sys.executable, "-m", "dimacs"]))
+            self.assertEqual((ours[0], *ours[1].splitlines()[:1]), (theirs[0], *theirs[1].splitlines()[:1]))
 
     def test_arguments(self):
         """The messages differ: both begin alike, and ask for nothing."""

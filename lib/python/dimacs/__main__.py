@@ -7,6 +7,7 @@ more. Only the words about arguments are its own.
 from __future__ import annotations
 
 import difflib
+import itertools
 import re
 import signal
 import sys
@@ -143,15 +144,29 @@ def _run(job: _Job) -> int:
     return status
 
 
-#: What stands for the blanks in a file's name, where blanks separate words; and these again.
-_STAND_INS, _BLANKS = bytes.maketrans(b" \t\r", b"\1\2\3"), bytes.maketrans(b"\1\2\3", b" \t\r")
+#: Blanks separate words. In a file's name others stand in for them, which lines show as a blank.
+_BLANKS = " \t\r"
+
+
+def _unused_in(texts: Sequence[bytes], count: int) -> list[str]:
+    """So many characters that stand in none of these texts."""
+    unused = (chr(code) for code in range(0xE000, sys.maxunicode) if not any(chr(code).encode() in it for it in texts))
+    return list(itertools.islice(unused, count))
+
+
+def _encoded(words: Sequence[str]) -> bytes:
+    return " ".join(words).encode("utf-8", "surrogateescape")
 
 
 def _explained(job: _Job, texts: Sequence[bytes]) -> bytes:
-    command = b" ".join(it.encode("utf-8", "surrogateescape").translate(_STAND_INS) for it in job.explained)
-    given = [word for it in (command, *texts, b"", b"", b"") for word in bytes_of(it).words()][:8]
+    *ends, a, b, c = _unused_in([_encoded(job.explained), *texts], len(job.reads) + len(_BLANKS))
+    words, shown = [it.translate(str.maketrans(_BLANKS, a + b + c)) for it in job.explained], dict.fromkeys((a, b, c), " ")
+    for place, (name, end) in enumerate(zip(job.reads, ends)):
+        if name in job.reads[:place]:  # a stream has another text then, so it takes another name
+            words[1 + place], shown[end] = words[1 + place][:-1] + end, name[-1]
+    given = [word for it in (_encoded(words), *texts, b"", b"", b"") for word in bytes_of(it).words()][:8]
     _, lines = library.call(library.explain(), *given)
-    return lines.translate(_BLANKS)
+    return bytes(lines).decode().translate(str.maketrans(shown)).encode("utf-8", "surrogateescape")
 
 
 def _answered(words: list[str]) -> int:
