@@ -160,13 +160,15 @@ def _encoded(words: Sequence[str]) -> bytes:
 
 def _explained(job: _Job, texts: Sequence[bytes]) -> bytes:
     *ends, a, b, c = _unused_in([_encoded(job.explained), *texts], len(job.reads) + len(_BLANKS))
-    words, shown = [it.translate(str.maketrans(_BLANKS, a + b + c)) for it in job.explained], dict.fromkeys((a, b, c), " ")
+    words = [it.translate(str.maketrans(_BLANKS, a + b + c)) for it in job.explained]
+    shown = str.maketrans(a + b + c, "   ")
     for place, (name, end) in enumerate(zip(job.reads, ends)):
         if name in job.reads[:place]:  # a stream has another text then, so it takes another name
-            words[1 + place], shown[end] = words[1 + place][:-1] + end, name[-1]
+            words[1 + place] = words[1 + place][:-1] + end
+            shown[ord(end)] = ord(name[-1])
     given = [word for it in (_encoded(words), *texts, b"", b"", b"") for word in bytes_of(it).words()][:8]
     _, lines = library.call(library.explain(), *given)
-    return bytes(lines).decode().translate(str.maketrans(shown)).encode("utf-8", "surrogateescape")
+    return bytes(lines).decode().translate(shown).encode("utf-8", "surrogateescape")
 
 
 def _answered(words: list[str]) -> int:
