@@ -2,9 +2,9 @@
 """Has answers explained, a refusal for each reason: tests/explain.py [BINARY [COUNT [SEED]]]
 
 `dimacs explain WORDS ..` has to print first what `dimacs WORDS ..` prints, and to end with its status. Lines follow: of
-those after a refusal the case names parts, after a yes it has all, worked out by hand or by a second reader. No clause
-fixes the text of these lines. Then COUNT random instances, 150 by default, are solved, judged and certified, and the
-second reader has to write the same lines. BINARY is the built program; crates/dimacs/out/dimacs by default.
+those after a refusal the case names parts, after a yes it has all, worked out by hand. No clause fixes the text of these
+lines. Then COUNT random instances, 150 by default, are solved, judged and certified, and a second reader has to write
+the same lines. BINARY is the built program; crates/dimacs/out/dimacs by default.
 """
 import contextlib
 import os
@@ -147,8 +147,7 @@ CASES = [
 LEFT_OUT = {"ParallelArc", "LineLimit"}
 
 
-# Words, texts of this case, and all lines that explain its yes: worked out by hand, or those of the second reader.
-READ = None
+# Words, texts of this case, and all lines that explain its yes.
 FAR = "p sp 9 9\n" + "".join(f"a {k} {k + 1} {k}\n" for k in range(1, 9)) + "a 1 9 99\n"
 FAR_CLAIM = "p distances 9 1\nt 1 8\n" + "".join(f"d {k + 1} {k * (k + 1) // 2}\n" for k in range(1, 9))
 OUT = NEAR.replace("a 3 4 0", "a 4 3 0")
@@ -162,7 +161,14 @@ arcs out of it, all full: 2
 4 + 2 = 6, the value of the flow: all flow to the sink has to cross these arcs, so none has a greater value
 """),
     # Arc 2, back into the set, is empty.
-    ("judge-max I S C", {"I": "p max 3 3\nn 1 s\nn 3 t\na 1 2 5\na 3 1 7\na 2 3 2\n", "S": "s 2\nf 1 2 2\nf 2 3 2\n", "C": "p cut 3 2\nu 1\nu 2\n"}, READ),
+    ("judge-max I S C", {"I": "p max 3 3\nn 1 s\nn 3 t\na 1 2 5\na 3 1 7\na 2 3 2\n", "S": "s 2\nf 1 2 2\nf 2 3 2\n", "C": "p cut 3 2\nu 1\nu 2\n"}, """\
+on the source's side of the cut, 2 of the 3 nodes: 1 2
+arcs into it, all empty: 1
+  arc 2: 3 -> 1, FLOW 0
+arcs out of it, all full: 1
+  arc 3: 2 -> 3, CAP 2
+2, the value of the flow: all flow to the sink has to cross these arcs, so none has a greater value
+"""),
     # Eight arcs leave: two of them aren't shown, and carry 7 + 8.
     ("certify-max I S", {"I": "p max 2 8\nn 1 s\nn 2 t\n" + "".join(f"a 1 2 {k}\n" for k in range(1, 9)), "S": "s 36\n" + "".join(f"f 1 2 {k}\n" for k in range(1, 9))}, """\
 on the source's side of the cut, 1 of the 2 nodes: 1
@@ -200,7 +206,16 @@ no arc with flow has a COST: the cost is 0
 some of these numbers don't fit 128 bits, so they are left out
 another flow of this cost can differ only on arcs with r = 0, 1 of 1: 1
 """),
-    ("judge-infeasible I C", {"I": "p min 3 3\nn 1 5\nn 3 -5\na 1 2 0 4 0\na 2 1 1 2 0\na 2 3 0 9 0\n", "C": CUT.replace("4", "3")}, READ),
+    ("judge-infeasible I C", {"I": "p min 3 3\nn 1 5\nn 3 -5\na 1 2 0 4 0\na 2 1 1 2 0\na 2 3 0 9 0\n", "C": CUT.replace("4", "3")}, """\
+in the set, 1 of the 3 nodes: 1
+its supply: 5
+arcs out of it: 1
+  arc 1: 1 -> 2, CAP 4
+arcs into it: 1
+  arc 2: 2 -> 1, LOW 1
+these bounds add up to 4 out of it, and 1 into it
+so what leaves it, less what enters it, is at most 4 - 1 = 3, but has to be its supply, 5: no flow is feasible
+"""),
     # Node 1 takes 5, and at most 4 can come.
     ("certify-infeasible I", {"I": "p min 2 2\nn 1 -5\nn 2 5\na 2 1 0 4 0\na 1 2 1 2 0\n"}, """\
 in the set, 1 of the 2 nodes: 2
@@ -212,15 +227,30 @@ arcs into it: 1
 these bounds add up to 4 out of it, and 1 into it
 so what leaves it, less what enters it, is at most 4 - 1 = 3, but has to be its supply, 5: no flow is feasible
 """),
-    ("judge-infeasible I C", {"I": "p min 2 2\nn 1 -5\nn 2 5\na 2 1 0 4 0\na 1 2 1 2 0\n", "C": CUT.replace("4", "2")}, READ),
+    ("judge-infeasible I C", {"I": "p min 2 2\nn 1 -5\nn 2 5\na 2 1 0 4 0\na 1 2 1 2 0\n", "C": CUT.replace("4", "2")}, """\
+in the set, 1 of the 2 nodes: 1
+its supply: -5
+arcs out of it: 1
+  arc 2: 1 -> 2, LOW 1
+arcs into it: 1
+  arc 1: 2 -> 1, CAP 4
+these bounds add up to 1 out of it, and 4 into it
+so what leaves it, less what enters it, is at least 1 - 4 = -3, but has to be its supply, -5: no flow is feasible
+"""),
     ("judge-paths G Q L", {"G": OUT, "Q": "p aux sp p2p 3\nq 1 3\nq 1 1\nq 1 4\n", "L": "p dist 4 1\nt 1 2\nd 2 5 1\nd 3 9 2\n"}, f"""\
 1 -> 2 -> 3: 5 + 4 = 9
 1 to itself, without an arc: 0
 no walk from 1 to 4: no arc leads out of the nodes that 1 reaches, 3: 1 2 3
 {explained_yes.SHORTEST}
 """),
-    ("judge-paths G Q L", {"G": NEAR, "Q": "p aux sp p2p 1\nq 1 3\n", "L": "p dist 4 1\nt 1 1 6\nd 2 5 1\n"}, READ),
-    ("judge-paths G Q L", {"G": OUT, "L": "p dist 4 2\nt 1 2\nd 2 5 1\nd 3 9 2\nt 4 1\nd 3 0 4\n"}, READ),
+    ("judge-paths G Q L", {"G": NEAR, "Q": "p aux sp p2p 1\nq 1 3\n", "L": "p dist 4 1\nt 1 1 6\nd 2 5 1\n"}, """\
+no walk from 1 to 3 weighs at most 6, the RADIUS: each arc from a node with a label to one without leads past it, and no WEIGHT is negative
+"""),
+    ("judge-paths G Q L", {"G": OUT, "L": "p dist 4 2\nt 1 2\nd 2 5 1\nd 3 9 2\nt 4 1\nd 3 0 4\n"}, f"""\
+the farthest node from 1, of 2 that it reaches: 1 -> 2 -> 3: 5 + 4 = 9
+the other nodes can't be reached: no arc leads to them from these
+{explained_yes.SHORTEST}
+"""),
     # Eight arcs: 1 + 2 + 3 + 4 + 5 + 6, then 7 + 8.
     ("certify-paths G D", {"G": FAR, "D": FAR_CLAIM}, f"""\
 the farthest node from 1, of 8 that it reaches: 1 -> 2 -> 3 -> 4 -> 5 -> 6 -> 7 -> .. -> 9: 1 + 2 + 3 + 4 + 5 + 6 + 15 = 36
@@ -277,18 +307,8 @@ def fault_of(binary, case):
     return None
 
 
-def read_lines(command, texts):
-    """What the second reader explains of the texts of a judge's yes."""
-    readers = {"max": explained_yes.maximum, "min": explained_yes.least, "infeasible": explained_yes.infeasible}
-    reader = readers.get(command, explained_yes.distances)
-    return "".join(f"{line}\n" for line in reader(*texts))
-
-
 def yes_fault(binary, words, texts, lines):
     """What is wrong with the explanation of a yes; none if nothing is."""
-    if lines is READ:
-        judge, *names = words.split()
-        lines = read_lines(judge.removeprefix("judge-"), [{**TEXTS, **texts}[it] for it in names])
     plain, again = explained(binary, words, texts)
     is_right = (plain.returncode, again.returncode, again.stdout) == (0, 0, plain.stdout + lines.encode())
     return None if is_right else f"status {again.returncode}, prints\n{again.stdout.decode()}"
@@ -342,21 +362,25 @@ def reader_faults(binary, count, seed):
 
 def texts_faults(binary, place, kind):
     """Solves the instance I, or answers the queries C, then judges and certifies what was written."""
-    solve = f"solve-{kind} I C K"
-    given = "I C"
-    if run(binary, f"explain {solve}", place).stdout.startswith(b"v infeasible"):
-        kind, given = "infeasible", "I"
-    judge, certify = f"judge-{kind} {given} K", f"certify-{kind} {given}"
-    if kind == "paths":
+    first = run(binary, f"explain solve-{kind} I C K", place).stdout.decode()
+    runs = [(f"solve-{kind} I C K", "K"), (f"judge-{kind} I C K", "K")]
+    reader = {"max": explained_yes.maximum, "min": explained_yes.least, "paths": explained_yes.distances}[kind]
+    if first.startswith("v infeasible"):
+        runs = [(f"solve-{kind} I C K", "K"), ("judge-infeasible I K", "K"), ("certify-infeasible I A", "A"), ("certify-infeasible I", "A")]
+        reader = explained_yes.infeasible
+    elif kind == "paths":
         place.write("D", explained_yes.distances_text(place.read("K")))
         place.write("N", "")
-        certify = "certify-paths I D"
-    for words, certificate in ((solve, "K"), (judge, "K"), (f"{certify} A", "A"), (certify, "A")):
+        runs += [("certify-paths I D A", "A"), ("certify-paths I D", "A")]
+    else:
+        runs += [(f"certify-{kind} I C A", "A"), (f"certify-{kind} I C", "A")]
+    for words, certificate in runs:
         plain = run(binary, words, place).stdout.decode()
         printed = run(binary, f"explain {words}", place).stdout.decode()
-        names = "I N" if words.startswith("certify-paths") else given
-        texts = [*map(place.read, [*names.split(), certificate])]
-        lines = read_lines(kind, texts)
+        claim = "N" if words.startswith("certify-paths") else "C"
+        names = ["I", certificate] if reader is explained_yes.infeasible else ["I", claim, certificate]
+        texts = [*map(place.read, names)]
+        lines = "".join(f"{line}\n" for line in reader(*texts))
         yield None if printed == plain + lines else f"{words}: {texts}\n{printed}instead of\n{plain}{lines}"
 
 
