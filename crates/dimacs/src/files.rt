@@ -6,8 +6,8 @@ ghost use Rattle.dimacs_lines.specs.Devices.{one_more};
 ghost use Rattle.dimacs_runs.specs.Judgings.{CountsDevices};
 
 use crate::kept::{Again, KeptTexts, ReadFile};
-use dimacs_explain::Reopen;
 use dimacs_lines::{FileSink, FileSource};
+use dimacs_quote::Reopen;
 use dimacs_runs::{Files, RunError};
 use std::fs::File;
 use std::io::ErrorKind;

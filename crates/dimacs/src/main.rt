@@ -12,11 +12,10 @@ mod usage;
 use crate::files::SystemFiles;
 use crate::misuse::{complaint_of, complaint_of_bytes};
 use crate::usage::Command;
-use dimacs_explain::{ReportKeeper, explain_job};
 use dimacs_lines::{FileSink, Sink, put_all};
 use dimacs_runs::{
-    CommandError, Failure, NO_RUN, Request, RunError, Status, command_status, complaint,
-    exit_status, request, run_job, version,
+    CommandError, Failure, NO_RUN, ReportKeeper, Request, RunError, Status, command_status,
+    complaint, exit_status, explain_job, request, run_job, version,
 };
 use std::alloc::{AllocError, Global};
 use std::fs::File;

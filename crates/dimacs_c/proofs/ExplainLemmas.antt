@@ -9,7 +9,7 @@ use Rattle.dimacs_runs.specs.declared.text.TextForm.TheVariants.{Canonical, Summ
 use Rattle.dimacs_runs.specs.Commands.{Reporting, ReportsJudged, ReportsOne, RunsFiles, RunsJob, Seen, accepted_after, plan_of, reads, seen_by}
 use Rattle.dimacs_runs.specs.Files.{FilesSeen, WrittenFile}
 use Rattle.dimacs_runs.specs.Runs.{Prints}
-use Rattle.dimacs_explain.specs.Explained.{MayFollow}
+use Rattle.dimacs_runs.specs.Explained.{MayFollow}
 use Rattle.dimacs_c.specs.Explained.{Reported, ReportsJob, printing}
 use Rattle.dimacs_c.proofs.CallLemmas.{bytes_of}
 

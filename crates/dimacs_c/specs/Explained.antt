@@ -11,7 +11,7 @@ use Rattle.dimacs_runs.specs.Commands.{Reporting, ReportsJudged, ReportsOne, Run
 use Rattle.dimacs_runs.specs.Jobs.{Asks}
 use Rattle.dimacs_runs.specs.Outcomes.{status_number}
 use Rattle.dimacs_runs.specs.Runs.{Prints}
-use Rattle.dimacs_explain.specs.Explained.{is_explained}
+use Rattle.dimacs_runs.specs.Explained.{is_explained}
 use Rattle.dimacs_c.specs.Calls.{Handed, HandsNothing, HandsOut}
 
 -- the words of a command: its fields, as text

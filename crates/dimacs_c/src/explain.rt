@@ -7,9 +7,8 @@ ghost use Rattle.dimacs_c.specs.Explained.{AnswersCommand, file_words, words};
 
 use crate::answer::{end, misuse};
 use crate::named_texts::NamedTexts;
-use dimacs_explain::{ReportKeeper, explain_job};
 use dimacs_lines::{MemorySink, fields};
-use dimacs_runs::{RunError, job};
+use dimacs_runs::{ReportKeeper, RunError, explain_job, job};
 use std::alloc::{AllocError, Global};
 
 /// Runs a command over texts, and explains what it answers, as `dimacs explain`. The words of `command` that name files

@@ -64,7 +64,7 @@ pub(crate) fn put_yes<K: Sink>(sink: &mut K, verdict: &Verdict) -> Result<u32, D
 }
 
 /// Writes the line of a test that fails.
-pub(crate) fn put_no<K: Sink>(
+pub(crate) fn put_refusal<K: Sink>(
     sink: &mut K,
     place: Where,
     reason: Reason,
@@ -109,7 +109,7 @@ pub(crate) fn put_error<K: Sink>(sink: &mut K, error: ArrayError) -> Result<u32,
     ensures line { Puts result (K.seen sink.old) (error_line error) (K.seen sink.new) }
 {
     match error {
-        ArrayError::Refused(place, reason) => put_no(sink, place, reason),
+        ArrayError::Refused(place, reason) => put_refusal(sink, place, reason),
         ArrayError::Limit(place, reason) => {
             put_failure(sink, place, reason)?;
             Ok(MISUSED)

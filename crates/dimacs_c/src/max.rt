@@ -7,7 +7,7 @@ ghost use Rattle.dimacs_c.specs.Arrays.{AnswersItems, AnswersLine, max_found, ma
 ghost use Rattle.dimacs_c.specs.Calls.{handed};
 
 use crate::answer::hand_printed;
-use crate::lines::{WHOLE_FLOW, hand_judged, put_error, put_no, put_unsolved, put_yes};
+use crate::lines::{WHOLE_FLOW, hand_judged, put_error, put_refusal, put_unsolved, put_yes};
 use dimacs_arrays::{
     ArrayError, MaxArrays, MaxCertified, MaxSolved, certify_max_arrays, judge_max_arrays,
     solve_max_arrays,
@@ -69,7 +69,7 @@ fn put_certified<K: Sink>(
 {
     match answer {
         Ok(MaxCertified::Optimal { value, .. }) => put_yes(sink, &Verdict::Max(*value)),
-        Ok(MaxCertified::Better(_)) => put_no(sink, WHOLE_FLOW, Reason::NotMaximum),
+        Ok(MaxCertified::Better(_)) => put_refusal(sink, WHOLE_FLOW, Reason::NotMaximum),
         Err(error) => put_error(sink, *error),
     }
 }

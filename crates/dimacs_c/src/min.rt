@@ -7,7 +7,7 @@ ghost use Rattle.dimacs_c.specs.Arrays.{AnswersItems, AnswersLine, min_found, mi
 ghost use Rattle.dimacs_c.specs.Calls.{handed};
 
 use crate::answer::hand_printed;
-use crate::lines::{WHOLE_FLOW, hand_judged, put_error, put_no, put_unsolved, put_yes};
+use crate::lines::{WHOLE_FLOW, hand_judged, put_error, put_refusal, put_unsolved, put_yes};
 use dimacs_arrays::{
     ArrayError, MinArrays, MinCertified, MinSolved, certify_min_arrays, judge_min_arrays,
     solve_min_arrays,
@@ -75,7 +75,7 @@ fn put_certified<K: Sink>(
     match answer {
         Ok(MinCertified::Optimal { cost, .. }) => put_yes(sink, &Verdict::Min(*cost)),
         Ok(MinCertified::Wide { .. }) => put_unsolved(sink),
-        Ok(MinCertified::Better(_)) => put_no(sink, WHOLE_FLOW, Reason::NotLeast),
+        Ok(MinCertified::Better(_)) => put_refusal(sink, WHOLE_FLOW, Reason::NotLeast),
         Err(error) => put_error(sink, *error),
     }
 }

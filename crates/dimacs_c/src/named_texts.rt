@@ -4,8 +4,8 @@ ghost use Rattle.std.specs.Prelude.{◌≡◌, ◌∷◌, [], None, Some, map};
 ghost use Rattle.std.specs.String.{string_bytes};
 ghost use Rattle.dimacs_c.specs.Explained.{text_named};
 
-use dimacs_explain::Reopen;
 use dimacs_lines::{DeviceFault, MemorySource, Sink};
+use dimacs_quote::Reopen;
 use dimacs_runs::{Files, RunError};
 
 /// Three texts, with the names of the first files of a command.

@@ -7,7 +7,7 @@ ghost use Rattle.dimacs_c.specs.Calls.{handed};
 ghost use Rattle.dimacs_c.specs.inside.Reading.{EndsUnfilled, EndsUnread};
 
 use crate::answer::{NO_MEMORY, hand_printed, misuse};
-use crate::lines::put_no;
+use crate::lines::put_refusal;
 use dimacs_fill::FillError;
 use dimacs_judging::Where;
 use dimacs_lines::{DeviceFault, MemorySink, Sink};
@@ -66,7 +66,7 @@ pub(crate) fn end_unfilled(
         FillError::Unread(error) => end_unread(alloc, text, error, out, needed),
         FillError::Node(id, reason) => {
             let mut line = MemorySink::new(alloc);
-            let status = put_no(&mut line, Where::Node(id), reason);
+            let status = put_refusal(&mut line, Where::Node(id), reason);
             hand_printed(status, line.bytes(), out, needed)
         }
     }

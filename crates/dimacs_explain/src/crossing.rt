@@ -1,12 +1,11 @@
 //! What crosses the border of a set: a tight cut shows that a flow is maximum, a violated set that none is feasible.
 
-use crate::lookups::Wanted;
-use crate::page::{Page, Reopen, Said};
-use crate::sentence::say;
+use crate::explanation::Explanation;
 use crate::sums::Sum;
 use dimacs_claims::{Cut, read_cut};
 use dimacs_instance::MinInstance;
 use dimacs_network::{ArcView, Network};
+use dimacs_quote::{Reopen, Said, Wanted, say};
 use dimacs_records::End;
 use std::alloc::Global;
 
@@ -78,10 +77,10 @@ fn supply_of<N: Network>(alloc: Global, instance: &MinInstance<N>, set: &Cut) ->
     sum
 }
 
-impl<'a, A: Reopen> Page<'a, A> {
+impl<'a, A: Reopen> Explanation<'a, A> {
     /// Explains a maximum flow by a cut that is tight for it.
     pub(crate) fn explain_maximum<N: Network>(&mut self, network: &N, cut: &Cut) {
-        let all = Crossing::of(self.alloc, network, cut, Limit::Tight);
+        let all = Crossing::of(self.page.alloc, network, cut, Limit::Tight);
         say!(self; "on the source's side of the cut, ");
         self.write_set(cut);
         self.write_lines("arcs into it, all empty", &all.entering);
@@ -96,17 +95,17 @@ impl<'a, A: Reopen> Page<'a, A> {
     /// Explains by a violated set that no flow is feasible.
     pub(crate) fn explain_infeasible<N: Network>(&mut self, instance: &MinInstance<N>, set: &Cut) {
         let network = instance.network();
-        let supply = supply_of(self.alloc, instance, set);
+        let supply = supply_of(self.page.alloc, instance, set);
         say!(self; "in the set, ");
         self.write_set(set);
         say!(self; "its supply: ");
         self.write_sum(&supply);
         say!(self; "\n");
-        let most = Crossing::of(self.alloc, network, set, Limit::Most);
+        let most = Crossing::of(self.page.alloc, network, set, Limit::Most);
         if supply.sum() > most.net() {
             return self.write_crossing(&most, "at most", supply.sum());
         }
-        let least = Crossing::of(self.alloc, network, set, Limit::Least);
+        let least = Crossing::of(self.page.alloc, network, set, Limit::Least);
         self.write_crossing(&least, "at least", supply.sum());
     }
 
@@ -125,10 +124,10 @@ impl<'a, A: Reopen> Page<'a, A> {
 
     /// Explains that the cut lacks the source, or has the sink.
     pub(crate) fn explain_end(&mut self, node: u32, end: End) -> Said<'a> {
-        let (instance, cut) = (self.texts.instance()?, self.texts.certificate()?);
-        self.quote(instance, Wanted::End(end))?;
+        let (instance, cut) = (self.page.texts.instance()?, self.page.texts.certificate()?);
+        self.page.quote(instance, Wanted::End(end))?;
         let sink = self.end_of(End::Sink)?;
-        let has_sink = self.quote(cut, Wanted::Node(sink))?.is_some();
+        let has_sink = self.page.quote(cut, Wanted::Node(sink))?.is_some();
         if node == sink {
             say!(self; "node {} is the sink, and the cut holds it\n", node);
             return Ok(());
@@ -144,12 +143,14 @@ impl<'a, A: Reopen> Page<'a, A> {
 
     /// Explains why a set isn't violated.
     pub(crate) fn explain_violation(&mut self) -> Said<'a> {
-        let text = self.texts.certificate()?;
-        let set = read_cut(self.alloc, &mut self.source(text)?).map_err(|_| text.unread())?;
+        let text = self.page.texts.certificate()?;
+        let set = read_cut(self.page.alloc, &mut self.page.source(text)?).map_err(
+            |_| text.unread(),
+        )?;
         let min = self.min_instance()?;
-        let supply = supply_of(self.alloc, &min, &set).sum();
-        let least = Crossing::of(self.alloc, min.network(), &set, Limit::Least).net();
-        let most = Crossing::of(self.alloc, min.network(), &set, Limit::Most).net();
+        let supply = supply_of(self.page.alloc, &min, &set).sum();
+        let least = Crossing::of(self.page.alloc, min.network(), &set, Limit::Least).net();
+        let most = Crossing::of(self.page.alloc, min.network(), &set, Limit::Most).net();
         say!(self; "the set in {} supplies {}, and its arcs can carry {} to {} out of it: it would show that no flow is feasible if it supplied less than {} or more than {}\n",
             text, supply, least, most, least, most);
         self.write_open()

@@ -1,11 +1,11 @@
 //! Finds a negative cycle, which leaves nodes without a distance.
 
-use crate::page::{Page, Reopen, Said};
-use crate::sentence::say;
+use crate::explanation::Explanation;
 use crate::sums::Sum;
 use dimacs_instance::read_plain_graph;
 use dimacs_lines::Memory;
 use dimacs_network::{ArcView, Network, NodeMap};
+use dimacs_quote::{Reopen, Said, say};
 use std::alloc::Global;
 
 /// The most arcs that are looked at, again and again, to find a cycle.
@@ -123,14 +123,14 @@ fn negative_cycle<N: Network>(
     Ok(Vec::new(alloc))
 }
 
-impl<'a, A: Reopen> Page<'a, A> {
+impl<'a, A: Reopen> Explanation<'a, A> {
     /// Writes a negative cycle that a source reaches, if one is found.
     pub(crate) fn write_cycle(&mut self, source: u32) -> Said<'a> {
-        let text = self.texts.instance()?;
-        let graph = read_plain_graph(self.alloc, &mut self.source(text)?);
+        let text = self.page.texts.instance()?;
+        let graph = read_plain_graph(self.page.alloc, &mut self.page.source(text)?);
         let graph = graph.map_err(|_| text.unread())?;
-        let mut weights = Sum::new(self.alloc);
-        for IndexedArc { index, arc } in negative_cycle(self.alloc, graph.network(), source)? {
+        let mut weights = Sum::new(self.page.alloc);
+        for IndexedArc { index, arc } in negative_cycle(self.page.alloc, graph.network(), source)? {
             weights.add_arc(index, arc, ("WEIGHT", arc.cost));
         }
         if weights.count > 0 {

@@ -1,13 +1,12 @@
 //! Explains the tests of a flow's arcs and nodes.
 
-use crate::forms::range_of;
+use crate::explanation::Explanation;
 use crate::least_cost::{paid_bound, reduced_cost};
-use crate::lookups::{Wanted, arc_of, entry_between};
-use crate::page::{Page, Read, Reopen, Said, Stop};
-use crate::sentence::{ending, say};
 use crate::sums::Sum;
-use crate::texts::TextFile;
 use dimacs_network::ArcView;
+use dimacs_quote::{
+    Read, Reopen, Said, Stop, TextFile, Wanted, arc_of, ending, entry_between, range_of, say,
+};
 use dimacs_records::{Reason, Record, TextKind};
 
 /// The arcs from one node to another.
@@ -42,12 +41,12 @@ pub(crate) struct NodeFlow {
     pub(crate) into: Sum,
 }
 
-impl<'a, A: Reopen> Page<'a, A> {
+impl<'a, A: Reopen> Explanation<'a, A> {
     /// The arcs between two nodes, and how many come before the arc with this number, from 1.
     pub(crate) fn parallel(&self, tail: u32, head: u32, number: u32) -> Read<'a, Parallel> {
         let mut parallel = Parallel::default();
         let mut seen = 0u32;
-        for (_, record) in self.lines(self.texts.instance()?)? {
+        for (_, record) in self.page.lines(self.page.texts.instance()?)? {
             if let Some(arc) = record.and_then(arc_of) {
                 seen = seen.saturating_add(1);
                 if arc.tail == tail && arc.head == head {
@@ -61,7 +60,7 @@ impl<'a, A: Reopen> Page<'a, A> {
     /// The sum of the entries with these ends.
     fn entry_sum(&self, tail: u32, head: u32) -> Read<'a, i128> {
         let mut sum = 0i128;
-        for (_, record) in self.lines(self.texts.claim()?)? {
+        for (_, record) in self.page.lines(self.page.texts.claim()?)? {
             if let Some(flow) = record.and_then(|it| entry_between(it, tail, head)) {
                 sum = sum.saturating_add(i128::from(flow));
             }
@@ -71,9 +70,9 @@ impl<'a, A: Reopen> Page<'a, A> {
 
     /// The claimed flow out of a node and into it.
     pub(crate) fn node_flow(&self, node: u32) -> Read<'a, NodeFlow> {
-        let (mut out_of, mut into) = (Sum::new(self.alloc), Sum::new(self.alloc));
-        let solution = self.texts.claim()?;
-        for (line, record) in self.lines(solution)? {
+        let (mut out_of, mut into) = (Sum::new(self.page.alloc), Sum::new(self.page.alloc));
+        let solution = self.page.texts.claim()?;
+        for (line, record) in self.page.lines(solution)? {
             if let Some(Record::SolutionEntry { tail, head, flow }) = record
                 && tail != head
                 && (tail == node || head == node)
@@ -88,17 +87,19 @@ impl<'a, A: Reopen> Page<'a, A> {
 
     /// Quotes the line of an arc.
     pub(crate) fn quote_arc(&mut self, number: u32) -> Read<'a, ArcView> {
-        let instance = self.texts.instance()?;
-        arc_of(self.quote_there(instance, Wanted::Arc(number))?).ok_or(instance.unread())
+        let instance = self.page.texts.instance()?;
+        arc_of(self.page.quote_there(instance, Wanted::Arc(number))?).ok_or(instance.unread())
     }
 
     /// Quotes the entry of an arc after others with its ends, and returns its flow.
     fn quote_entry(&mut self, arc: ArcView, before: u64) -> Read<'a, i64> {
-        let Ok(solution) = self.texts.claim() else {
+        let Ok(solution) = self.page.texts.claim() else {
             return Ok(0);
         };
         let (tail, head) = (arc.tail, arc.head);
-        let entry = self.quote(solution, Wanted::Entry { tail, head, before })?;
+        let entry = self
+            .page
+            .quote(solution, Wanted::Entry { tail, head, before })?;
         if let Some(Record::SolutionEntry { flow, .. }) = entry {
             return Ok(flow);
         }
@@ -108,7 +109,7 @@ impl<'a, A: Reopen> Page<'a, A> {
 
     /// Quotes the line of a node, and returns its potential or its supply; 0 without one.
     fn quote_node(&mut self, text: TextFile<'a>, node: u32) -> Read<'a, i128> {
-        Ok(match self.quote(text, Wanted::Node(node))? {
+        Ok(match self.page.quote(text, Wanted::Node(node))? {
             Some(Record::PotentialsNode { value, .. }) => value,
             Some(Record::MinNode { supply, .. }) => i128::from(supply),
             _ => 0,
@@ -119,14 +120,14 @@ impl<'a, A: Reopen> Page<'a, A> {
     pub(crate) fn explain_bound(&mut self, number: u32, reason: Reason) -> Said<'a> {
         let arc = self.quote_arc(number)?;
         let parallel = self.parallel(arc.tail, arc.head, number)?;
-        if self.texts.is_spread() {
+        if self.page.texts.is_spread() {
             return self.explain_spread(arc, parallel, reason);
         }
         let flow = self.quote_entry(arc, parallel.before)?;
         say!(self; "arc {} carries {}", number, flow);
         if reason == Reason::AboveCap {
             say!(self; ", more than its CAP, {}\n", arc.cap);
-        } else if self.texts.instance()?.kind == TextKind::Min {
+        } else if self.page.texts.instance()?.kind == TextKind::Min {
             say!(self; ", less than its LOW, {}\n", arc.low);
         } else {
             say!(self; ", less than 0\n");
@@ -190,7 +191,7 @@ impl<'a, A: Reopen> Page<'a, A> {
 
     /// Explains that an arc doesn't carry the bound that its reduced cost demands.
     fn write_slack(&mut self, number: u32, arc: ArcView, flow: i64) -> Said<'a> {
-        let certificate = self.texts.certificate()?;
+        let certificate = self.page.texts.certificate()?;
         let tail = self.quote_node(certificate, arc.tail)?;
         let head = self.quote_node(certificate, arc.head)?;
         let reduced = reduced_cost(arc, tail, head);
@@ -220,12 +221,12 @@ impl<'a, A: Reopen> Page<'a, A> {
 
     /// Writes a command about the claimed flow, or that none is feasible.
     fn write_command(&mut self, verb: &str) -> Said<'a> {
-        let instance = self.texts.instance()?;
+        let instance = self.page.texts.instance()?;
         let kind = match instance.kind {
             TextKind::Max => "max",
             _ => "min",
         };
-        match self.texts.claim() {
+        match self.page.texts.claim() {
             Ok(claim) => say!(self; "dimacs {}-{} {} {}", verb, kind, instance, claim),
             Err(_) => say!(self; "dimacs {}-infeasible {}", verb, instance),
         }
@@ -234,7 +235,7 @@ impl<'a, A: Reopen> Page<'a, A> {
 
     /// Explains why the balance of a node is wrong.
     pub(crate) fn explain_balance(&mut self, node: u32) -> Said<'a> {
-        let (instance, flow) = (self.texts.instance()?, self.node_flow(node)?);
+        let (instance, flow) = (self.page.texts.instance()?, self.node_flow(node)?);
         let supply = self.quote_node(instance, node)?;
         self.write_balance(node, flow.out_of.sum(), flow.into.sum(), supply);
         self.write_lines("entries out of it", &flow.out_of);

@@ -1,12 +1,12 @@
 //! Why a flow costs least: by the potentials, each feasible flow costs at least as much.
 
-use crate::page::{Page, Reopen};
-use crate::sentence::{Prose, Value, say};
+use crate::explanation::Explanation;
 use crate::sums::{SHOWN, Sum};
 use dimacs_claims::Potentials;
 use dimacs_instance::MinInstance;
 use dimacs_judging::Flow;
 use dimacs_network::{ArcView, Network};
+use dimacs_quote::{Prose, Reopen, Value, say};
 use std::alloc::Global;
 
 /// What the flow of an arc costs.
@@ -96,22 +96,22 @@ pub(crate) fn paid_bound(arc: ArcView, reduced: i128) -> (&'static str, i64) {
     }
 }
 
-impl<'a, A: Reopen> Page<'a, A> {
+impl<'a, A: Reopen> Explanation<'a, A> {
     /// Explains that a flow costs least by potentials that are slack for it.
     pub(crate) fn explain_least<N: Network>(
         &mut self,
         min: &MinInstance<N>,
         potentials: &Potentials,
     ) {
-        let fixed = supply_sum(self.alloc, min, potentials);
-        let least = reduced_sum(self.alloc, min.network(), potentials);
+        let fixed = supply_sum(self.page.alloc, min, potentials);
+        let least = reduced_sum(self.page.alloc, min.network(), potentials);
         self.write_bound(&fixed, &least);
         self.write_tight(min.network(), potentials);
     }
 
     /// Writes the cost as a sum, the arcs whose cost is greatest in size first.
     pub(crate) fn write_cost<N: Network>(&mut self, network: &N, flow: &Flow, cost: i128) {
-        let mut sum = Sum::new(self.alloc);
+        let mut sum = Sum::new(self.page.alloc);
         let mut next = next_cost(network, flow, None);
         if next.is_none() {
             return say!(self; "no arc with flow has a COST: the cost is 0\n");
@@ -138,7 +138,7 @@ impl<'a, A: Reopen> Page<'a, A> {
 
     /// Writes what each feasible flow costs at least.
     fn write_bound(&mut self, fixed: &Sum, least: &Sum) {
-        let mut bound = Sum::new(self.alloc);
+        let mut bound = Sum::new(self.page.alloc);
         bound.add(fixed.total);
         bound.add(least.total);
         say!(self; "with potentials y (0 without a line) and r = COST - y(TAIL) + y(HEAD), a feasible flow costs the sum of y * SUPPLY over the nodes plus that of r * FLOW over the arcs\n");
@@ -163,7 +163,7 @@ impl<'a, A: Reopen> Page<'a, A> {
     /// Writes on how many arcs another flow of this cost can differ, and the first of them: the others carry the bound
     /// at which their reduced cost is paid least.
     fn write_tight<N: Network>(&mut self, network: &N, potentials: &Potentials) {
-        let mut list = Prose::new(self.alloc);
+        let mut list = Prose::new(self.page.alloc);
         let mut count = 0u64;
         for i in 0..network.arcs() {
             let arc = network.arc(i);
@@ -179,7 +179,7 @@ impl<'a, A: Reopen> Page<'a, A> {
         }
         say!(self; "another flow of this cost can differ only on arcs with r = 0, {} of {}:",
             count, network.arcs());
-        self.out.append(&list);
+        self.page.out.append(&list);
         say!(self; if count > SHOWN { " ..\n" } else { "\n" });
     }
 }

@@ -1,28 +1,26 @@
 //! Explains the tests of labels, distances and queries.
 
 use crate::blocks::{Unreached, failing_ends, first_unreached, lightest};
-use crate::lookups::{Wanted, arc_of};
-use crate::page::{Page, Read, Reopen, Said, Stop};
-use crate::sentence::say;
-use crate::texts::TextFile;
+use crate::explanation::Explanation;
 use dimacs_claims::{Labels, read_distances, read_labels};
 use dimacs_lines::Memory;
 use dimacs_network::ArcView;
+use dimacs_quote::{Read, Reopen, Said, Stop, TextFile, Wanted, arc_of, say};
 use dimacs_records::TextKind;
 
 /// The most sources of blocks that are listed.
 const SHOWN_SOURCES: usize = 5;
 
-impl<'a, A: Reopen> Page<'a, A> {
+impl<'a, A: Reopen> Explanation<'a, A> {
     /// The labels or distances that a graph is tested against.
     fn read_tested(&self, text: TextFile<'a>) -> Read<'a, Labels> {
-        let mut source = self.source(text)?;
+        let mut source = self.page.source(text)?;
         let labels = match text.kind {
-            TextKind::Distances => match read_distances(self.alloc, &mut source) {
+            TextKind::Distances => match read_distances(self.page.alloc, &mut source) {
                 Ok(distances) => Ok(distances.into_labels()),
                 Err(error) => Err(error),
             },
-            _ => read_labels(self.alloc, &mut source),
+            _ => read_labels(self.page.alloc, &mut source),
         };
         match labels {
             Ok(labels) => Ok(labels),
@@ -32,7 +30,7 @@ impl<'a, A: Reopen> Page<'a, A> {
 
     /// The line of the block from this source.
     fn block_line(&self, text: TextFile<'a>, source: u32) -> Read<'a, u64> {
-        let found = self.find(text, Wanted::Node(source))?;
+        let found = self.page.find(text, Wanted::Node(source))?;
         Ok(found.ok_or(text.unread())?.line)
     }
 
@@ -47,7 +45,7 @@ impl<'a, A: Reopen> Page<'a, A> {
     /// Explains that an arc leads nearer to its head than the head's label or distance, or to a node without one.
     pub(crate) fn explain_farther(&mut self, number: u32) -> Said<'a> {
         let arc = self.quote_arc(number)?;
-        let text = self.texts.tested()?;
+        let text = self.page.texts.tested()?;
         let tested = self.read_tested(text)?;
         let ends = failing_ends(&tested, arc).ok_or(text.unread())?;
         let (source, line) = (ends.source, self.block_line(text, ends.source)?);
@@ -69,8 +67,8 @@ impl<'a, A: Reopen> Page<'a, A> {
 
     /// The arcs into a node.
     fn arcs_into(&self, node: u32) -> Read<'a, Vec<ArcView>> {
-        let mut arcs = Vec::new(self.alloc);
-        for (_, record) in self.lines(self.texts.instance()?)? {
+        let mut arcs = Vec::new(self.page.alloc);
+        for (_, record) in self.page.lines(self.page.texts.instance()?)? {
             if let Some(arc) = record.and_then(arc_of)
                 && arc.head == node
             {
@@ -82,7 +80,7 @@ impl<'a, A: Reopen> Page<'a, A> {
 
     /// Explains why a label has no tight arc, or no walk has a claimed distance.
     pub(crate) fn explain_unreached(&mut self, node: u32) -> Said<'a> {
-        let text = self.texts.tested()?;
+        let text = self.page.texts.tested()?;
         let arcs = self.arcs_into(node)?;
         let mut tested = self.read_tested(text)?;
         tested.index()?;
@@ -96,7 +94,8 @@ impl<'a, A: Reopen> Page<'a, A> {
             return Ok(());
         };
         let from = self.block_line(text, it.source)?;
-        self.quote_there(text, Wanted::Label { id: node, from })?;
+        self.page
+            .quote_there(text, Wanted::Label { id: node, from })?;
         say!(self; "in the block from source {} (line {})", it.source, from);
         if is_distance {
             self.write_distance(it);
@@ -131,17 +130,17 @@ impl<'a, A: Reopen> Page<'a, A> {
 
     /// Explains why a node of a query is none of the graph.
     pub(crate) fn explain_query_node(&mut self, node: u32) -> Said<'a> {
-        let (graph, queries) = (self.texts.instance()?, self.texts.claim()?);
-        self.quote_there(queries, Wanted::QueryNaming(node))?;
-        self.quote(graph, Wanted::Problem)?;
+        let (graph, queries) = (self.page.texts.instance()?, self.page.texts.claim()?);
+        self.page.quote_there(queries, Wanted::QueryNaming(node))?;
+        self.page.quote(graph, Wanted::Problem)?;
         say!(self; "node {} is above the NODES of the graph\n", node);
         Ok(())
     }
 
     /// Explains why no block answers a query.
     pub(crate) fn explain_query(&mut self, node: u32) -> Said<'a> {
-        let (queries, text) = (self.texts.claim()?, self.texts.certificate()?);
-        self.quote_there(queries, Wanted::Query(node))?;
+        let (queries, text) = (self.page.texts.claim()?, self.page.texts.certificate()?);
+        self.page.quote_there(queries, Wanted::Query(node))?;
         let tested = self.read_tested(text)?;
         let blocks = tested.blocks();
         if blocks.is_empty() {

@@ -1,12 +1,9 @@
-//! Explains a report: a refusal by its place and its reason.
+//! Explains a refusal by its place and its reason.
 
-use crate::lookups::Wanted;
-use crate::page::{Page, Reopen, Said, Stop};
-use crate::sentence::{Value, say};
+use crate::explanation::Explanation;
 use dimacs_judging::Where;
-use dimacs_lines::Memory;
-use dimacs_records::{At, End, Reason};
-use dimacs_runs::Report;
+use dimacs_quote::{Reopen, Said, Stop, Value, Wanted, say};
+use dimacs_records::{At, End, Reason, TextKind};
 
 /// Where a test failed: the field of the solution, and the number of the arc or the ID of the node. 0 stands for none.
 fn place_of(place: Where) -> (At, u32) {
@@ -18,47 +15,45 @@ fn place_of(place: Where) -> (At, u32) {
     }
 }
 
-impl<'a, A: Reopen> Page<'a, A> {
-    /// The explanation of a report. It names the files that a solver which refuses has emptied, too.
-    pub(crate) fn explained(mut self) -> Result<String, Memory> {
-        match self.explain() {
-            Err(Stop::Memory) => return Err(Memory),
-            Err(Stop::Unread(file)) => self.write_unread(file),
-            Err(Stop::Said) | Ok(()) => (),
-        }
-        if matches!(self.report, Report::No(..) | Report::Fault(..)) {
-            for file in self.texts.emptied() {
-                say!(self; "{} is empty: a solve run creates the files that it writes, or empties them, before it reads the others\n",
-                    Value::File(file.as_str()));
-            }
-        }
-        self.out.finish()
+impl<'a, A: Reopen> Explanation<'a, A> {
+    /// Explains the fault of a text of this kind.
+    pub fn explain_fault(&mut self, kind: TextKind, at: At, reason: Reason) {
+        let said = match reason {
+            Reason::Feasible => self.explain_feasible(),
+            Reason::NodesDiffer => self.explain_nodes(),
+            _ => self.page.explain_line(kind, at, reason),
+        };
+        self.end_refusal(said);
     }
 
-    fn explain(&mut self) -> Said<'a> {
-        match self.report {
-            Report::Yes(_) | Report::Distances(_) => self.explain_yes(),
-            Report::GaveUp | Report::Nothing => (),
-            Report::Fault(_, _, Reason::Feasible) => self.explain_feasible()?,
-            Report::Fault(_, _, Reason::NodesDiffer) => self.explain_nodes()?,
-            Report::Fault(kind, at, reason) => {
-                let text = self.texts.of_kind(*kind)?;
-                self.explain_fault(text, *at, *reason)?;
-            }
-            Report::No(place, reason) => {
-                self.test_readable()?;
-                self.explain_test(*place, *reason)?;
-            }
+    /// Explains why a test failed.
+    pub fn explain_failure(&mut self, place: Where, reason: Reason) {
+        let said = match self.test_readable() {
+            Ok(()) => self.explain_test(place, reason),
+            unread => unread,
+        };
+        self.end_refusal(said);
+    }
+
+    /// Names the file that can't be read again, and the files that a solver which refuses has emptied.
+    fn end_refusal(&mut self, said: Said<'a>) {
+        match said {
+            Err(Stop::Memory) => self.page.out.is_lost = true,
+            Err(Stop::Unread(file)) => self.page.write_unread(file),
+            Err(Stop::Said) | Ok(()) => (),
         }
-        Ok(())
+        for file in self.page.texts.emptied() {
+            say!(self; "{} is empty: a solve run creates the files that it writes, or empties them, before it reads the others\n",
+                Value::File(file.as_str()));
+        }
     }
 
     /// Ends the explanation if a text of the run can't be read again, and names each such text.
     fn test_readable(&mut self) -> Said<'a> {
         let mut all = Ok(());
-        for file in self.texts.files_read() {
-            if self.again.open(file.as_str()).is_none() {
-                self.write_unread(file.as_str());
+        for file in self.page.texts.files_read() {
+            if self.page.again.open(file.as_str()).is_none() {
+                self.page.write_unread(file.as_str());
                 all = Err(Stop::Said);
             }
         }
@@ -94,9 +89,9 @@ impl<'a, A: Reopen> Page<'a, A> {
     /// Explains that an instance and what is tested against it differ in NODES.
     fn explain_nodes(&mut self) -> Said<'a> {
         self.test_readable()?;
-        let (instance, tested) = (self.texts.instance()?, self.texts.tested()?);
-        self.quote_there(instance, Wanted::Problem)?;
-        self.quote_there(tested, Wanted::Problem)?;
+        let (instance, tested) = (self.page.texts.instance()?, self.page.texts.tested()?);
+        self.page.quote_there(instance, Wanted::Problem)?;
+        self.page.quote_there(tested, Wanted::Problem)?;
         say!(self; "NODES of the two differ: they are not of one instance\n");
         Ok(())
     }

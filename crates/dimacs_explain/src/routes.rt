@@ -1,12 +1,12 @@
 //! Why distances are right: a route for each, with its weights.
 
-use crate::page::{Page, Read, Reopen, Said};
-use crate::sentence::say;
+use crate::explanation::Explanation;
 use crate::sums::{SHOWN, Sum};
 use dimacs_claims::{Block, Label, Labels};
 use dimacs_instance::Queries;
 use dimacs_lines::Memory;
 use dimacs_network::NodeMap;
+use dimacs_quote::{Read, Reopen, Said, say};
 use std::alloc::Global;
 
 /// The most routes that are shown.
@@ -61,7 +61,7 @@ fn route_to(alloc: Global, block: &Block, to: u32) -> Result<Vec<Label>, Memory>
     Ok(route)
 }
 
-impl<'a, A: Reopen> Page<'a, A> {
+impl<'a, A: Reopen> Explanation<'a, A> {
     /// Explains distances by labels that pass the judge's tests: of each pair that is asked for, of the farthest node
     /// from each source that is, or, without queries, of the farthest in each block.
     pub(crate) fn explain_distances(&mut self, queries: &Queries, labels: &Labels) -> Said<'a> {
@@ -99,7 +99,7 @@ impl<'a, A: Reopen> Page<'a, A> {
             say!(self; "{} to itself, without an arc: 0\n", to);
             return Ok(true);
         }
-        let route = route_to(self.alloc, block, to)?;
+        let route = route_to(self.page.alloc, block, to)?;
         if !route.is_empty() {
             self.write_route(source, &route);
             return Ok(true);
@@ -137,7 +137,7 @@ impl<'a, A: Reopen> Page<'a, A> {
             None => say!(self; " that it reaches: "),
             Some(radius) => say!(self; " within {}, the RADIUS: ", radius),
         }
-        let route = route_to(self.alloc, block, farthest.id)?;
+        let route = route_to(self.page.alloc, block, farthest.id)?;
         self.write_route(block.source(), &route);
         if block.radius().is_none() && count.saturating_add(1) < nodes as usize {
             say!(self; "the other nodes can't be reached: no arc leads to them from these\n");
@@ -159,7 +159,7 @@ impl<'a, A: Reopen> Page<'a, A> {
 
     /// Writes the first nodes of a route, the last, and the sum of the weights.
     fn write_route(&mut self, source: u32, route: &[Label]) {
-        let mut weights = Sum::new(self.alloc);
+        let mut weights = Sum::new(self.page.alloc);
         let mut before = 0i128;
         say!(self; "{}", source);
         let last = route.len().saturating_sub(1);

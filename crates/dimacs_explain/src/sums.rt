@@ -1,9 +1,9 @@
 //! Sums and lists, of which the first items are shown.
 
-use crate::page::{Page, Reopen};
-use crate::sentence::{Prose, Value, say};
+use crate::explanation::Explanation;
 use dimacs_claims::Cut;
 use dimacs_network::ArcView;
+use dimacs_quote::{Prose, Reopen, Value, say};
 use std::alloc::Global;
 
 /// The most items that are shown.
@@ -77,7 +77,7 @@ fn plus(one: Option<i128>, other: Option<i128>) -> Option<i128> {
 
 /// Writes a number, with its sign between blanks unless it is the first.
 fn write_term(out: &mut Prose, term: i128) {
-    if out.text.is_empty() {
+    if out.is_empty() {
         say!(out; "{}", term);
     } else if term < 0 {
         say!(out; " - {}", Value::Size(term.unsigned_abs()));
@@ -86,11 +86,11 @@ fn write_term(out: &mut Prose, term: i128) {
     }
 }
 
-impl<'a, A: Reopen> Page<'a, A> {
+impl<'a, A: Reopen> Explanation<'a, A> {
     /// Writes what the lines of a sum are, how many they are, and the first of them.
     pub(crate) fn write_lines(&mut self, what: &str, sum: &Sum) {
         say!(self; "{}: {}\n", what, sum.count);
-        self.out.append(&sum.lines);
+        self.page.out.append(&sum.lines);
         if sum.count > SHOWN {
             say!(self; "  all others: {}\n", sum.rest.unwrap_or(0));
         }
@@ -99,9 +99,9 @@ impl<'a, A: Reopen> Page<'a, A> {
     /// Writes the numbers of a sum, and what they add up to.
     pub(crate) fn write_sum(&mut self, sum: &Sum) {
         if sum.count > 1 {
-            self.out.append(&sum.terms);
+            self.page.out.append(&sum.terms);
             if sum.count > SHOWN {
-                write_term(&mut self.out, sum.rest.unwrap_or(0));
+                write_term(&mut self.page.out, sum.rest.unwrap_or(0));
             }
             say!(self; " = ");
         }

@@ -1,5 +1,6 @@
 pub mod Certified
 pub mod Commands
+pub mod Explained
 pub mod Files
 pub mod Jobs
 pub mod Judged

@@ -1,7 +1,7 @@
 use Rattle.std.proofs.Common.{◌∙◌, ◌∷◌, [], List, ℕ, Some, ap, inl, inr, map, refl, subst}
 use Rattle.std.specs.String.{string_bytes}
 use Rattle.dimacs_lines.specs.Devices.{InMemory}
-use Rattle.dimacs_explain.specs.Explained.{is_explained}
+use Rattle.dimacs_runs.specs.Explained.{is_explained}
 use Rattle.dimacs_c.specs.Calls.{HandsOut, handed}
 use Rattle.dimacs_c.specs.Explained.{ReportsJob, text_named}
 use Rattle.dimacs_c.proofs.ExplainLemmas.{front_of, run_report}

@@ -5,8 +5,10 @@ use dimacs_records::{At, Declared, End, Record};
 
 /// The line to look for.
 #[derive(Clone, Copy)]
-pub(crate) enum Wanted {
+pub enum Wanted {
+    /// The problem line.
     Problem,
+    /// The line of a solution's value.
     Value,
     /// The line here; its field is marked.
     Line(At),
@@ -109,7 +111,7 @@ pub(crate) fn declared(record: Record) -> Option<Declared> {
 }
 
 /// The arc of an arc line.
-pub(crate) fn arc_of(record: Record) -> Option<ArcView> {
+pub fn arc_of(record: Record) -> Option<ArcView> {
     let (tail, head, low, cap, cost) = match record {
         Record::MaxArc { tail, head, cap } => (tail, head, 0, cap, 0),
         Record::MinArc {
@@ -132,7 +134,7 @@ pub(crate) fn arc_of(record: Record) -> Option<ArcView> {
 }
 
 /// The flow of an entry with these ends.
-pub(crate) fn entry_between(record: Record, from: u32, to: u32) -> Option<i64> {
+pub fn entry_between(record: Record, from: u32, to: u32) -> Option<i64> {
     match record {
         Record::SolutionEntry { tail, head, flow } if tail == from && head == to => Some(flow),
         _ => None,

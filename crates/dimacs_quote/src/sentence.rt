@@ -6,20 +6,21 @@ use dimacs_lines::Memory;
 use std::alloc::Global;
 
 /// Writes a sentence to a page or other text, with the next value for each `{}`.
+#[macro_export]
 macro_rules! say {
     ($out:expr; $sentence:expr $(, $value:expr)*) => {
-        $out.write($sentence, &[$($crate::sentence::Value::from($value)),*])
+        $out.write($sentence, &[$($crate::Value::from($value)),*])
     };
 }
 
-pub(crate) use say;
-
 /// What a sentence names.
 #[derive(Clone, Copy)]
-pub(crate) enum Value<'a> {
+pub enum Value<'a> {
+    /// A word.
     Word(&'a str),
     /// The name of a file.
     File(&'a str),
+    /// A number.
     Number(i128),
     /// The size of a number.
     Size(u128),
@@ -65,25 +66,28 @@ impl<'a> From<i128> for Value<'a> {
 
 /// A text that is written piece by piece. If memory runs out, it is lost.
 #[derive(Drop)]
-pub(crate) struct Prose {
+pub struct Prose {
     pub(crate) text: String,
-    pub(crate) is_lost: bool,
+    /// Memory ran out.
+    pub is_lost: bool,
 }
 
 impl Prose {
-    pub(crate) fn new(alloc: Global) -> Prose {
+    /// An empty text.
+    pub fn new(alloc: Global) -> Prose {
         Prose {
             text: String::new(alloc),
             is_lost: false,
         }
     }
 
-    pub(crate) fn push(&mut self, text: &str) {
+    /// Adds a text.
+    pub fn push(&mut self, text: &str) {
         self.is_lost |= self.text.push_str(text).is_err();
     }
 
     /// Adds a sentence, with the next value for each `{}`. `write!` does so too, but takes three times as long to prove.
-    pub(crate) fn write(&mut self, sentence: &str, values: &[Value<'_>]) {
+    pub fn write(&mut self, sentence: &str, values: &[Value<'_>]) {
         let mut values = values.iter();
         for piece in sentence.split("{}") {
             self.push(piece);
@@ -106,13 +110,18 @@ impl Prose {
     }
 
     /// Adds another text.
-    pub(crate) fn append(&mut self, other: &Prose) {
+    pub fn append(&mut self, other: &Prose) {
         self.is_lost |= other.is_lost;
         self.push(other.text.as_str());
     }
 
+    /// Whether nothing was written.
+    pub fn is_empty(&self) -> bool {
+        self.text.is_empty()
+    }
+
     /// The text, unless it is lost.
-    pub(crate) fn finish(self) -> Result<String, Memory> {
+    pub fn finish(self) -> Result<String, Memory> {
         if self.is_lost {
             return Err(Memory);
         }
@@ -121,6 +130,6 @@ impl Prose {
 }
 
 /// The ending of a noun after this number.
-pub(crate) fn ending(count: u64) -> &'static str {
+pub fn ending(count: u64) -> &'static str {
     if count == 1 { "" } else { "s" }
 }

@@ -3,11 +3,11 @@
 use crate::lines::TextLines;
 use crate::lookups::Wanted;
 use crate::quote::quote;
-use crate::sentence::{Prose, Value, say};
+use crate::say;
+use crate::sentence::{Prose, Value};
 use crate::texts::{TextFile, Texts};
 use dimacs_lines::{MAX_LINES, Memory, Source};
 use dimacs_records::{At, Record};
-use dimacs_runs::{Job, Report};
 use std::alloc::Global;
 
 /// Opens files once more. What reads them by this can't create, empty or write one.
@@ -21,7 +21,8 @@ pub trait Reopen {
 
 /// Why an explanation ends early.
 #[derive(Clone, Copy)]
-pub(crate) enum Stop<'a> {
+pub enum Stop<'a> {
+    /// Memory ran out.
     Memory,
     /// This file can't be read again.
     Unread(&'a str),
@@ -30,10 +31,10 @@ pub(crate) enum Stop<'a> {
 }
 
 /// What was read of a text.
-pub(crate) type Read<'a, T> = Result<T, Stop<'a>>;
+pub type Read<'a, T> = Result<T, Stop<'a>>;
 
 /// Whether there is more to say.
-pub(crate) type Said<'a> = Read<'a, ()>;
+pub type Said<'a> = Read<'a, ()>;
 
 impl<'a> From<Memory> for Stop<'a> {
     fn from(_: Memory) -> Stop<'a> {
@@ -43,59 +44,65 @@ impl<'a> From<Memory> for Stop<'a> {
 
 /// A line that was looked for.
 #[derive(Drop)]
-pub(crate) struct FoundLine {
-    pub(crate) line: u64,
-    pub(crate) record: Record,
+pub struct FoundLine {
+    /// Its number, from 1.
+    pub line: u64,
+    /// What it spells.
+    pub record: Record,
     quote: Prose,
 }
 
+/// The page on which the answer of a run is explained.
 #[derive(Drop)]
-pub(crate) struct Page<'a, A> {
-    pub(crate) alloc: Global,
-    pub(crate) again: &'a A,
-    pub(crate) texts: Texts<'a>,
-    pub(crate) report: &'a Report,
-    pub(crate) out: Prose,
+pub struct Page<'a, A> {
+    /// The allocator.
+    pub alloc: Global,
+    /// Opens the texts once more.
+    pub again: &'a A,
+    /// The texts that the answer is about.
+    pub texts: Texts<'a>,
+    /// What was written.
+    pub out: Prose,
 }
 
 impl<'a, A: Reopen> Page<'a, A> {
-    pub(crate) fn new(
-        alloc: Global,
-        again: &'a A,
-        job: Job<'a>,
-        report: &'a Report,
-    ) -> Page<'a, A> {
+    /// An empty page about the answer of a run over these texts, which are read again.
+    pub fn new(alloc: Global, again: &'a A, texts: Texts<'a>) -> Page<'a, A> {
         Page {
             alloc,
             again,
-            texts: Texts::of(job),
-            report,
+            texts,
             out: Prose::new(alloc),
         }
     }
 
+    /// What was written.
+    pub fn finish(self) -> Result<String, Memory> {
+        self.out.finish()
+    }
+
     /// Writes a sentence, with the next value for each `{}`.
-    pub(crate) fn write(&mut self, sentence: &str, values: &[Value<'_>]) {
+    pub fn write(&mut self, sentence: &str, values: &[Value<'_>]) {
         self.out.write(sentence, values);
     }
 
     /// Reports that a file can't be read again.
-    pub(crate) fn write_unread(&mut self, file: &str) {
+    pub fn write_unread(&mut self, file: &str) {
         say!(self; "{}: is no file that can be read again, so its lines are left out\n", Value::File(file));
     }
 
     /// A text, to be read again.
-    pub(crate) fn source(&self, text: TextFile<'a>) -> Read<'a, A::Input> {
+    pub fn source(&self, text: TextFile<'a>) -> Read<'a, A::Input> {
         self.again.open(text.file).ok_or(text.unread())
     }
 
     /// The lines of a text.
-    pub(crate) fn lines(&self, text: TextFile<'a>) -> Read<'a, TextLines<A::Input>> {
+    pub fn lines(&self, text: TextFile<'a>) -> Read<'a, TextLines<A::Input>> {
         Ok(TextLines::new(self.alloc, self.source(text)?, text.kind)?)
     }
 
     /// The line of a text that is wanted; none if there is none.
-    pub(crate) fn find(&self, text: TextFile<'a>, wanted: Wanted) -> Read<'a, Option<FoundLine>> {
+    pub fn find(&self, text: TextFile<'a>, wanted: Wanted) -> Read<'a, Option<FoundLine>> {
         let mut lines = self.lines(text)?;
         let mut before = wanted.before();
         for _ in 0..MAX_LINES {
@@ -120,7 +127,7 @@ impl<'a, A: Reopen> Page<'a, A> {
     }
 
     /// Quotes the line of a text that is wanted, and returns its record; none if there is none.
-    pub(crate) fn quote(&mut self, text: TextFile<'a>, wanted: Wanted) -> Read<'a, Option<Record>> {
+    pub fn quote(&mut self, text: TextFile<'a>, wanted: Wanted) -> Read<'a, Option<Record>> {
         let Some(found) = self.find(text, wanted)? else {
             return Ok(None);
         };
@@ -129,7 +136,7 @@ impl<'a, A: Reopen> Page<'a, A> {
     }
 
     /// The same for a line that has to be there.
-    pub(crate) fn quote_there(&mut self, text: TextFile<'a>, wanted: Wanted) -> Read<'a, Record> {
+    pub fn quote_there(&mut self, text: TextFile<'a>, wanted: Wanted) -> Read<'a, Record> {
         self.quote(text, wanted)?.ok_or(text.unread())
     }
 }

@@ -6,8 +6,9 @@ use dimacs_lines::{Lines, MAX_LINES, Memory, Source};
 use dimacs_records::{Record, TextKind, record};
 use std::alloc::Global;
 
+/// The lines of a text, to be read once.
 #[derive(Drop)]
-pub(crate) struct TextLines<I> {
+pub struct TextLines<I> {
     lines: Lines,
     source: I,
     kind: TextKind,

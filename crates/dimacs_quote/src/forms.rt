@@ -50,7 +50,7 @@ pub(crate) fn field_name(form: &'static str, field: u32) -> &'static str {
 }
 
 /// The range of a field.
-pub(crate) fn range_of(name: &str) -> &'static str {
+pub fn range_of(name: &str) -> &'static str {
     match name {
         "NODES" => "0 to 134217728 (2^27)",
         "ARCS" | "K" | "B" => "0 to 268435456 (2^28)",

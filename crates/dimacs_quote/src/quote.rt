@@ -1,6 +1,7 @@
 //! Quotes of lines.
 
-use crate::sentence::{Prose, Value, say};
+use crate::say;
+use crate::sentence::{Prose, Value};
 use dimacs_lines::{Field, fields};
 use dimacs_records::At;
 use std::alloc::Global;

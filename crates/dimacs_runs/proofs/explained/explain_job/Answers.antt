@@ -1,4 +1,4 @@
-use Rattle.dimacs_explain.proofs.command.explain_job.Goals as goal
+use Rattle.dimacs_runs.proofs.explained.explain_job.Goals as goal
 
 -- the run, then the explanation
 pub returns : goal.returns

@@ -5,7 +5,8 @@ use crate::forms::{form_of, forms, kind_words, range_of};
 use crate::lookups::{Wanted, declared};
 use crate::numbers::{is_no_distance, meant_number};
 use crate::page::{Page, Read, Reopen, Said, Stop};
-use crate::sentence::{ending, say};
+use crate::say;
+use crate::sentence::ending;
 use crate::texts::TextFile;
 use dimacs_lines::{MAX_LINE, MAX_LINES};
 use dimacs_records::{At, Declared, End, Reason, Record, TextKind};
@@ -32,7 +33,9 @@ fn order_of(kind: TextKind) -> &'static str {
 }
 
 impl<'a, A: Reopen> Page<'a, A> {
-    pub(crate) fn explain_fault(&mut self, text: TextFile<'a>, at: At, reason: Reason) -> Said<'a> {
+    /// Explains the fault of a line, or of the end of a text.
+    pub fn explain_line(&mut self, kind: TextKind, at: At, reason: Reason) -> Said<'a> {
+        let text = self.texts.of_kind(kind)?;
         let fault = self.quote_fault(text, at, reason)?;
         if let Some(odd) = fault.odd {
             say!(self; "{}\n", odd);

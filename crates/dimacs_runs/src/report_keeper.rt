@@ -2,8 +2,8 @@
 
 ghost use Rattle.std.specs.Prelude.{◌≡◌};
 
+use crate::report::{Report, ReportSink};
 use dimacs_lines::{DeviceFault, Sink};
-use dimacs_runs::{Report, ReportSink};
 
 /// Passes all bytes on to another sink, and keeps the report of the run that wrote them.
 #[derive(Drop)]

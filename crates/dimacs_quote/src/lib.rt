@@ -1,0 +1,21 @@
+//! Quotes lines of texts, and explains what is wrong with a text by itself. Nothing is proved about what is written.
+#![tactic(auto)]
+
+mod fault_line;
+mod faults;
+mod forms;
+mod lines;
+mod lookups;
+mod numbers;
+mod oddities;
+mod page;
+mod quote;
+mod sentence;
+mod texts;
+
+pub use forms::range_of;
+pub use lines::TextLines;
+pub use lookups::{Wanted, arc_of, entry_between};
+pub use page::{FoundLine, Page, Read, Reopen, Said, Stop};
+pub use sentence::{Prose, Value, ending};
+pub use texts::{Purpose, TextFile, Texts};

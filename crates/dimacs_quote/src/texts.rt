@@ -1,0 +1,141 @@
+//! The texts of a run, by their files.
+
+use crate::page::{Read, Stop};
+use dimacs_records::TextKind;
+
+/// A text of a run: its kind and its file.
+#[derive(Clone, Copy)]
+pub struct TextFile<'a> {
+    /// The kind.
+    pub kind: TextKind,
+    /// The name of the file.
+    pub file: &'a str,
+}
+
+impl<'a> TextFile<'a> {
+    /// It can't be read again.
+    pub fn unread(self) -> Stop<'a> {
+        Stop::Unread(self.file)
+    }
+}
+
+/// What a run does with the files that it writes, or the flow that it reads.
+#[derive(Clone, Copy, PartialEq, Eq)]
+pub enum Purpose {
+    /// It creates a file, if at all, once it has read the others.
+    Decide,
+    /// The same, and it deals the flow out to parallel arcs.
+    Spread,
+    /// It creates its files, or empties them, before it reads the others.
+    Solve,
+}
+
+/// The texts that a run reads, and the files that it writes.
+#[derive(Clone, Copy)]
+pub struct Texts<'a> {
+    purpose: Purpose,
+    /// The only text of a run that has no other, and no files then.
+    only: Option<TextFile<'a>>,
+    /// The kinds of the first files: those that the run reads.
+    kinds: &'static [TextKind],
+    files: &'a [String],
+}
+
+impl<'a> Texts<'a> {
+    /// Those of a run over these files, which reads the first ones, of these kinds, and writes the others.
+    pub fn new(purpose: Purpose, kinds: &'static [TextKind], files: &'a [String]) -> Texts<'a> {
+        Texts {
+            purpose,
+            only: None,
+            kinds,
+            files,
+        }
+    }
+
+    /// The text that is converted or shown.
+    pub fn one(kind: TextKind, file: &'a str) -> Texts<'a> {
+        Texts {
+            only: Some(TextFile { kind, file }),
+            ..Texts::new(Purpose::Decide, &[], &[])
+        }
+    }
+
+    /// The text in which a fault of this kind is.
+    pub fn of_kind(&self, kind: TextKind) -> Read<'a, TextFile<'a>> {
+        match self.only {
+            Some(text) => Ok(text),
+            None => self.one_of(&[kind]),
+        }
+    }
+
+    /// The instance.
+    pub fn instance(&self) -> Read<'a, TextFile<'a>> {
+        self.one_of(&[TextKind::Max, TextKind::Min, TextKind::Graph])
+    }
+
+    /// Queries, a solution or distances.
+    pub fn claim(&self) -> Read<'a, TextFile<'a>> {
+        self.one_of(&[TextKind::Queries, TextKind::Solution, TextKind::Distances])
+    }
+
+    /// The certificate.
+    pub fn certificate(&self) -> Read<'a, TextFile<'a>> {
+        self.one_of(&[TextKind::Cut, TextKind::Potentials, TextKind::Labels])
+    }
+
+    /// The text that is tested against the instance: the certificate, or distances.
+    pub fn tested(&self) -> Read<'a, TextFile<'a>> {
+        self.one_of(&[TextKind::Distances]).or(self.certificate())
+    }
+
+    /// The text of one of these kinds.
+    fn one_of(&self, kinds: &[TextKind]) -> Read<'a, TextFile<'a>> {
+        for (kind, file) in self.kinds.iter().zip(self.files) {
+            if kinds.contains(kind) {
+                let (kind, file) = (*kind, file.as_str());
+                return Ok(TextFile { kind, file });
+            }
+        }
+        Err(Stop::Said)
+    }
+
+    /// A file of the run, from 0.
+    pub fn file(&self, place: usize) -> Option<&'a str> {
+        self.files.get(place).map(String::as_str)
+    }
+
+    /// The file of the certificate, given or written; none if a certifier drops it.
+    pub fn certificate_file(&self) -> Option<&'a str> {
+        match self.certificate() {
+            Ok(text) => Some(text.file),
+            Err(_) => self.files_written().last().map(String::as_str),
+        }
+    }
+
+    /// The files of all texts but one that is alone.
+    pub fn files_read(&self) -> &'a [String] {
+        self.files.get(..self.kinds.len()).unwrap_or_default()
+    }
+
+    fn files_written(&self) -> &'a [String] {
+        self.files.get(self.kinds.len()..).unwrap_or_default()
+    }
+
+    /// The file that the run may write once it has read the others.
+    pub fn written(&self) -> Option<&'a str> {
+        self.files_written().first().map(String::as_str)
+    }
+
+    /// The files that the run empties before it reads the others.
+    pub fn emptied(&self) -> &'a [String] {
+        match self.purpose {
+            Purpose::Solve => self.files_written(),
+            _ => &[],
+        }
+    }
+
+    /// Whether the run deals a flow out to parallel arcs.
+    pub fn is_spread(&self) -> bool {
+        self.purpose == Purpose::Spread
+    }
+}
