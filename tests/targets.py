@@ -350,14 +350,14 @@ WINE = shutil.which("wine64") or "/usr/lib/wine/wine64"
 # Each part: what tests it, and the tools that it needs.
 PARTS = {
     "module": (test_module, ["rt", "ar", "cmp"]),
-    "wasm": (test_wasm, ["node", "cc"]),
-    "command": (test_command, ["node"]),
-    "page": (test_page, ["node", "chromium"]),
+    "wasm": (test_wasm, ["node", "cc", "wasm2wat"]),
+    "command": (test_command, ["node", "wasm2wat"]),
+    "page": (test_page, ["node", "chromium", "wasm2wat"]),
     "aarch64": (test_aarch64, ["aarch64-linux-gnu-gcc", "qemu-aarch64"]),
 }
 MORE_PARTS = {
     "windows": (test_windows, ["x86_64-w64-mingw32-gcc", WINE]),
-    "firefox": (test_firefox, ["node", "firefox-esr"]),
+    "firefox": (test_firefox, ["node", "firefox-esr", "wasm2wat"]),
 }
 
 
