@@ -14,13 +14,14 @@ import sys
 import tempfile
 
 import explained_yes
-import refusals
 import scripts
 from instances import BINARY, MEMORY, Folder
+from rows import rows
 
-MAX, FLOW, CUT = (refusals.TEXTS[it] for it in ("max", "flow", "cut"))
-MIN, LEAST, POT = (refusals.TEXTS[it] for it in ("min", "least", "pot"))
-CYCLE, ASKED = (refusals.TEXTS[it] for it in ("cycle", "source"))
+FILES = dict(rows("files"))
+MAX, FLOW, CUT = (FILES[it] for it in ("max", "flow", "cut"))
+MIN, LEAST, POT = (FILES[it] for it in ("min", "least", "pot"))
+CYCLE, ASKED = (FILES[it] for it in ("cycle", "source"))
 NEAR = "p sp 4 3\na 1 2 5\na 2 3 4\na 3 4 0\n"
 HUGE = 9 * 10**18
 

@@ -7,7 +7,8 @@ import os
 import subprocess
 import tempfile
 
-BINARY = os.path.join(os.path.dirname(os.path.abspath(__file__)), "../crates/dimacs/out/dimacs")
+HERE = os.path.dirname(os.path.abspath(__file__))
+BINARY = os.path.join(HERE, "../crates/dimacs/out/dimacs")
 
 # Where small files take least time; None for where temporary files are.
 MEMORY = "/dev/shm" if os.path.isdir("/dev/shm") else None
@@ -20,6 +21,15 @@ def compiled_once():
         os.environ["PYTHONPYCACHEPREFIX"] = folder
         os.environ.pop("PYTHONDONTWRITEBYTECODE", None)
         yield
+
+
+def refusing_library(folder, unseen=None):
+    """Compiles refusals.c, which doesn't see one of the calls that it refuses, if that is named."""
+    library = os.path.join(folder, f"refusals{unseen or ''}.so")
+    renamed = [f"-D{unseen}=unseen"] if unseen else []
+    words = ["cc", "-O2", "-shared", "-fPIC", *renamed, "-o", library, os.path.join(HERE, "refusals.c")]
+    subprocess.run(words, check=True)
+    return library
 
 
 def text(*lines):

@@ -20,8 +20,7 @@ import sys
 import tempfile
 
 import scripts
-from instances import BINARY, Folder, max_text, text
-from refusals import build
+from instances import BINARY, Folder, max_text, refusing_library, text
 
 # How much more a malicious text may take than a kind one: of time, and of memory.
 LIMIT = (5, 5)
@@ -263,7 +262,7 @@ def main():
     count = int(sys.argv[2]) if len(sys.argv) > 2 else 100_000
     counts = scripts.Counts()
     with tempfile.TemporaryDirectory() as folder:
-        runner = Runner(binary, build(folder))
+        runner = Runner(binary, refusing_library(folder))
         for cases in (max_cases, min_cases, label_cases):
             for name, words, texts, kind_texts, (most_time, most_memory) in cases(count):
                 status, time, peak = runner.measure(words, texts)

@@ -1,13 +1,14 @@
 #!/usr/bin/env python3
 """Refuses each growth, read, write and opening of a file in turn: tests/refusals.py [BINARY] [TESTS]
 
-Each run below is made again with its Nth growth of memory refused, N counting up until a run meets no refusal; the same
-with the Nth read, write and opening; and of the first run of each command, and of each kind of text, with the Nth read
-and write of one byte. Each run has to give its own answer, or the status and the complaint of its error, with the file,
-the call and the system's own reason: then nothing was written if a growth, a read or an opening failed, and a beginning
-of what was to be written if a write did. A call that signals interrupt, a hundred times in a row, is made again. Each run
-has to meet the calls that it can't do without: it opens each of its files, reads each byte, writes each byte, and takes
-memory for its words and files. Before each run the files that it writes hold an old text, longer than the new one.
+Each run of tests/rows/commands of which no file fails, and each below, is made again with its Nth growth of memory
+refused, N counting up until a run meets no refusal; the same with the Nth read, write and opening; and of the first run
+of each command, and of each kind of text, with the Nth read and write of one byte. Each run has to give its own answer,
+or the status and the complaint of its error, with the file, the call and the system's own reason: then nothing was
+written if a growth, a read or an opening failed, and a beginning of what was to be written if a write did. A call that
+signals interrupt, a hundred times in a row, is made again. Each run has to meet the calls that it can't do without: it
+opens each of its files, reads each byte, writes each byte, and takes memory for its words and files. Before each run
+the files that it writes hold an old text, longer than the new one.
 
 Runs are made too with the standard devices closed: what is meant for these never lands in a file. Then texts are read
 that declare the greatest counts, which has to take as many growths, and of as many bytes, as the least ones do. Tiny
@@ -27,110 +28,29 @@ import sys
 import tempfile
 
 import scripts
-from instances import MEMORY, Folder
+from instances import BINARY, MEMORY, Folder, refusing_library
+from rows import rows
 
-HERE = os.path.dirname(os.path.abspath(__file__))
+TESTS = f"{scripts.TOP}/crates/dimacs_tests/out/dimacs_tests_tests"
 
-MAX = "p max 4 5\nn 1 s\nn 4 t\na 1 2 4\na 1 3 2\na 2 3 2\na 2 4 3\na 3 4 5\n"
-MIN = "p min 4 5\nn 1 4\nn 4 -4\na 1 2 0 4 2\na 1 3 0 2 2\na 2 3 0 2 1\na 2 4 0 3 3\na 3 4 0 5 1\n"
-
-# The names of files that stand in capitals in the words of runs. Blanks at their ends belong to them.
-NAMES = {"SPACED": " odd ", "CLAIM": "made.claim ", "SHOWN": " made.shown"}
+# The names that some files have in place of those in the words of runs. Blanks at their ends belong to them.
+NAMES = {"road": " odd ", "a": "made.claim ", "b": " made.shown"}
 
 # Those that a run may write, in the order in which it does; what it prints comes after them.
-MADE = ["CLAIM", "SHOWN"]
+MADE = ["a", "b"]
 
 # What these hold before a run.
 OLD = "old\n" * 1000
 
-# The texts of the other files.
-TEXTS = {
-    "odd": "c x\n  p  sp 2 1\r\n\na 1 2 +007",
-    "SPACED": "p sp 1 0\n",
-    "max": MAX,
-    "flow": "s 6\nf 1 2 4\nf 1 3 2\nf 2 3 1\nf 2 4 3\nf 3 4 3\n",
-    "turned": "s 6\nf 3 4 3\nf 2 4 3\nf 2 3 1\nf 1 3 2\nf 1 2 3\nf 1 2 1\n",
-    "astray": "s 6\nf 4 1 6\n",
-    "slow": "s 5\nf 1 2 3\nf 1 3 2\nf 2 4 3\nf 3 4 2\n",
-    "cut": "p cut 4 1\nu 1\n",
-    "min": MIN,
-    "least": "s 14\nf 1 2 2\nf 1 3 2\nf 2 3 2\nf 3 4 4\n",
-    "dear": "s 15\nf 1 2 2\nf 1 3 2\nf 2 3 1\nf 2 4 1\nf 3 4 3\n",
-    "pot": "p pot 4 3\ny 1 4\ny 2 2\ny 3 1\n",
-    "cycle": "p sp 4 3\na 1 2 5\na 3 4 0\na 4 3 0\n",
-    "source": "p aux sp ss 1\ns 1\n",
-    "pairs": "p aux sp p2p 2\nq 1 2\nq 1 4\n",
-    "orphan": "p dist 4 1\nt 1 2\nd 2 5 1\nd 3 0 4\n",
-    "dist": "p dist 4 1\nt 1 1\nd 2 5 1\n",
-    "near": "p distances 4 1\nt 1 1\nd 2 5\n",
-    "circled": "p distances 4 1\nt 1 3\nd 2 5\nd 3 0\nd 4 0\n",
-    "negative": "p sp 2 2\na 1 2 -4\na 2 1 3\n",
-    "surplus": "p min 2 1\nn 1 1\na 1 2 0 5 1\n",
-    "supply": "p min 2 1\nn 1 1\nn 2 -1\na 1 2 0 1 3\n",
-    "deficit": "p min 2 1\nn 1 -1\na 1 2 0 5 1\n",
-    "both": "p cut 2 2\nu 1\nu 2\n",
-}
-
-# Each run: its words, its status, and what it prints.
-RUNS = [
-    ("convert gr odd", 0, "p sp 2 1\na 1 2 7\n"),
-    ("convert gr SPACED", 0, "p sp 1 0\n"),
-    ("convert max max", 0, TEXTS["max"]),
-    ("convert min min", 0, TEXTS["min"]),
-    ("convert query pairs", 0, TEXTS["pairs"]),
-    ("convert solution flow", 0, TEXTS["flow"]),
-    ("convert cut cut", 0, TEXTS["cut"]),
-    ("convert pot pot", 0, TEXTS["pot"]),
-    ("convert dist dist", 0, TEXTS["dist"]),
-    ("convert distances near", 0, TEXTS["near"]),
-    ("show gr odd", 0, "i sp 2 1\n"),
-    ("show max max", 0, "i max 4 5 1 4\n"),
-    ("show min min", 0, "i min 4 5 4 4\n"),
-    ("show query pairs", 0, "i p2p 2\n"),
-    ("show solution flow", 0, "i solution 6 5\n"),
-    ("show cut cut", 0, "i cut 4 1\n"),
-    ("show pot pot", 0, "i pot 4 3\n"),
-    ("show dist dist", 0, "i dist 4 1\n"),
-    ("show distances near", 0, "i distances 4 1\n"),
-    ("judge-max max flow cut", 0, "v max 6\n"),
-    ("judge-min min least pot", 0, "v min 14\n"),
-    ("judge-paths cycle source orphan", 1, "x certificate 4 0 PredUnknown\n"),
-    ("judge-paths cycle pairs dist", 0, "v 1 2 5\nv 1 4 unreachable\n"),
-    ("judge-infeasible surplus both", 0, "v infeasible\n"),
-    ("certify-max max flow", 0, "v max 6\n"),
-    ("certify-max max flow SHOWN", 0, "v max 6\n"),
-    ("certify-max max slow SHOWN", 1, "x solution 1 2 NotMaximum\n"),
-    ("certify-min min least SHOWN", 0, "v min 14\n"),
-    ("certify-max max least SHOWN", 1, "x solution 1 2 ValueDiffers\n"),
-    ("certify-min min dear SHOWN", 1, "x solution 1 2 NotLeast\n"),
-    ("certify-infeasible surplus", 0, "v infeasible\n"),
-    ("certify-infeasible surplus SHOWN", 0, "v infeasible\n"),
-    ("certify-infeasible min SHOWN", 1, "x instance 0 0 Feasible\n"),
-    ("certify-infeasible supply SHOWN", 1, "x instance 0 0 Feasible\n"),
-    ("certify-paths cycle near", 0, "v sp distances 1\n"),
-    ("certify-paths cycle near SHOWN", 0, "v sp distances 1\n"),
-    ("certify-paths cycle circled SHOWN", 1, "x node 3 NoTightArc\n"),
-    ("spread-max max turned SHOWN", 0, ""),
-    ("spread-min min least SHOWN", 0, ""),
-    ("spread-max max astray SHOWN", 1, "x solution 2 0 UnknownArc\n"),
-    ("solve-max max CLAIM SHOWN --limit 10", 0, "v max 6\n"),
-    ("solve-max max CLAIM SHOWN --limit 1", 5, "g limit\n"),
-    ("solve-min min CLAIM SHOWN", 0, "v min 14\n"),
-    ("solve-min surplus CLAIM SHOWN", 0, "v infeasible\n"),
-    ("solve-min deficit CLAIM SHOWN", 0, "v infeasible\n"),
-    ("solve-paths cycle source SHOWN", 0, "v sp ss 1\n"),
-    ("solve-paths negative source SHOWN", 1, "x arc 1 NegativeWeight\n"),
-    ("convert gr missing", 3, ""),
-    ("convert foo odd", 2, ""),
-    ("foo odd", 2, ""),
-]
+# Runs that ask for nothing, and one that finds no file: the words, the status, and what they print.
+UNASKED = [("convert gr absent", 3, ""), ("convert foo road", 2, ""), ("foo road", 2, "")]
 
 # Runs that write one file twice, which a line on the standard error reports; no write is refused, since the later text
 # stands over the earlier.
 TWICE = [
-    ("solve-max max CLAIM CLAIM", 0, "v max 6\n"),
-    ("solve-min surplus SHOWN SHOWN", 0, "v infeasible\n"),
-    ("solve-max max CLAIM CLAIM --limit 1", 5, "g limit\n"),
+    ("solve-max pipe a a", 0, "v max 3\n"),
+    ("solve-min unmet a a", 0, "v infeasible\n"),
+    ("solve-max pipe a a --limit 0", 5, "g limit\n"),
 ]
 
 # Runs over a long path, whose tables grow in mid-course: only growths are refused.
@@ -140,44 +60,41 @@ GROWING = [
     ("judge-min long.min long.least long.pot", 0, "v min 39\n"),
     ("judge-infeasible long.unmet long.cut", 0, "v infeasible\n"),
     ("judge-paths long.gr long.query long.dist", 0, "v sp ss 2\n"),
-    ("certify-max long.max long.flow SHOWN", 0, "v max 1\n"),
-    ("certify-min long.min long.least SHOWN", 0, "v min 39\n"),
-    ("certify-infeasible long.unmet SHOWN", 0, "v infeasible\n"),
-    ("certify-infeasible long.min SHOWN", 1, "x instance 0 0 Feasible\n"),
-    ("certify-paths long.gr long.near SHOWN", 0, "v sp distances 2\n"),
-    ("spread-max long.max long.flow SHOWN", 0, ""),
-    ("spread-min long.min long.least SHOWN", 0, ""),
-    ("solve-max long.max CLAIM SHOWN", 0, "v max 1\n"),
-    ("solve-min long.min CLAIM SHOWN", 0, "v min 39\n"),
-    ("solve-min long.unmet CLAIM SHOWN", 0, "v infeasible\n"),
-    ("solve-paths long.gr long.query SHOWN", 0, "v sp ss 2\n"),
+    ("certify-max long.max long.flow a", 0, "v max 1\n"),
+    ("certify-min long.min long.least a", 0, "v min 39\n"),
+    ("certify-infeasible long.unmet a", 0, "v infeasible\n"),
+    ("certify-infeasible long.min a", 1, "x instance 0 0 Feasible\n"),
+    ("certify-paths long.gr long.near a", 0, "v sp distances 2\n"),
+    ("spread-max long.max long.flow a", 0, ""),
+    ("spread-min long.min long.least a", 0, ""),
+    ("solve-max long.max a b", 0, "v max 1\n"),
+    ("solve-min long.min a b", 0, "v min 39\n"),
+    ("solve-min long.unmet a b", 0, "v infeasible\n"),
+    ("solve-paths long.gr long.query a", 0, "v sp ss 2\n"),
 ]
 
 # Runs that create their file once its text is made.
 LATE = ("certify-", "spread-")
 
-# The reasons for which a run that certifies writes a solution.
-BETTER = ("NotMaximum", "NotLeast", "Feasible")
-
 # Runs over closed devices: the words, how the shell closes them, the status, and the system's error of the standard output,
 # if there is one.
 CLOSED = [
-    ("solve-max max CLAIM SHOWN", "<&-", 0, None),
-    ("solve-max max CLAIM SHOWN", ">&-", 3, errno.EBADF),
-    ("solve-max max CLAIM SHOWN", "2>&-", 0, None),
-    ("solve-max max CLAIM SHOWN", "<&- >&-", 3, errno.EBADF),
-    ("solve-max max CLAIM SHOWN", "<&- >&- 2>&-", 3, errno.EBADF),
-    ("certify-max max slow SHOWN", "<&- >&-", 3, errno.EBADF),
+    ("solve-max pipe a b", "<&-", 0, None),
+    ("solve-max pipe a b", ">&-", 3, errno.EBADF),
+    ("solve-max pipe a b", "2>&-", 0, None),
+    ("solve-max pipe a b", "<&- >&-", 3, errno.EBADF),
+    ("solve-max pipe a b", "<&- >&- 2>&-", 3, errno.EBADF),
+    ("certify-max pipe zero a", "<&- >&-", 3, errno.EBADF),
     ("judge-max max flow cut", "<&- >&-", 3, errno.EBADF),
     ("judge-max max flow cut", "<&- 2>&-", 0, None),
-    ("convert gr odd", "<&- >&-", 3, errno.EBADF),
+    ("convert gr road", "<&- >&-", 3, errno.EBADF),
 ]
 
 # What is complained of arguments that ask for nothing, as a pattern. After the first line it is left out for
 # want of memory.
 USAGE = {
-    "convert foo odd": r"dimacs: usage\nno kind foo\nPrints the canonical form\n\nUsage: dimacs convert KIND FILE\n.*",
-    "foo odd": r"dimacs: usage\nno command foo\ndimacs \d.*\nUsage: dimacs COMMAND FILE\.\.\.\n.*\n  convert KIND FILE .*\n",
+    "convert foo road": r"dimacs: usage\nno kind foo\nPrints the canonical form\n\nUsage: dimacs convert KIND FILE\n.*",
+    "foo road": r"dimacs: usage\nno command foo\ndimacs \d.*\nUsage: dimacs COMMAND FILE\.\.\.\n.*\n  convert KIND FILE .*\n",
 }
 NO_TEXT = "dimacs: usage\n"
 
@@ -214,7 +131,7 @@ TEXT_GROWTHS = 5
 
 # The calls that this script has to miss if refusals.c doesn't see them, and the run that shows it.
 UNSEEN = ["malloc", "open", "read", "write"]
-SHOWING = ("solve-max max CLAIM SHOWN --limit 10", 0, "v max 6\n")
+SHOWING = ("solve-max pipe a b --limit 10", 0, "v max 3\n")
 
 # Texts without an end, by the greatest counts that they may declare and by the least.
 DECLARED = [
@@ -239,14 +156,14 @@ judge-min I S C | p min MOST 1;n 1 3;n MOST -3;a 1 MOST 0 5 2 | s 6;f 1 MOST 3 |
 judge-infeasible I C | p min MOST 1;n MOST 1;a 1 MOST 0 5 2 | | p cut MOST 1;u MOST | v infeasible
 judge-paths I S C | p sp MOST 1;a 1 MOST 5 | p aux sp p2p 2;q 1 MOST;q MOST 1 | p dist MOST 2;t 1 1;d MOST 5 1;t MOST 0 | v 1 MOST 5;v MOST 1 unreachable
 judge-paths I S C | p sp MOST 0 | p aux sp ss 1;s MOST | p dist MOST 1;t MOST 0 | v sp ss 1
-certify-max I S SHOWN | p max MOST 2;n 1 s;n MOST t;a 1 MOST 5;a MOST MOST 1 | s 5;f 1 MOST 5 | | v max 5
-certify-min I S SHOWN | p min MOST 1;n 1 3;n MOST -3;a 1 MOST 0 5 2 | s 6;f 1 MOST 3 | | v min 6
-certify-infeasible I SHOWN | p min MOST 1;n MOST 1;a 1 MOST 0 5 2 | | | v infeasible
-certify-paths I S SHOWN | p sp MOST 1;a 1 MOST 5 | p distances MOST 2;t 1 1;d MOST 5;t MOST 0 | | v sp distances 2
-solve-max I CLAIM SHOWN | p max MOST 2;n 1 s;n MOST t;a 1 MOST 5;a MOST MOST 1 | | | v max 5
-solve-min I CLAIM SHOWN | p min MOST 1;n 1 3;n MOST -3;a 1 MOST 0 5 2 | | | v min 6
-solve-min I CLAIM SHOWN | p min MOST 1;n MOST 1;a 1 MOST 0 5 2 | | | v infeasible
-solve-paths I S SHOWN | p sp MOST 1;a MOST 1 5 | p aux sp p2p 1;q MOST 1 | | v MOST 1 5
+certify-max I S a | p max MOST 2;n 1 s;n MOST t;a 1 MOST 5;a MOST MOST 1 | s 5;f 1 MOST 5 | | v max 5
+certify-min I S a | p min MOST 1;n 1 3;n MOST -3;a 1 MOST 0 5 2 | s 6;f 1 MOST 3 | | v min 6
+certify-infeasible I a | p min MOST 1;n MOST 1;a 1 MOST 0 5 2 | | | v infeasible
+certify-paths I S a | p sp MOST 1;a 1 MOST 5 | p distances MOST 2;t 1 1;d MOST 5;t MOST 0 | | v sp distances 2
+solve-max I a b | p max MOST 2;n 1 s;n MOST t;a 1 MOST 5;a MOST MOST 1 | | | v max 5
+solve-min I a b | p min MOST 1;n 1 3;n MOST -3;a 1 MOST 0 5 2 | | | v min 6
+solve-min I a b | p min MOST 1;n MOST 1;a 1 MOST 0 5 2 | | | v infeasible
+solve-paths I S a | p sp MOST 1;a MOST 1 5 | p aux sp p2p 1;q MOST 1 | | v MOST 1 5
 """
 
 # The most memory that these may hold at once, in kB.
@@ -369,13 +286,6 @@ def faults_of(ran, words, status, printed):
         yield f"dimacs {words}: status {ran.status}, prints {ran.outputs[-1]!r}"
     if not is_whole_complaint(ran, words):
         yield f"dimacs {words}: complains {ran.complaint!r}"
-    if [output is not None for output in ran.outputs[:-1]] != [name in words and writes(words, printed) for name in MADE]:
-        yield f"dimacs {words}: writes {ran.outputs!r}"
-
-
-def writes(words, printed):
-    """Whether a run creates its files: one that certifies or spreads does only if it has a text to write."""
-    return not words.startswith(LATE) or printed[:1] in ("", "v") or printed.rstrip().endswith(BETTER)
 
 
 def may_pass_over(kind, words, call):
@@ -386,7 +296,7 @@ def may_pass_over(kind, words, call):
 def what_runs(words):
     """The command of a run, the kind of text that it converts, and whether it names a file for a certificate."""
     command, *named = words.split()
-    return command, named[0] if command == "convert" else "", "SHOWN" in named
+    return command, named[0] if command == "convert" else "", not set(MADE).isdisjoint(named)
 
 
 def names_of(words):
@@ -405,8 +315,8 @@ def fault_of(kind, words, ran, whole):
         wanted.append(complaint_of(ran.refused))
     if ran.complaint not in wanted:
         return f"complains {ran.complaint!r}"
-    if words.startswith(LATE) and kind.call != "write" and ran.outputs[1] is not None:
-        return f"creates {MADE[1]}"
+    if words.startswith(LATE) and kind.call != "write" and ran.outputs[0] is not None:
+        return f"creates {MADE[0]}"
     allowed = whole.outputs if kind.call == "write" else [""] * len(ran.outputs)
     if not is_beginning(ran.outputs, allowed):
         return f"writes {ran.outputs!r}"
@@ -434,10 +344,10 @@ def wanted_calls(runs, kind, words, whole):
     if whole.status == 2:
         return {}
     files = {name: NAMES.get(name, name) for name in files_of(words)}
-    read = {files[name]: runs.read(name) for name in files if name not in MADE and name != "missing"}
+    read = {files[name]: runs.read(name) for name in files if name not in MADE and name != "absent"}
     written = [*(files.get(name, name) for name in MADE), "standard output"]
     if kind.call == "opening":
-        created = MADE if writes(words, whole.outputs[-1]) else []
+        created = [name for name, text in zip(MADE, whole.outputs) if text is not None]
         opened = [name for name in files if name not in MADE or name in created]
         return {Call("created" if name in created else "opened", files[name]): 1 for name in opened}
     if kind.call == "read":
@@ -491,7 +401,7 @@ def run_closed(runs, words, closed, status, error):
 
 def miss(runs, call):
     """Refuses calls by a library that doesn't see this one. Yields a fault if no run fails by that."""
-    blind = Runs(runs.binary, build(os.path.dirname(runs.library), call), runs.folder)
+    blind = Runs(runs.binary, refusing_library(os.path.dirname(runs.library), call), runs.folder)
     if not list(refuse_all(blind, *SHOWING, KINDS)):
         yield f"nothing is missed if {call} is never refused"
     runs.runs += blind.runs
@@ -545,27 +455,25 @@ def refuse_in_test(runs, tests, name):
         yield f"{name}: no growth is met"
 
 
-def build(folder, unseen=None):
-    """Compiles the library that refuses calls, which doesn't see one of them, if that is named."""
-    library = os.path.join(folder, f"refusals{unseen or ''}.so")
-    renamed = [f"-D{unseen}=unseen"] if unseen else []
-    source = os.path.join(HERE, "refusals.c")
-    subprocess.run(["cc", "-O2", "-shared", "-fPIC", *renamed, "-o", library, source], check=True)
-    return library
+def runs_of_rows():
+    """The runs of tests/rows/commands that read all of their files, and write others: the words, the status and what is
+    printed."""
+    for words, _, printed, complaint, status in rows("commands"):
+        is_read = not complaint and status != "2" and not printed.endswith("UnknownLine\n")
+        if is_read and len(set(words.split())) == len(words.split()):
+            yield words, int(status), printed
 
 
 def main():
-    top = os.path.dirname(HERE)
-    binary = sys.argv[1] if len(sys.argv) > 1 else os.path.join(top, "crates/dimacs/out/dimacs")
-    built = "crates/dimacs_tests/out/dimacs_tests_tests"
-    tests = os.path.abspath(sys.argv[2] if len(sys.argv) > 2 else os.path.join(top, built))
+    binary, tests = map(os.path.abspath, [*sys.argv[1:], *[BINARY, TESTS][len(sys.argv) - 1 :]])
     cases = scripts.Counts()
     with tempfile.TemporaryDirectory() as built, tempfile.TemporaryDirectory(dir=MEMORY) as folder:
-        runs = Runs(os.path.abspath(binary), build(built), folder)
-        for name, text in {**TEXTS, **long_texts()}.items():
+        runs = Runs(binary, refusing_library(built), folder)
+        for name, text in [*rows("files"), *long_texts().items()]:
             runs.write(name, text)
-        by_byte = {what_runs(words): words for words, *_ in RUNS[::-1]}.values()
-        for run in RUNS:
+        every = [*runs_of_rows(), *UNASKED]
+        by_byte = {what_runs(words): words for words, *_ in every[::-1]}.values()
+        for run in every:
             cases.faultless(refuse_all(runs, *run, [it for it in KINDS if "AT_MOST" not in it.variables or run[0] in by_byte]))
         for table, kinds in (TWICE, KINDS[:3]), (GROWING, KINDS[:1]):
             for run in table:

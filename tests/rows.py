@@ -20,8 +20,7 @@ import sys
 import tempfile
 
 import scripts
-from instances import BINARY, MEMORY, Folder
-from refusals import build
+from instances import BINARY, MEMORY, Folder, refusing_library
 
 HERE = os.path.dirname(os.path.abspath(__file__))
 
@@ -350,7 +349,7 @@ def commands(runs):
 def main():
     binary = os.path.abspath([*sys.argv, BINARY][1])
     with tempfile.TemporaryDirectory() as built, tempfile.TemporaryDirectory(dir=MEMORY) as folder:
-        runs = Runs(binary, build(built), folder)
+        runs = Runs(binary, refusing_library(built), folder)
         for part in (texts, judges, certifiers, solvers, commands):
             part(runs)
     runs.counts.end()

@@ -33,9 +33,9 @@ build   | 11400  | tests/referee.py {build}/dimacs
 build   | 51     | tests/batch.py {build}/dimacs
 build   | 150    | tests/large_runs.py {build}/dimacs
 build   | 40     | tests/malicious.py {build}/dimacs 50000
-build   | 105    | tests/refusals.py {build}/dimacs {tests}
+build   | 101    | tests/refusals.py {build}/dimacs {tests}
 build   | 650    | tests/draw.py {build}/dimacs
-build   | 1028   | tests/rows.py {build}/dimacs
+build   | 1050   | tests/rows.py {build}/dimacs
 build   | 1050   | tests/explain.py {build}/dimacs 80
 build   | 43     | tests/install.py {build}
 build   | 800    | tests/solve_min_trials.py 400 1 {build}/dimacs
