@@ -28,7 +28,7 @@ nothing | 400    | tests/links.py
 nothing | 13     | tests/theorem.py
 nothing | 40     | tests/completion.py
 nothing | 110    | tests/man_pages.py
-build   | 7000   | tests/library.py --build {build} --instances 3000
+build   | 10000  | tests/library.py --build {build} --instances 5000
 build   | 11400  | tests/referee.py {build}/dimacs
 build   | 51     | tests/batch.py {build}/dimacs
 build   | 150    | tests/large_runs.py {build}/dimacs
@@ -38,7 +38,6 @@ build   | 650    | tests/draw.py {build}/dimacs
 build   | 1050   | tests/rows.py {build}/dimacs
 build   | 1050   | tests/explain.py {build}/dimacs 80
 build   | 43     | tests/install.py {build}
-build   | 800    | tests/solve_min_trials.py 400 1 {build}/dimacs
 build   | 50     | tests/usage.py {build}/dimacs
 build   | 50     | tests/shown_runs.py {build}/dimacs
 build   | 28     | tests/abi.py {build}

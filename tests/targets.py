@@ -325,7 +325,8 @@ def test_scripts(tests, program):
         it.write(f'#!/bin/sh\nexec {" ".join(QEMU)} {program} "$@"\n')
     os.chmod(by_qemu, 0o755)
     tests.counted("shown_runs.py on aarch64", run(f"{TOP}/tests/shown_runs.py", by_qemu, cwd=TOP))
-    tests.counted("solve_min_trials.py on aarch64", run(f"{TOP}/tests/solve_min_trials.py", "150", "1", by_qemu, cwd=TOP))
+    words = [sys.executable, f"{TEST}/agree.py", "--instances", "150", "--runs", "150", "--program", by_qemu]
+    tests.counted("agree.py on aarch64", run(*words, env=package(tests.build)))
 
 
 def test_windows(tests):

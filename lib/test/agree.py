@@ -3,8 +3,9 @@
 
 Random small instances with claims, right and wrong ones, with small numbers or some near the ends of types, go through
 the calls over arrays, in any form, and, printed, through those over texts; M of them, spread over all, through the
-program instead. Each has to get the same line. What a certifier hands out has to be accepted as a text. The last line
-counts what agreed, and what didn't.
+program instead. Each has to get the same line. What a certifier hands out has to be accepted as a text. A run that
+gives up keeps its contract: one that solves may do so only where a cost on some of the arcs is out of range. The last
+line counts what agreed, and what didn't.
 
 Not compared, since arrays and texts differ there by design:
   - wrong lengths, and numbers past the limits of instances, which are misuse of arrays and faults of texts;
@@ -79,6 +80,10 @@ class Arcs:
         if self.flows:
             arc = chance.randrange(len(self.flows))
             self.flows[arc] = self.spoiled(chance, self.flows[arc])
+
+    def may_cost_too_much(self):
+        """Whether a cost on some of the arcs may be out of range."""
+        return sum(abs(cost) * cap for cost, cap in zip(self.costs, self.caps)) > MOST_VALUE
 
     def solution(self, value, flows):
         value = max(-MOST_VALUE, min(value, MOST_VALUE))  # past it CostRange comes before the value is looked at
@@ -353,8 +358,8 @@ def solved(name, case, solve, by_texts, certificate, chance, texts):
         yield name, "v infeasible", other
         yield f"{name}, its set", other, texts.line("judge-infeasible", it.texts()[0], cut_text(no.inside))
     except dimacs.GaveUp:
-        if other == "g limit":  # the least cost is out of range
-            yield name, "g limit", other
+        if other == "g limit":
+            yield f"{name}, out of range", name == "solve min" and it.may_cost_too_much(), True
         else:
             yield f"{name}, past 64 bits", "v", other.split()[0]
 
@@ -383,6 +388,7 @@ COMPARED = [
     functools.partial(certified, "certify max", MaxCase, dimacs.certify_max_arrays, "judge-max", cut_text),
     functools.partial(certified, "certify min", MinCase, dimacs.certify_min_arrays, "judge-min", potentials_text),
     functools.partial(solved, "solve max", MaxCase, dimacs.solve_max_arrays, dimacs.solve_max, cut_text),
+    functools.partial(solved, "solve min", MinCase, dimacs.solve_min_arrays, dimacs.solve_min, potentials_text),
     functools.partial(solved, "solve min", InfeasibleCase, dimacs.solve_min_arrays, dimacs.solve_min, potentials_text),
 ]
 
