@@ -9,7 +9,7 @@ import re
 import subprocess
 import tempfile
 
-from texts import read, write
+from texts import TOP, read, write
 
 
 class Fault(Exception):
@@ -17,10 +17,10 @@ class Fault(Exception):
 
 
 class Edit:
-    """A wrong body: the pairs of texts by which it changes files."""
+    """A wrong body of a crate: the pairs of texts by which it changes files."""
 
-    def __init__(self, name, lines):
-        self.name, self.pairs, self.fault = name, [], None
+    def __init__(self, crate, name, lines):
+        self.crate, self.name, self.pairs, self.fault = crate, name, [], None
         try:
             self.read(lines)
         except Fault as fault:
@@ -42,48 +42,50 @@ class Edit:
         if not self.pairs or old:
             raise Fault("it has no line new")
 
-    def applied(self, root):
-        """The texts that it makes of files below a folder, by their paths."""
+    def path(self, file):
+        return f"{TOP}/crates/{self.crate}/{file}"
+
+    def applied(self):
+        """The texts that it makes of files of its crate, by their paths."""
         if self.fault:
             raise Fault(self.fault)
         texts = {}
         for file, old, new in self.pairs:
             if file not in texts:
-                texts[file] = text_of(root, file)
+                texts[file] = self.text_of(file)
             count = texts[file].count(old)
             if count != 1:
                 raise Fault(f"{old!r} stands {count} times in {file}")
             texts[file] = texts[file].replace(old, new)
         return texts
 
+    def text_of(self, file):
+        try:
+            return read(self.path(file))
+        except OSError as error:
+            raise Fault(f"{file}: {error.strerror}") from None
 
-def text_of(root, file):
-    try:
-        return read(os.path.join(root, file))
-    except OSError as error:
-        raise Fault(f"{file}: {error.strerror}") from None
 
-
-def edits_in(path):
-    """The edits of a file; none if it isn't there."""
+def edits_of(crate):
+    """The wrong bodies of a crate; none if it has no file of them."""
+    path = f"{TOP}/crates/{crate}/wrong-bodies"
     if not os.path.exists(path):
         return []
-    found = [named.splitlines() for named in re.split(r"^name: ", read(path), flags=re.M)]
-    stray = [line for line in found[0] if line]
-    named = [(lines[0], [line for line in lines[1:] if line]) for lines in found[1:]]
-    return [Edit(name, lines) for name, lines in ([("", stray)] if stray else []) + named]
+    stray, *named = [it.splitlines() for it in re.split(r"^name: ", read(path), flags=re.M)]
+    named = [(lines[0], list(filter(None, lines[1:]))) for lines in ([["", *stray]] if any(stray) else []) + named]
+    return [Edit(crate, name, lines) for name, lines in named]
 
 
-def showing_nothing(kit, edits, root_of):
+def showing_nothing(kit, edits):
     """Yields each edit that shows nothing, and why: it can't be applied, its code doesn't parse, or is as it was."""
     with tempfile.TemporaryDirectory() as room:
         made, originals = {}, {}
         for edit in edits:
             try:
-                for file, text in edit.applied(root_of(edit)).items():
+                for file, text in edit.applied().items():
                     made[edit, file] = f"{room}/{len(made)}.rt"
                     write(made[edit, file], text)
-                    originals[edit, file] = os.path.join(root_of(edit), file)
+                    originals[edit, file] = edit.path(file)
             except Fault as fault:
                 yield edit, str(fault)
         unparsed, code = unparsed_of(kit, made.values()), code_of(kit, {*made.values(), *originals.values()})

@@ -125,11 +125,11 @@ class Place(collections.namedtuple("Place", "file function")):
 class Edit:
     """A wrong body: what it makes of the crate's files, and the functions that it changes, if it changes nothing else."""
 
-    def __init__(self, crate, body):
-        self.crate, self.body, self.name = crate, body, body.name
+    def __init__(self, body):
+        self.crate, self.name = body.crate, body.name
         self.functions, self.result, self.why = [], None, None
         try:
-            self.texts = body.applied(f"{TOP}/crates/{crate}")
+            self.texts = body.applied()
             self.find_functions()
         except bodies.Fault as fault:
             self.settle(BAD, str(fault))
@@ -458,18 +458,14 @@ def print_results(edits, minutes):
     return failed
 
 
-def bodies_of(crate):
-    return bodies.edits_in(f"{TOP}/crates/{crate}/wrong-bodies")
-
-
 def apply(crates):
     """Applies the edits of these crates, and answers how many show nothing."""
-    read = {it: crate for crate in crates for it in bodies_of(crate)}
-    faults = list(bodies.showing_nothing(kits.folder(), read, lambda it: f"{TOP}/crates/{read[it]}"))
+    edits = [it for crate in crates for it in bodies.edits_of(crate)]
+    faults = list(bodies.showing_nothing(kits.folder(), edits))
     for it, fault in faults:
-        print(f"{read[it]}: {it.name}: {fault}")
-    print(f"edits: {len(read)}, showing nothing: {len(faults)}")
-    return len(faults) + (not read)
+        print(f"{it.crate}: {it.name}: {fault}")
+    print(f"edits: {len(edits)}, showing nothing: {len(faults)}")
+    return len(faults) + (not edits)
 
 
 def tenth_of(edits, seed):
@@ -481,7 +477,7 @@ def tenth_of(edits, seed):
 
 def attempt(crates, seed, is_over_ci):
     """Tries the edits of these crates, and answers how many aren't refused."""
-    of_crates = {crate: [Edit(crate, it) for it in bodies_of(crate)] for crate in crates}
+    of_crates = {crate: list(map(Edit, bodies.edits_of(crate))) for crate in crates}
     if seed:
         print(f"--tenth {seed} tries these again")
         of_crates = {crate: tenth_of(edits, seed) for crate, edits in of_crates.items()}
@@ -498,7 +494,7 @@ def main():
     words.add_argument("--over-ci", action="store_true", help="over the libraries that rt ci left")
     words.add_argument("crates", nargs="*", metavar="CRATE")
     asked = words.parse_args()
-    crates = asked.crates or [it for it in kits.crates() if bodies_of(it)]
+    crates = asked.crates or [it for it in kits.crates() if bodies.edits_of(it)]
     failed = apply(crates) if asked.apply else attempt(crates, asked.tenth, asked.over_ci)
     return 1 if failed else 0
 
