@@ -18,7 +18,7 @@ TOP = os.path.dirname(os.path.dirname(os.path.abspath(__file__)))
 # nothing that is built comes first, and of each kind what takes longest.
 TABLE = """
 nothing | 28     | tests/second_proof.py
-nothing | 440    | tests/lower_addresses.py
+nothing | 420    | tests/lower_addresses.py
 nothing | 42     | tests/gate_test.sh
 nothing | 0      | tools/try_bodies.py --apply
 nothing | 0      | tools/believed.py
