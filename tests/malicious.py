@@ -88,14 +88,13 @@ def max_parallels(count, entries):
     return max_texts(2, arcs, (1, 2), count, entries(arcs))
 
 
-def min_path(ids, nodes):
+def min_path(ids, nodes, order=list):
     """A path that carries 1 at the cost of 1 for each arc, and a potential for each node."""
     count = len(ids) - 1
-    arcs = path(ids)
     ends = f"n {ids[0]} 1", f"n {ids[-1]} -1"
     return [
-        text(f"p min {nodes} {count}", *ends, *(f"a {tail} {head} 0 1 1" for tail, head in arcs)),
-        text(f"s {count}", *(f"f {tail} {head} 1" for tail, head in arcs)),
+        text(f"p min {nodes} {count}", *ends, *(f"a {tail} {head} 0 1 1" for tail, head in order(path(ids)))),
+        text(f"s {count}", *(f"f {tail} {head} 1" for tail, head in path(ids))),
         text(f"p pot {nodes} {len(ids)}", *(f"y {id} {count - i}" for i, id in enumerate(ids))),
     ]
 

@@ -27,6 +27,7 @@ import subprocess
 import sys
 import tempfile
 
+import malicious
 import scripts
 from instances import BINARY, MEMORY, Folder, refusing_library
 from rows import rows
@@ -172,27 +173,15 @@ FAR_PEAK = 64 * 1024
 
 def long_texts():
     """The texts of a path of 40 nodes that are 300 apart. Its arcs fall, and its entries rise."""
-    ids = [1 + 300 * i for i in range(40)]
-    arcs = list(zip(ids, ids[1:]))
-    first, last = ids[0], ids[-1]
-    ends = [f"n {first} s", f"n {last} t"]
-    costly = [f"a {tail} {head} 0 1 1" for tail, head in arcs[::-1]]
-    labels = [f"d {head} {i + 1} {tail}" for i, (tail, head) in enumerate(arcs)]
-    distances = [line.rpartition(" ")[0] for line in labels]
-    texts = {
-        "gr": [f"p sp {last} 39", *(f"a {tail} {head} 1" for tail, head in arcs[::-1])],
-        "max": [f"p max {last} 39", *ends, *(f"a {tail} {head} 1" for tail, head in arcs[::-1])],
-        "flow": ["s 1", *(f"f {tail} {head} 1" for tail, head in arcs)],
-        "cut": [f"p cut {last} 1", f"u {first}"],
-        "min": [f"p min {last} 39", f"n {first} 1", f"n {last} -1", *costly],
-        "least": ["s 39", *(f"f {tail} {head} 1" for tail, head in arcs)],
-        "pot": [f"p pot {last} 40", *(f"y {id} {39 - i}" for i, id in enumerate(ids))],
-        "unmet": [f"p min {last} 39", f"n {first} 2", f"n {last} -2", *costly],
-        "query": ["p aux sp ss 2", f"s {first}", f"s {last}"],
-        "dist": [f"p dist {last} 2", f"t {first} 39", *labels, f"t {last} 0"],
-        "near": [f"p distances {last} 2", f"t {first} 39", *distances, f"t {last} 0"],
-    }
-    return {f"long.{name}": "".join(line + "\n" for line in lines) for name, lines in texts.items()}
+    ids = list(range(1, 12_000, 300))
+    last = ids[-1]
+    distances = malicious.distances([ids, [last]], last, malicious.falling)
+    made = dict(zip(("max", "flow", "cut"), malicious.max_path(ids, last, malicious.falling(malicious.path(ids)))))
+    made |= zip(("min", "least", "pot"), malicious.min_path(ids, last, malicious.falling))
+    made |= {"gr": distances[0], "dist": distances[2], "near": malicious.claimed(distances)[1]}
+    made["query"] = f"p aux sp ss 2\ns 1\ns {last}\n"
+    made["unmet"] = made["min"].replace(f"n 1 1\nn {last} -1\n", f"n 1 2\nn {last} -2\n")
+    return {f"long.{name}": it for name, it in made.items()}
 
 
 class Runs(Folder):
