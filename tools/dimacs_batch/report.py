@@ -153,8 +153,9 @@ class Axis:
     """A logarithmic axis, from one power of ten to another."""
 
     def __init__(self, values, begin, end):
-        self.low = min((math.floor(math.log10(it)) for it in values), default=0)
-        self.high = max(max((math.ceil(math.log10(it)) for it in values), default=1), self.low + 1)
+        powers = {whole(math.log10(it)) for it in values for whole in (math.floor, math.ceil)} or {0, 1}
+        self.low = min(powers)
+        self.high = max(*powers, self.low + 1)
         self.begin, self.end = begin, end
 
     def place(self, value):
@@ -165,18 +166,10 @@ class Axis:
         return [(10.0**it, f"{10.0**it:,.3f}".rstrip("0").rstrip(".")) for it in range(self.low, self.high + 1)]
 
 
-def extent(table):
-    ends = None
-    for arcs, seconds, _, _ in points(table):
-        ends = ends or [arcs, arcs, seconds, seconds]
-        ends = [min(ends[0], arcs), max(ends[1], arcs), min(ends[2], seconds), max(ends[3], seconds)]
-    return ends or []
-
-
 def plot(table):
     """The seconds of the judge over the arcs, a point for each row that was judged."""
-    ends = extent(table)
-    across, up = Axis(ends[:2], MARGIN, WIDTH - 20), Axis(ends[2:], HEIGHT - MARGIN, 20)
+    across = Axis((arcs for arcs, *_ in points(table)), MARGIN, WIDTH - 20)
+    up = Axis((seconds for _, seconds, *_ in points(table)), HEIGHT - MARGIN, 20)
     yield f'<svg viewBox="0 0 {WIDTH} {HEIGHT}" width="{WIDTH}" role="img" aria-label="seconds to judge over arcs">\n'
     for value, label in across.ticks():
         x = across.place(value)

@@ -138,18 +138,22 @@ def put_table(place, writer, rows):
     put_file(place, lambda out: fill(writer(out), rows))
 
 
-def locked(file, place):
-    """The file beside a table to which rows are added, locked: so no other run writes the same table."""
+def locked(file):
+    """Where a table lies, and the file beside it to which rows are added, locked: so no other run writes the same
+    table."""
+    place = place_of(file)
     name = f"{place}.part"
     while True:
-        part = open(name, "a", newline="", **ANY_NAMES)
         try:
+            part = open(name, "a", newline="", **ANY_NAMES)
             fcntl.flock(part, fcntl.LOCK_EX | fcntl.LOCK_NB)
         except BlockingIOError:
             fail(f"{file}: another dimacs-batch writes it")
+        except OSError as error:
+            fail_of(error, file)
         # It may have been removed by the run that had the lock.
         if os.path.exists(name) and os.path.samestat(os.fstat(part.fileno()), os.stat(name)):
-            return part
+            return place, part
         part.close()
 
 
@@ -175,11 +179,7 @@ def test_table(place, writer):
 
 def put_alone(file, write, test):
     """Writes a file that no other run writes, if a test says nothing against the one that is there."""
-    place = place_of(file)
-    try:
-        part = locked(file, place)
-    except OSError as error:
-        fail_of(error, file)
+    place, part = locked(file)
     try:
         if os.path.getsize(part.name):
             fail(f"{file}: a run that was killed left rows in {part.name}; continue it, or name another file")
@@ -195,11 +195,8 @@ class Kept:
     put into the file, in order. FILE.part is locked, so that no other run writes the same table."""
 
     def __init__(self, file, writer):
-        self.file, self.place, self.writer = file, place_of(file), writer
-        try:
-            self.part = locked(file, self.place)
-        except OSError as error:
-            fail_of(error, file)
+        self.file, self.writer = file, writer
+        self.place, self.part = locked(file)
 
     def begin(self, rows):
         """Takes the rows of earlier runs, and puts them into the file."""
