@@ -1147,12 +1147,15 @@ def other_referee(place):
         place.refuses("", f"--recheck {words}")
 
 
+def rows_of_examples():
+    return [[cell.strip() for cell in line.split("|")] for line in EXAMPLES.strip().splitlines()]
+
+
 def examples(place):
     """The examples are judged as their page shows."""
-    wanted = [[cell.strip() for cell in line.split("|")] for line in EXAMPLES.strip().splitlines()]
     status, table, _ = place.run(TEXTS, "--show")
     assert status == 3, status
-    for row, (instance, answers, command, line, its_class) in zip(table, wanted, strict=True):
+    for row, (instance, answers, command, line, its_class) in zip(table, rows_of_examples(), strict=True):
         seen = [os.path.basename(row["instance"]), " ".join(map(os.path.basename, row["answers"].split()))]
         seen += [row["command"].split(" /")[0], row["verdict"], row["class"]]
         assert seen == [instance, answers, command, line, its_class], row

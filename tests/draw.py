@@ -19,6 +19,7 @@ import tempfile
 import xml.etree.ElementTree as ElementTree
 
 import scripts
+from batch import rows_of_examples
 from explained_yes import flow_of, lines_of
 from instances import BINARY as BUILT, Folder, compiled_once
 from scripts import TOP
@@ -32,28 +33,14 @@ sys.path.insert(0, f"{TOP}/tools")
 sys.dont_write_bytecode = True
 from dimacs_draw.drawing import graphviz, layers, layout  # noqa: E402  (the folder of tools is on the path now)
 
-# Claims over the examples: the command, and the texts.
+# Claims over the examples, beside those of which batch.py knows the verdict: the command, and the texts.
 EXAMPLES = """
 show | pipes.max
 show | freight.min
 show | road.gr
 certify-max | pipes.max pipes.solution
-judge-max | pipes.max pipes.solution pipes.cut
-certify-max | pipes.max pipes-careless.solution
 certify-max | bridges.max bridges.solution
-judge-max | bridges.max bridges.solution bridges.cut
-certify-max | bridges.max bridges-sums.solution
-judge-max | trucks.max trucks.solution trucks.cut
 certify-min | freight.min freight.solution
-judge-min | freight.min freight.solution freight.pot
-certify-min | freight.min freight-dear.solution
-judge-min | canning.min canning.solution canning.pot
-judge-infeasible | shortage.min shortage.cut
-judge-infeasible | detroit.min detroit.cut
-judge-paths | road.gr road.query road.dist
-certify-paths | road.gr road.distances
-certify-paths | road.gr road-near.distances
-judge-paths | romania.gr romania.query romania.dist
 """
 
 # Refusals: what dimacs prints, the texts, and the arcs and nodes that are red; ? is an entry without an arc.
@@ -274,8 +261,9 @@ def test_picture(counts, name, picture, lines):
 
 def test_examples(counts, place):
     folder = f"{TOP}/examples"
-    for line in EXAMPLES.strip().split("\n"):
-        command, texts = (it.strip() for it in line.split("|"))
+    claims = [line.split(" | ") for line in EXAMPLES.strip().split("\n")]
+    claims += [(command, f"{instance} {answers}") for instance, answers, command, *_ in rows_of_examples() if answers]
+    for command, texts in claims:
         found = f"{place}/found"
         lines = printed(command, texts.split(), folder, found)
         claim = Claim(texts.split())
