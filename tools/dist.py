@@ -17,7 +17,6 @@ import re
 import shutil
 import subprocess
 import sys
-import tarfile
 import tempfile
 import time
 
@@ -80,29 +79,14 @@ def install(build, into, *folders):
     subprocess.run([*words, *folders], check=True, stdout=subprocess.DEVNULL)
 
 
-def write_tar(out, folder, name, epoch):
-    """Packs a folder by this name, in an order, of one time and without the names of who made it."""
-
-    def plain(entry):
-        entry.uid = entry.gid = 0
-        entry.uname = entry.gname = "root"
-        entry.mtime = epoch
-        return entry
-
-    with tempfile.TemporaryFile() as it:
-        with tarfile.open(fileobj=it, mode="w") as made:
-            made.add(folder, name, filter=plain)
-        it.seek(0)
-        packed = subprocess.run(["gzip", "-9n"], stdin=it, stdout=subprocess.PIPE, check=True).stdout
-    with open(f"{out}/{name}.tar.gz", "wb") as it:
-        it.write(packed)
-
-
 def make_tarball(build, room, out, release):
+    """Packs what is installed in an order, of one time and without the names of who made it."""
     name = f"dimacs-{release.version}-{release.machine}-linux"
     install(build, room, f"prefix=/{name}")
     os.remove(f"{room}/{name}/share/dimacs/files")  # of make uninstall, which has nothing to do with a tarball
-    write_tar(out, f"{room}/{name}", name, release.epoch)
+    plain = ["--format=gnu", "--sort=name", f"--mtime=@{release.epoch}", "--owner=root:0", "--group=root:0"]
+    words = ["tar", "-C", room, *plain, "-I", "gzip -9n", "-cf", f"{out}/{name}.tar.gz", name]
+    subprocess.run(words, check=True)
 
 
 def files_of(folder):
