@@ -22,7 +22,7 @@ from texts import read, write
 Parts = collections.namedtuple("Parts", "folders files")
 BESIDE = ["crates.txt", "HANDLES", "VERSION"]
 PROVED = Parts(["src", "specs", "proofs"], BESIDE)
-UNPROVED = Parts(["src"], [*BESIDE, "tools/quick_build.py"])
+UNPROVED = Parts(["src"], [*BESIDE, "tools/functions.py", "tools/quick_build.py"])
 
 
 def digest(path):

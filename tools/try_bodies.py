@@ -37,6 +37,7 @@ import tempfile
 
 import edits as bodies
 import kit as kits
+from functions import functions_in, owner_of
 from texts import TOP, read, write
 
 # The checks that run at once, and the edits in one of them.
@@ -45,8 +46,6 @@ EDITS = 48
 
 REFUSED, PROVED, BAD = "refused", "proved", "bad"
 
-FUNCTION = re.compile(r'( *)(?:pub(?:\([a-z]+\))? )?(?:const )?(?:unsafe )?(?:extern "C" )?fn (\w+)')
-BLOCK = re.compile(r"(?:pub )?(?:unsafe )?(?:impl|trait)\b")
 NO_PROOF = re.compile(r"^fn (\S+): no proof: expected answers in", re.M)
 PROOF_ERROR = re.compile(r"^(?:note: )?(?:\./)?(proofs/\S+?):\d+:\d+: error(.*(?:\n  .*)*)", re.M)
 CODE_ERROR = re.compile(r"^(?:\./)?(src/\S+?):(\d+):\d+: error(.*)", re.M)
@@ -60,53 +59,8 @@ pub {name}_spec : {{M : Type 1}} → statement M
 {name}_spec = ?
 """
 
-# A function with its body: the lines of its head, its body's brackets, and the impl or trait around it.
-Function = collections.namedtuple("Function", "head first last name block")
-
 # What a check printed, with its status, and the processor minutes that it took, by its crate.
 Report = collections.namedtuple("Report", "status text minutes")
-
-
-def functions(lines):
-    """The functions with a body in a text in the layout of rt fmt."""
-    block = ""
-    for head, line in enumerate(lines):
-        if BLOCK.match(line):
-            ends = next(it for it in range(head, len(lines)) if lines[it].endswith(("{", "}")))
-            block = " ".join(lines[head : ends + 1])
-        found = FUNCTION.match(line)
-        if found:
-            indent, name = found.groups()
-            rest = range(head, len(lines))
-            first = next((it for it in rest if lines[it].endswith("{") and re.match(rf"{indent}\S", lines[it])), None)
-            last = next((it for it in rest if lines[it] == f"{indent}}}"), None)
-            if first is not None and last is not None and first < last:
-                yield Function(head, first, last, name, block if indent else "")
-
-
-def parted(block):
-    """The parameters of an impl, and what stands after them, without lifetimes and the modules of names."""
-    text = re.sub(r"^(?:unsafe )?impl|\{$", "", re.sub(r"\w+::|&|'\w+", "", block.partition(" where ")[0]))
-    depth = 0
-    for at, char in enumerate(text):
-        depth += (char == "<") - (char == ">")
-        if depth == 0:
-            break
-    given, rest = text[1:at], text[at:] if at == 0 else text[at + 1 :]
-    while re.search(r"<[^<>]*>", given):
-        given = re.sub(r"<[^<>]*>", "", given)
-    return {re.sub(r"^const ", "", it.strip()).partition(":")[0] for it in given.split(",")}, rest
-
-
-def owner_of(block):
-    """What a check names an impl or a trait: `Trait`, `Type+Its+Types`, or `TypeItsTypesTraitItsTypes`."""
-    trait = re.match(r"(?:pub )?(?:unsafe )?trait (\w+)", block)
-    if trait:
-        return trait[1]
-    parameters, rest = parted(block)
-    head, is_of_trait, kind = rest.partition(" for ")
-    names = [[it[0].upper() + it[1:] for it in re.findall(r"\w+", text) if it not in parameters] for text in (kind, head)]
-    return "".join(names[0] + names[1]) if is_of_trait else "+".join(names[1])
 
 
 class Place(collections.namedtuple("Place", "file function")):
@@ -149,7 +103,7 @@ class Edit:
         found = set()
         for file in self.texts:
             was, now = self.lines_of(file)
-            every = list(functions(was))
+            every = list(functions_in(was))
             for number, line in enumerate(was):
                 if line != now[number]:
                     around = [Place(file, it) for it in every if it.first <= number <= it.last]
@@ -315,7 +269,7 @@ def keys_of(crate):
 
 def places_in(folder):
     for path in glob.glob(f"{folder}/src/**/*.rt", recursive=True):
-        for it in functions(read(path).split("\n")):
+        for it in functions_in(read(path).split("\n")):
             yield Place(os.path.relpath(path, folder), it)
 
 
