@@ -20,6 +20,7 @@ import time
 
 import scripts
 from instances import BINARY, Folder
+from rows import TEXTS
 
 ITEMS = 1_000_000
 CHAINS = 1_000
@@ -179,10 +180,6 @@ KINDS = [
     ("distances", "apart", "t", f"i distances {ITEMS} {ITEMS}\n"),
 ]
 
-# What the text of a kind is called in a refusal.
-CALLED = {"solution": "solution", "query": "query", "distances": "distances"}
-CALLED.update(dict.fromkeys(("cut", "pot", "dist"), "certificate"))
-
 
 def spoiled(text, letter):
     """A text with a word in place of the number that ends its first item, and one with that in its last line; and the lines
@@ -202,7 +199,7 @@ def reading_runs(place):
         yield Run(f"show {kind} {name}", 0, shown)
         for which, (text, line, field) in zip(("first", "last"), spoiled(place.read(name), letter)):
             place.write(f"{name}.{which}", text)
-            yield Run(f"convert {kind} {name}.{which}", 1, f"x {CALLED.get(kind, 'instance')} {line} {field} BadNumber\n")
+            yield Run(f"convert {kind} {name}.{which}", 1, f"x {TEXTS[kind]} {line} {field} BadNumber\n")
 
 
 # A text with a fault is refused by each command; of the instances this is the last line.
@@ -303,10 +300,6 @@ class Place(Folder):
         super().__init__(folder)
         self.binary = binary
 
-    def begin(self, name, size=200):
-        with open(self.path(name), encoding="ascii") as it:
-            return it.read(size)
-
     def prints(self, wanted):
         if isinstance(wanted, File):
             return filecmp.cmp(self.path("printed"), self.path(wanted.name), shallow=False)
@@ -320,7 +313,7 @@ class Place(Folder):
         if (ran.returncode, ran.stderr) == (run.status, b"") and self.prints(run.prints):
             return None
         complaint = ran.stderr.decode(errors="replace")
-        return f"dimacs {run.words}: status {ran.returncode}: {self.begin('printed')}{complaint}"
+        return f"dimacs {run.words}: status {ran.returncode}: {self.read('printed')[:200]}{complaint}"
 
 
 def runs(place):

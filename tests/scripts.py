@@ -148,13 +148,11 @@ class Counts:
 
 
 def end_with(cases):
-    """Prints which of these cases, each a name and whether it is right, are wrong, and ends with their counts."""
-    counts = collections.Counter()
-    for name, is_right in cases:
-        counts[bool(is_right)] += 1
-        if not is_right:
-            print(name)
-    finish(counts[True], counts[False])
+    """Counts these cases, each a name and whether it is right, and ends."""
+    counts = Counts()
+    for it in cases:
+        counts.expect(*it)
+    counts.end()
 
 
 def finish(passed, failed):

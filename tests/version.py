@@ -81,10 +81,8 @@ def of_files(wanted):
     yield "build.rt", re.findall(r'VERSION: &str = "(\S+) \(', text), [wanted, wanted]
     crate = [re.findall(r'^version = "(.*)"$', read(f"lib/rust/Cargo.{it}"), re.MULTILINE) for it in ("toml", "lock")]
     yield "the crate for Cargo", crate, [[wanted], [wanted]]
-    if os.path.exists(f"{TOP}/CITATION.cff"):
-        yield "CITATION.cff", re.findall(r'^version: "(.*)"$', read("CITATION.cff"), re.MULTILINE), [wanted]
-    if os.path.exists(f"{TOP}/CHANGELOG.md"):
-        yield "CHANGELOG.md", re.findall(r"^## ([^\s,]+)", read("CHANGELOG.md"), re.MULTILINE)[:1], [wanted]
+    yield "CITATION.cff", re.findall(r'^version: "(.*)"$', read("CITATION.cff"), re.MULTILINE), [wanted]
+    yield "CHANGELOG.md", re.findall(r"^## ([^\s,]+)", read("CHANGELOG.md"), re.MULTILINE)[:1], [wanted]
 
 
 def found(build, wanted):

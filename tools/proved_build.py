@@ -11,6 +11,7 @@ rattle could build it. rt lib takes none of the crates below, since they hold st
 again. What was proved by rt ci has to be what stands here now: .ci/gate writes down, after rt ci, what it was.
 """
 import argparse
+import contextlib
 import os
 import re
 import shutil
@@ -63,17 +64,14 @@ def prove(name, words, left):
     with tempfile.TemporaryFile("w+", errors="replace") as output:
         how = {"stdin": subprocess.DEVNULL, "stdout": output, "stderr": output}
         ran = subprocess.Popen(words, cwd=f"{CRATES}/{name}", **how)
-        while True:
+        while ran.returncode is None:
             minutes = (time.monotonic() - begun) / 60
             print(f"{name}: at work for {minutes:.0f} minutes, and {left} crates are left after it", flush=True)
-            try:
-                status = ran.wait(60)
-                break
-            except subprocess.TimeoutExpired:
-                continue
-        if status:
+            with contextlib.suppress(subprocess.TimeoutExpired):
+                ran.wait(60)
+        if ran.returncode:
             output.seek(0)
-            sys.exit(f"{output.read()}{name} isn't proved: {' '.join(words)} ended with status {status}")
+            sys.exit(f"{output.read()}{name} isn't proved: {' '.join(words)} ended with status {ran.returncode}")
 
 
 def calls_words(kit, room):
