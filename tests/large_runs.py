@@ -19,7 +19,7 @@ import tempfile
 import time
 
 import scripts
-from instances import BINARY, Folder
+from instances import BINARY, Folder, text
 from rows import TEXTS
 
 ITEMS = 1_000_000
@@ -39,10 +39,6 @@ Run = collections.namedtuple("Run", "words status prints")
 File = collections.namedtuple("File", "name")
 
 
-def lines(items):
-    return "".join(item + "\n" for item in items)
-
-
 def chains():
     """The arcs of parallel chains from node 1 to node 2, with the number of each chain, counted from 1."""
     for chain in range(1, CHAINS + 1):
@@ -55,27 +51,25 @@ def chains():
 def solutions(kind, value, entries, last, worse_value, worse):
     """A best solution, the same with its entries falling, with an arc that isn't there, and with too much on the arc from
     the last node to the sink; and one that isn't best, whose last entries are others."""
-    yield f"{kind}.flow", lines([f"s {value}", *entries])
-    yield f"{kind}.falling", lines([f"s {value}", *entries[::-1]])
-    yield f"{kind}.unknown", lines([f"s {value}", "f 2 1 1", *entries[1:]])
-    yield f"{kind}.above", lines([f"s {value}", *entries[:-1], f"f {last} 2 {CHAINS + 1}"])
-    yield f"{kind}.worse", lines([f"s {worse_value}", *entries[: -len(worse)], *worse])
+    yield f"{kind}.flow", text(f"s {value}", *entries)
+    yield f"{kind}.falling", text(f"s {value}", *entries[::-1])
+    yield f"{kind}.unknown", text(f"s {value}", "f 2 1 1", *entries[1:])
+    yield f"{kind}.above", text(f"s {value}", *entries[:-1], f"f {last} 2 {CHAINS + 1}")
+    yield f"{kind}.worse", text(f"s {worse_value}", *entries[: -len(worse)], *worse)
 
 
 def max_texts():
     """An instance of maximum flow, whose flows are bounded by the last arcs of the chains. Each of these carries at most the
     number of its chain, and each other arc one more."""
     arcs = list(chains())
-    yield "max", lines(
-        [f"p max {NODES} {ITEMS}", "n 1 s", "n 2 t"]
-        + [f"a {tail} {head} {chain + (head != 2)}" for chain, tail, head in arcs]
-    )
+    capacities = (f"a {tail} {head} {chain + (head != 2)}" for chain, tail, head in arcs)
+    yield "max", text(f"p max {NODES} {ITEMS}", "n 1 s", "n 2 t", *capacities)
     entries = [f"f {tail} {head} {chain}" for chain, tail, head in arcs]
     slow = [f"f {tail} {head} {chain - 1}" for chain, tail, head in arcs[-STEPS:]]
     yield from solutions("max", VALUE, entries, arcs[-1][1], VALUE - 1, slow)
     inside = [1, *range(3, NODES + 1)]
-    yield "cut", lines([f"p cut {NODES} {len(inside)}", *(f"u {node}" for node in inside)])
-    yield "narrow", lines([f"p cut {NODES} {len(inside) - 1}", *(f"u {node}" for node in inside[:-1])])
+    yield "cut", text(f"p cut {NODES} {len(inside)}", *(f"u {node}" for node in inside))
+    yield "narrow", text(f"p cut {NODES} {len(inside) - 1}", *(f"u {node}" for node in inside[:-1]))
 
 
 def min_texts():
@@ -83,10 +77,8 @@ def min_texts():
     one 2, so that a least flow leaves the last chain empty."""
     arcs = list(chains())
     last = arcs[-1][1]
-    yield "min", lines(
-        [f"p min {NODES} {ITEMS}", f"n 1 {LESS}", f"n 2 {-LESS}"]
-        + [f"a {tail} {head} 0 {chain} {1 + ((tail, head) == (last, 2))}" for chain, tail, head in arcs]
-    )
+    costs = (f"a {tail} {head} 0 {chain} {1 + ((tail, head) == (last, 2))}" for chain, tail, head in arcs)
+    yield "min", text(f"p min {NODES} {ITEMS}", f"n 1 {LESS}", f"n 2 {-LESS}", *costs)
     least = [f"f {tail} {head} {chain % CHAINS}" for chain, tail, head in arcs]
     moved = {CHAINS - 1: CHAINS - 2, CHAINS: 1}
     dear = [f"f {tail} {head} {moved[chain]}" for chain, tail, head in arcs[-2 * STEPS :]]
@@ -100,17 +92,17 @@ def min_texts():
 
 
 def potentials(heights):
-    return lines([f"p pot {NODES} {len(heights)}", *(f"y {node} {it}" for node, it in sorted(heights.items()))])
+    return text(f"p pot {NODES} {len(heights)}", *(f"y {node} {it}" for node, it in sorted(heights.items())))
 
 
 def wide_texts():
     """Numbers that take more than 32 bits, and more than 64, and a line that is as long as lines may be."""
     nodes = range(1, ITEMS + 1)
-    yield "wide.pot", lines([f"p pot {ITEMS} {ITEMS}", *(f"y {node} {node * 10**20}" for node in nodes)])
+    yield "wide.pot", text(f"p pot {ITEMS} {ITEMS}", *(f"y {node} {node * 10**20}" for node in nodes))
     for name, step in ("long.dist", 10**10), ("wide.dist", 10**20):
         labels = [f"d {node} {(node - 1) * step} {node - 1}" for node in range(2, ITEMS + 1)]
-        yield name, lines([f"p dist {ITEMS} 1", f"t 1 {ITEMS - 1}", *labels])
-    yield "long.line", lines(["c" + "x" * (2**20 - 1), "p sp 1 0"])
+        yield name, text(f"p dist {ITEMS} 1", f"t 1 {ITEMS - 1}", *labels)
+    yield "long.line", text("c" + "x" * (2**20 - 1), "p sp 1 0")
 
 
 def supply_texts():
@@ -120,10 +112,10 @@ def supply_texts():
     problem = f"p min {2 * PAIRS} {2 * PAIRS}"
     supplies = [f"n {first} 1\nn {second} -1" for first, second in pairs]
     arcs = [f"a {first} {second} 0 1 2\na {first} {second} 0 1 1" for first, second in pairs]
-    yield "supplies", lines([problem, *supplies, *arcs])
+    yield "supplies", text(problem, *supplies, *arcs)
     first, second = pairs[-1]
-    yield "unmet", lines([problem, *supplies[:-1], f"n {first} 3\nn {second} -3", *arcs])
-    yield "set", lines([f"p cut {second} {first}", *(f"u {node}" for node in range(1, second))])
+    yield "unmet", text(problem, *supplies[:-1], f"n {first} 3\nn {second} -3", *arcs)
+    yield "set", text(f"p cut {second} {first}", *(f"u {node}" for node in range(1, second)))
 
 
 def path_texts():
@@ -131,33 +123,32 @@ def path_texts():
     around = [(node, node % ITEMS + 1) for node in range(1, ITEMS + 1)]
     problem = f"p sp {ITEMS} {ITEMS}"
     arcs = [f"a {tail} {head} 1" for tail, head in around]
-    yield "gr", lines([problem, *arcs])
-    yield "negative", lines([problem, *arcs[:-1], f"a {ITEMS} 1 -1"])
-    yield "short", lines([problem, *arcs[:-1], f"a 1 {ITEMS} 1"])
-    yield "query", lines(["p aux sp ss 1", "s 1"])
-    yield "pairs", lines([f"p aux sp p2p {ITEMS}", *(f"q 1 {node}" for node in range(1, ITEMS + 1))])
-    yield "answers", lines(f"v 1 {node} {node - 1}" for node in range(1, ITEMS + 1))
-    yield "far", lines([f"p aux sp p2p {ITEMS}", *(f"q {ITEMS + 1} {node}" for node in range(1, ITEMS + 1))])
+    yield "gr", text(problem, *arcs)
+    yield "negative", text(problem, *arcs[:-1], f"a {ITEMS} 1 -1")
+    yield "short", text(problem, *arcs[:-1], f"a 1 {ITEMS} 1")
+    yield "query", text("p aux sp ss 1", "s 1")
+    yield "pairs", text(f"p aux sp p2p {ITEMS}", *(f"q 1 {node}" for node in range(1, ITEMS + 1)))
+    yield "answers", text(*(f"v 1 {node} {node - 1}" for node in range(1, ITEMS + 1)))
+    yield "far", text(f"p aux sp p2p {ITEMS}", *(f"q {ITEMS + 1} {node}" for node in range(1, ITEMS + 1)))
     labels = [f"d {head} {tail} {tail}" for tail, head in around if head != 1]
     block = [f"p dist {ITEMS} 1", f"t 1 {ITEMS - 1}"]
-    yield "dist", lines([*block, *labels])
+    yield "dist", text(*block, *labels)
     claimed = [f"d {head} {tail}" for tail, head in around if head != 1]
-    yield "distances", lines([f"p distances {ITEMS} 1", f"t 1 {ITEMS - 1}", *claimed])
+    yield "distances", text(f"p distances {ITEMS} 1", f"t 1 {ITEMS - 1}", *claimed)
     near = [f"p dist {ITEMS} 1", f"t 1 {PAIRS - 1} {PAIRS - 1}", *labels[: PAIRS - 1]]
-    yield "near", lines(near)
-    yield "near.answers", lines(
-        f"v 1 {node} {node - 1 if node <= PAIRS else f'more {PAIRS - 1}'}" for node in range(1, ITEMS + 1)
-    )
-    yield "untight", lines([*block, *labels[:-1], f"d {ITEMS} {ITEMS} {ITEMS - 1}"])
+    yield "near", text(*near)
+    distances = [*range(PAIRS), *[f"more {PAIRS - 1}"] * (ITEMS - PAIRS)]
+    yield "near.answers", text(*(f"v 1 {node} {it}" for node, it in enumerate(distances, 1)))
+    yield "untight", text(*block, *labels[:-1], f"d {ITEMS} {ITEMS} {ITEMS - 1}")
 
 
 def source_texts():
     """A graph of loops, a query for the distances from each node, and the block of each."""
     nodes = range(1, ITEMS + 1)
-    yield "loops", lines([f"p sp {ITEMS} {ITEMS}", *(f"a {node} {node} 1" for node in nodes)])
-    yield "sources", lines([f"p aux sp ss {ITEMS}", *(f"s {node}" for node in nodes)])
-    yield "blocks", lines([f"p dist {ITEMS} {ITEMS}", *(f"t {node} 0" for node in nodes)])
-    yield "apart", lines([f"p distances {ITEMS} {ITEMS}", *(f"t {node} 0" for node in nodes)])
+    yield "loops", text(f"p sp {ITEMS} {ITEMS}", *(f"a {node} {node} 1" for node in nodes))
+    yield "sources", text(f"p aux sp ss {ITEMS}", *(f"s {node}" for node in nodes))
+    yield "blocks", text(f"p dist {ITEMS} {ITEMS}", *(f"t {node} 0" for node in nodes))
+    yield "apart", text(f"p distances {ITEMS} {ITEMS}", *(f"t {node} 0" for node in nodes))
 
 
 # Each text that is converted: its kind, its name, the letter of its items, and what is shown of it.
@@ -181,15 +172,15 @@ KINDS = [
 ]
 
 
-def spoiled(text, letter):
+def spoiled(whole, letter):
     """A text with a word in place of the number that ends its first item, and one with that in its last line; and the lines
     and fields of these."""
-    begin = text.index(f"\n{letter} ") + 1
-    for at in begin, text.rindex("\n", 0, -1) + 1:
-        end = text.index("\n", at)
-        item = text[at:end]
-        line, field = text.count("\n", 0, at) + 1, len(item.split())
-        yield f"{text[:at]}{item.rpartition(' ')[0]} x{text[end:]}", line, field
+    begin = whole.index(f"\n{letter} ") + 1
+    for at in begin, whole.rindex("\n", 0, -1) + 1:
+        end = whole.index("\n", at)
+        item = whole[at:end]
+        line, field = whole.count("\n", 0, at) + 1, len(item.split())
+        yield f"{whole[:at]}{item.rpartition(' ')[0]} x{whole[end:]}", line, field
 
 
 def reading_runs(place):
@@ -197,8 +188,8 @@ def reading_runs(place):
     for kind, name, letter, shown in KINDS:
         yield Run(f"convert {kind} {name}", 0, File(name))
         yield Run(f"show {kind} {name}", 0, shown)
-        for which, (text, line, field) in zip(("first", "last"), spoiled(place.read(name), letter)):
-            place.write(f"{name}.{which}", text)
+        for which, (changed, line, field) in zip(("first", "last"), spoiled(place.read(name), letter)):
+            place.write(f"{name}.{which}", changed)
             yield Run(f"convert {kind} {name}.{which}", 1, f"x {TEXTS[kind]} {line} {field} BadNumber\n")
 
 
@@ -319,8 +310,8 @@ class Place(Folder):
 def runs(place):
     """Writes the texts, and yields the runs over them."""
     for texts in max_texts, min_texts, supply_texts, path_texts, source_texts, wide_texts:
-        for name, text in texts():
-            place.write(name, text)
+        for it in texts():
+            place.write(*it)
     yield from reading_runs(place)
     yield from FLOW_RUNS + PATH_RUNS
 
