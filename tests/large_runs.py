@@ -4,7 +4,7 @@
 A call that gives up for want of memory above some size keeps its contract: no clause rules it out, and nothing else
 catches it. So each kind of text is read and written here with a million items, and each command is run in each of its
 outcomes: a yes, a flow that is feasible and not best, a run that gives up, and refusals early and late. What commands
-write is judged in its turn. lib/test/large_arrays.c does the same with the calls over arrays.
+write is judged in its turn. lib/test/test_large.py does the same with the calls over arrays.
 
 The texts and what is wanted of them are made here: parallel chains of arcs for flows, pairs of nodes with a supply each,
 a cycle for distances, and nodes apart for many sources. BINARY is the built program; crates/dimacs/out/dimacs if none

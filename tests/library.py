@@ -2,12 +2,13 @@
 """Tests the library for C, C++, Python and Rust: tests/library.py [--build FOLDER] [--instances N] [--runs M]
 
 FOLDER is where `make` built the library and the program: build, or build/quick for those that aren't proved. It runs
-what stands in lib/test: in C, under sanitizers if they fit and by valgrind, the calls over texts and arrays with
-room and without, in eight threads, with each growth of memory refused in turn, over texts of 100 MB, and over arrays of
-a million arcs; in C++, by `c++`, or `clang++` and its sanitizers, dimacs.hpp, and over it what LEMON and Boost answer; the crate for Cargo; and in Python, by each of `python3` and /usr/bin/python3, also networkx' own tests of what
-the backend of it answers. N random small instances in arrays are compared with the texts that are printed from them, M
-of which go through the program: `--runs 8000` has all of them do so, which takes some minutes. Then it installs the
-wheel and calls it, and builds and runs what docs/LIBRARY.md shows.
+what stands in lib/test: in C, under sanitizers if they fit and by valgrind, the calls over texts and arrays with room and
+without, in eight threads, and with each growth of memory refused in turn; in C++, by `c++`, or `clang++` and its
+sanitizers, dimacs.hpp, and over it what LEMON and Boost answer; the crate for Cargo; and in Python, by each of `python3`
+and /usr/bin/python3, also arrays of a million items, texts of 100 MB, and networkx' own tests of what the backend of it
+answers. N random small instances in arrays are compared with the texts that are printed from them, M of which go through
+the program: `--runs 8000` has all of them do so, which takes some minutes. Then it installs the wheel and calls it, and
+builds and runs what docs/LIBRARY.md shows.
 
 What needs a tool that isn't there is left out, and named; what Debian doesn't have apart. Each layer has a least number
 that has to pass in it if nothing of it is left out. The last line counts what passed and what failed.
@@ -33,15 +34,13 @@ SANITIZERS = ["-fsanitize=address,undefined", "-fno-sanitize-recover=undefined"]
 WRAPPED = ["-Wl,--wrap=malloc", "-Wl,--wrap=realloc", "-Wl,--wrap=free"]
 
 # Each test in C: its file, what watches over it, and how it is linked. Sanitizers see the test's own reads and writes, and
-# valgrind those of the library too. Threads with small stacks and texts of 100 MB run without them.
+# valgrind those of the library too. Threads with small stacks run without them.
 C_TESTS = [
     ("texts", "both", []),
     ("arrays", "both", []),
     ("reading", "both", []),
     ("refused", "sanitizers", WRAPPED),
     ("threads", "nothing", ["-pthread"]),
-    ("large", "nothing", []),
-    ("large_arrays", "nothing", []),
 ]
 
 # Each test in C++: its file, the standard of the language, and a library's header that it needs. Compilers take gnu++17
@@ -336,10 +335,10 @@ def wanted_status(lines):
 
 # The layers: what tests each, and the least that passes in it.
 LAYERS = {
-    "C": (test_c, 2400),
+    "C": (test_c, 2320),
     "C++": (test_cpp, 1100),
     "Rust": (test_cargo, 37),
-    "Python": (test_python, 115),
+    "Python": (test_python, 120),
     "wheel": (test_wheel, 1),
     "docs/LIBRARY.md": (test_page, 16),
 }

@@ -1,4 +1,4 @@
-/* The calls over arrays, beside what the tests of dimacs.hpp, of the crate and large_arrays.c show: arrays that are
+/* The calls over arrays, beside what the tests of dimacs.hpp, of the crate and test_large.py show: arrays that are
  * empty or have other lengths, numbers at their limits, and rooms. */
 #include "check.h"
 #include "dimacs.h"
