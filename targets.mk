@@ -16,10 +16,12 @@ WASM_LINK = $(TOOLCHAIN)/ld.lld -flavor wasm -mwasm64 --no-entry --stack-first -
 	mkdir -p $(@D)
 	tools/targets/compile.py wasm $< $@
 
-%/wasm/dimacs64.wasm: %/wasm/dimacs.o lib/glue/wasm_heap.c lib/glue/wasm_int128.c lib/include/dimacs.h targets.mk
-	$(WASM_CC) -c lib/glue/wasm_heap.c -o $(@D)/heap.o
+%/wasm/dimacs64.wasm: %/wasm/dimacs.o lib/glue/heap.c lib/glue/wasm_heap.c lib/glue/wasm_int128.c lib/include/dimacs.h \
+    targets.mk
+	$(WASM_CC) -c lib/glue/heap.c -o $(@D)/heap.o
+	$(WASM_CC) -c lib/glue/wasm_heap.c -o $(@D)/malloc.o
 	$(WASM_CC) -c lib/glue/wasm_int128.c -o $(@D)/int128.o
-	$(WASM_LINK) $(CALLS:%=--export=%) $< $(@D)/heap.o $(@D)/int128.o -o $@
+	$(WASM_LINK) $(CALLS:%=--export=%) $< $(@D)/heap.o $(@D)/malloc.o $(@D)/int128.o -o $@
 
 %/wasm/dimacs.wasm: %/wasm/dimacs64.wasm tools/targets/lower_addresses.py
 	tools/targets/lower_addresses.py $< $@
@@ -85,9 +87,9 @@ MINGW = x86_64-w64-mingw32
 	mkdir -p $(@D)
 	tools/targets/compile.py windows $< $@
 
-%/windows/heap.o: lib/glue/heap.ll
+%/windows/heap.o: lib/glue/heap.c
 	mkdir -p $(@D)
-	$(TOOLCHAIN)/clang --target=x86_64-w64-windows-gnu --no-default-config -O2 -Wno-override-module -c $< -o $@
+	$(TOOLCHAIN)/clang --target=x86_64-w64-windows-gnu --no-default-config -O2 -Wall -Wextra -c $< -o $@
 
 %/windows/dimacs.dll: %/windows/calls.o %/windows/heap.o lib/include/dimacs.h
 	printf '%s\n' EXPORTS $(CALLS) >$(@D)/dimacs.def

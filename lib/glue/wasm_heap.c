@@ -1,4 +1,4 @@
-/* The heap of the WebAssembly module, in place of the malloc that the kit's c/liblibc_c.a calls elsewhere.
+/* The heap of the WebAssembly module: the malloc that heap.c calls.
  *
  * Blocks have classes of sizes, four for each power of two, and lie one after the other. A freed block is used again for
  * its class or a little less. The topmost block grows in place; if it is freed, it goes, with the freed blocks under it.
@@ -6,11 +6,6 @@
 typedef unsigned long u64;
 typedef unsigned int u32;
 typedef unsigned char u8;
-
-typedef struct {
-    u64 is_there;
-    void *at;
-} Given;
 
 /* What lies before the content of a block; in a freed one, its neighbours in the list of its class lie in the content. */
 typedef struct Block {
@@ -28,7 +23,6 @@ extern u8 __heap_base;
 static Block *freed[CLASSES + A_LITTLE];
 static Block *topmost;
 static u64 top, end;
-static u8 nothing;
 
 static u64 size_of(u32 class) {
     return class < 4 ? 16 * (class + 1UL) : (4UL + (class & 3)) << ((class >> 2) + 3);
@@ -143,21 +137,4 @@ void *realloc(void *at, u64 n) {
     __builtin_memcpy(to, at, had);
     free(at);
     return to;
-}
-
-static Given given(void *at) {
-    return (Given){at != 0, at ? at : &nothing};
-}
-
-Given rattle_alloc(u64 size, u64 align) {
-    return given(malloc(size ? size : align));
-}
-
-Given rattle_realloc(void *at, u64 old, u64 size, u64 align) {
-    (void)old;
-    return given(realloc(at, size ? size : align));
-}
-
-void rattle_dealloc(void *at) {
-    free(at);
 }
