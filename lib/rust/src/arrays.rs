@@ -5,9 +5,11 @@
 //! [`Error::PastLimit`] if a number of the instance is past its limit, [`Error::OutOfMemory`], and
 //! [`Error::UnknownAnswer`]. Its documentation names the other variants that it returns.
 
-use crate::ffi::{self, bytes, call, Graph as RawGraph, Max, Min};
+use crate::ffi::{self, bytes, call};
 use crate::rooms::{room_for, Room, LINE};
 use crate::words::{is_feasible, is_infeasible, is_not_optimal, line_of, value};
+
+pub use crate::instances::{Graph, MaxInstance, MinInstance};
 
 /// Why a call over slices doesn't answer yes. A flow is an amount for each arc, and a set has for each node whether it
 /// is inside.
@@ -15,56 +17,6 @@ pub type Error = crate::Error<Vec<i64>, Vec<bool>>;
 
 /// The distance of a node that isn't reached. Its predecessor is 0, as that of the source.
 pub const UNREACHED: i64 = i64::MAX;
-
-/// A maximum flow instance: an arc goes from its tail to its head, and carries from 0 to its capacity.
-#[derive(Clone, Copy, Debug)]
-pub struct MaxInstance<'a> {
-    /// How many nodes there are.
-    pub nodes: u32,
-    /// Where flow comes from.
-    pub source: u32,
-    /// Where it goes to.
-    pub sink: u32,
-    /// By arc.
-    pub tails: &'a [u32],
-    /// By arc.
-    pub heads: &'a [u32],
-    /// By arc, from 0 on.
-    pub caps: &'a [i64],
-}
-
-/// A minimum cost flow instance: an arc carries from its lower bound to its capacity, at a cost for each unit. A node's
-/// supply is its outflow minus its inflow. A demand is a negative supply.
-#[derive(Clone, Copy, Debug)]
-pub struct MinInstance<'a> {
-    /// How many nodes there are.
-    pub nodes: u32,
-    /// By arc.
-    pub tails: &'a [u32],
-    /// By arc.
-    pub heads: &'a [u32],
-    /// By arc, from 0 to the capacity.
-    pub lows: &'a [i64],
-    /// By arc.
-    pub caps: &'a [i64],
-    /// By arc.
-    pub costs: &'a [i64],
-    /// By node.
-    pub supplies: &'a [i64],
-}
-
-/// A graph: an arc goes from its tail to its head, and has a weight, which may be negative.
-#[derive(Clone, Copy, Debug)]
-pub struct Graph<'a> {
-    /// How many nodes there are.
-    pub nodes: u32,
-    /// By arc.
-    pub tails: &'a [u32],
-    /// By arc.
-    pub heads: &'a [u32],
-    /// By arc.
-    pub weights: &'a [i64],
-}
 
 /// A maximum flow's value, and a cut that shows it: by node, whether it is on the source's side.
 #[derive(Clone, Debug, PartialEq, Eq)]
@@ -121,34 +73,6 @@ pub(crate) fn test(array: &'static str, items: usize, wanted: usize) -> Result<(
         return Ok(());
     }
     Err(Error::WrongLength { array, items, wanted })
-}
-
-impl MaxInstance<'_> {
-    pub(crate) fn raw(&self) -> Result<Max, Error> {
-        let arcs = self.tails.len();
-        test("heads", self.heads.len(), arcs)?;
-        test("caps", self.caps.len(), arcs)?;
-        Ok(Max::from(self))
-    }
-}
-
-impl MinInstance<'_> {
-    pub(crate) fn raw(&self) -> Result<Min, Error> {
-        let by_arc = [("heads", self.heads.len()), ("lows", self.lows.len()), ("caps", self.caps.len())];
-        for (array, items) in by_arc.into_iter().chain([("costs", self.costs.len())]) {
-            test(array, items, self.tails.len())?;
-        }
-        test("supplies", self.supplies.len(), self.nodes as usize)?;
-        Ok(Min::from(self))
-    }
-}
-
-impl Graph<'_> {
-    pub(crate) fn raw(&self) -> Result<RawGraph, Error> {
-        test("heads", self.heads.len(), self.tails.len())?;
-        test("weights", self.weights.len(), self.tails.len())?;
-        Ok(RawGraph::from(self))
-    }
 }
 
 /// The line of a call that hands out better flows.

@@ -1,42 +1,6 @@
 //! What `dimacs.h` declares.
 
-use crate::arrays::{Graph as GivenGraph, MaxInstance, MinInstance};
-
-/// The address of an array, and the number of its items.
-#[repr(C)]
-pub struct Array<T> {
-    at: *const T,
-    length: usize,
-}
-
-impl<T> Array<T> {
-    fn of(items: &[T]) -> Array<T> {
-        Array { at: items.as_ptr(), length: items.len() }
-    }
-}
-
-/// Instances as C has them, and what of a caller's each is made of: numbers, then arrays of these items.
-macro_rules! instances {
-    ($($name:ident($given:ident) { $($number:ident),*; $($array:ident: $item:ty),* })*) => {$(
-        #[repr(C)]
-        pub struct $name {
-            $($number: u32,)*
-            $($array: Array<$item>,)*
-        }
-
-        impl From<&$given<'_>> for $name {
-            fn from(it: &$given) -> $name {
-                $name { $($number: it.$number,)* $($array: Array::of(it.$array),)* }
-            }
-        }
-    )*};
-}
-
-instances! {
-    Max(MaxInstance) { nodes, source, sink; tails: u32, heads: u32, caps: i64 }
-    Min(MinInstance) { nodes; tails: u32, heads: u32, lows: i64, caps: i64, costs: i64, supplies: i64 }
-    Graph(GivenGraph) { nodes; tails: u32, heads: u32, weights: i64 }
-}
+use crate::instances::{Max, Min, RawGraph};
 
 pub const DONE: u32 = 0;
 pub const REFUSED: u32 = 1;
@@ -76,20 +40,20 @@ functions! {
     dimacs_judge_max_arrays(*const Max, [i64], [u8], {u8});
     dimacs_judge_min_arrays(*const Min, [i64], [i64], {u8});
     dimacs_judge_infeasible_arrays(*const Min, [u8], {u8});
-    dimacs_judge_paths_arrays(*const Graph, u32, [i64], [u32], {u8});
+    dimacs_judge_paths_arrays(*const RawGraph, u32, [i64], [u32], {u8});
     dimacs_certify_max_arrays(*const Max, [i64], {u8}, {u8}, {i64});
     dimacs_certify_min_arrays(*const Min, [i64], {u8}, {i64}, {i64});
     dimacs_certify_infeasible_arrays(*const Min, {u8}, {u8}, {i64});
-    dimacs_certify_paths_arrays(*const Graph, u32, [i64], {u8}, {u32});
+    dimacs_certify_paths_arrays(*const RawGraph, u32, [i64], {u8}, {u32});
     dimacs_solve_max_arrays(*const Max, u64, {u8}, {i64}, {u8});
     dimacs_solve_min_arrays(*const Min, u64, {u8}, {i64}, {i64}, {u8});
-    dimacs_solve_paths_arrays(*const Graph, u32, {u8}, {i64}, {u32});
+    dimacs_solve_paths_arrays(*const RawGraph, u32, {u8}, {i64}, {u32});
     dimacs_read_max([u8], {u8}, *mut u32, *mut u32, *mut u32, (u32), (u32), (i64), *mut usize);
     dimacs_read_min([u8], {u8}, *mut u32, (u32), (u32), (i64), (i64), (i64), *mut usize, {i64});
     dimacs_read_graph([u8], {u8}, *mut u32, (u32), (u32), (i64), *mut usize);
     dimacs_write_max(*const Max, {u8});
     dimacs_write_min(*const Min, {u8});
-    dimacs_write_graph(*const Graph, {u8});
+    dimacs_write_graph(*const RawGraph, {u8});
     dimacs_read_solution(u32, [u32], [u32], [u8], {u8}, *mut i64, {i64});
     dimacs_write_solution(i64, u32, [u32], [u32], [i64], {u8});
     dimacs_read_cut([u8], {u8}, {u8});

@@ -24,6 +24,7 @@
 pub mod arrays;
 mod error;
 mod ffi;
+mod instances;
 pub mod reading;
 mod rooms;
 pub mod texts;

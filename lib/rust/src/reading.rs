@@ -19,54 +19,7 @@ use crate::ffi::{self, bytes, call};
 use crate::rooms::{Room, LINE};
 use crate::words::line_of;
 
-/// A maximum flow instance in vectors.
-#[derive(Clone, Debug, PartialEq, Eq)]
-pub struct MaxVectors {
-    /// How many nodes there are.
-    pub nodes: u32,
-    /// Where flow comes from.
-    pub source: u32,
-    /// Where it goes to.
-    pub sink: u32,
-    /// By arc.
-    pub tails: Vec<u32>,
-    /// By arc.
-    pub heads: Vec<u32>,
-    /// By arc.
-    pub caps: Vec<i64>,
-}
-
-/// A minimum cost flow instance in vectors.
-#[derive(Clone, Debug, PartialEq, Eq)]
-pub struct MinVectors {
-    /// How many nodes there are.
-    pub nodes: u32,
-    /// By arc.
-    pub tails: Vec<u32>,
-    /// By arc.
-    pub heads: Vec<u32>,
-    /// By arc.
-    pub lows: Vec<i64>,
-    /// By arc.
-    pub caps: Vec<i64>,
-    /// By arc.
-    pub costs: Vec<i64>,
-    /// By node.
-    pub supplies: Vec<i64>,
-}
-
-/// A graph in vectors.
-#[derive(Clone, Debug, PartialEq, Eq)]
-pub struct GraphVectors {
-    /// How many nodes there are.
-    pub nodes: u32,
-    /// By arc.
-    pub tails: Vec<u32>,
-    /// By arc.
-    pub heads: Vec<u32>,
-    /// By arc.
-    pub weights: Vec<i64>,
-}
+pub use crate::instances::{Arcs, GraphVectors, MaxVectors, MinVectors};
 
 /// A solution over an instance.
 #[derive(Clone, Debug, PartialEq, Eq)]
@@ -96,53 +49,6 @@ pub struct Labels {
     /// If there is one, the nodes without a label are farther than that, and may be reached.
     pub radius: Option<i64>,
 }
-
-impl MaxVectors {
-    /// The instance in slices of these vectors.
-    pub fn instance(&self) -> MaxInstance<'_> {
-        let MaxVectors { nodes, source, sink, tails, heads, caps } = self;
-        MaxInstance { nodes: *nodes, source: *source, sink: *sink, tails, heads, caps }
-    }
-}
-
-impl MinVectors {
-    /// The instance in slices of these vectors.
-    pub fn instance(&self) -> MinInstance<'_> {
-        let MinVectors { nodes, tails, heads, lows, caps, costs, supplies } = self;
-        MinInstance { nodes: *nodes, tails, heads, lows, caps, costs, supplies }
-    }
-}
-
-impl GraphVectors {
-    /// The graph in slices of these vectors.
-    pub fn graph(&self) -> Graph<'_> {
-        let GraphVectors { nodes, tails, heads, weights } = self;
-        Graph { nodes: *nodes, tails, heads, weights }
-    }
-}
-
-/// The nodes of an instance of any kind, and the ends of its arcs: all that matters of it for a solution.
-#[derive(Clone, Copy, Debug)]
-pub struct Arcs<'a> {
-    /// How many nodes there are.
-    pub nodes: u32,
-    /// By arc.
-    pub tails: &'a [u32],
-    /// By arc.
-    pub heads: &'a [u32],
-}
-
-macro_rules! arcs_of {
-    ($($instance:ident)*) => {$(
-        impl<'a> From<$instance<'a>> for Arcs<'a> {
-            fn from(it: $instance<'a>) -> Self {
-                Arcs { nodes: it.nodes, tails: it.tails, heads: it.heads }
-            }
-        }
-    )*};
-}
-
-arcs_of! { MaxInstance MinInstance Graph }
 
 /// As many items as a text has at most, each of which takes so many bytes.
 fn most(text: &[u8], bytes: usize) -> usize {
