@@ -13,9 +13,8 @@ Not compared, since arrays and texts differ there by design:
   - where NotMaximum and NotLeast are needed, which is at the text's VALUE, and of arrays `solution 0 0`;
   - potentials past 64 bits, which a text can hold: then certify_min_arrays and solve_min_arrays give up, and the text has to
     get a yes;
-  - predecessors that don't lead back to the source: no text has an order of labels for them, so each is refused by
-    PredUnknown at a line, and the arrays at a node; and predecessors that are no nodes, or of nodes without a distance,
-    which no label can hold.
+  - predecessors that are no nodes, or don't lead back to the source: no text has them, so what writes labels has to refuse
+    them by the line of the judge;
   - a distance of 2^63 - 1 or more, which a text can hold: then solve_paths_arrays gives up.
 """
 
@@ -91,8 +90,7 @@ class Arcs:
 
 
 def potentials_text(numbers):
-    lines = (f"y {node} {number}" for node, number in enumerate(numbers, 1))
-    return text(f"p pot {len(numbers)} {len(numbers)}", *lines)
+    return dimacs.write(dimacs.Potentials(numbers))
 
 
 class MaxCase(Arcs):
@@ -190,32 +188,22 @@ class PathsCase(Arcs):
             self.distances[k] = dimacs.UNREACHED
         elif chance.random() < 0.5:
             self.distances[k] = self.spoiled(chance, self.distances[k])
-        is_reached = self.distances[k] != dimacs.UNREACHED
-        self.predecessors[k] = chance.randrange(1, self.nodes + 1) if is_reached else 0
+        self.predecessors[k] = chance.randrange(self.nodes + 2)
 
     def graph_text(self):
         return graph_text(self.nodes, list(zip(self.tails, self.heads, self.costs)))
 
     def claim(self):
         """The text of the distances."""
-        far = [(node, it) for node, it in enumerate(self.distances, 1) if it != dimacs.UNREACHED and node != self.source]
-        lines = (f"d {node} {it}" for node, it in far)
-        return text(f"p distances {self.nodes} 1", f"t {self.source} {len(far)}", *lines)
+        return dimacs.write(dimacs.Distances(self.source, self.distances))
 
-    def texts(self, predecessors=None):
-        """The graph, the query, and the labels in the order in which arrays are judged; and whether there is such an order."""
-        before = self.predecessors if predecessors is None else predecessors
-        order, is_whole = [self.source], True
-        for node in range(1, self.nodes + 1):
-            way = []
-            while node not in order and node not in way and self.distances[node - 1] != dimacs.UNREACHED:
-                way.append(node)
-                node = before[node - 1]
-            is_whole = is_whole and (not way or node in order)
-            order += way[::-1]
-        labels = (f"d {node} {self.distances[node - 1]} {before[node - 1]}" for node in order[1:])
-        block = text(f"p dist {self.nodes} 1", f"t {self.source} {len(order) - 1}", *labels)
-        return (self.graph_text(), text("p aux sp ss 1", f"s {self.source}"), block), is_whole
+    def judged(self, predecessors, texts):
+        """The line that the labels get as a text, or by which they aren't written."""
+        try:
+            labels = dimacs.write(dimacs.Labels(self.source, self.distances, predecessors))
+        except dimacs.Refused as no:
+            return no.printed
+        return texts.line("judge-paths", self.graph_text(), text("p aux sp ss 1", f"s {self.source}"), labels)
 
 
 def formed(chance, words):
@@ -225,13 +213,17 @@ def formed(chance, words):
 
 # ---- lines
 
+# What follows the v, where it isn't the kind of an answer: a certifier of paths doesn't return how many sources it read.
+LINES = {"sp": "sp ss", "paths": "sp distances 1"}
+
 
 def line_of(call, *words):
     """The line of a call, by what it returned or raised."""
     try:
         it = call(*words)
-        kind = "sp ss" if it.kind == "sp" else it.kind
-        return f"v {kind}" if it.value is None else f"v {kind} {it.value}"
+        kind = it.kind if isinstance(it, dimacs.Verdict) else it._kind
+        value = "" if it.value is None else f" {it.value}"
+        return f"v {LINES.get(kind, kind)}{value}"
     except dimacs.Feasible as it:
         return f"x {it.text} {it.line} {it.field} {it.reason}"
     except dimacs.Infeasible:
@@ -245,17 +237,6 @@ def line_of(call, *words):
 class Texts:
     """Finds the lines that the texts get: by the library, or every so many times by the program."""
 
-    CALLS = {
-        "judge-max": dimacs.judge_max,
-        "judge-min": dimacs.judge_min,
-        "judge-infeasible": dimacs.judge_infeasible,
-        "judge-paths": dimacs.judge_paths,
-        "certify-max": lambda *words: dimacs.Verdict("max", dimacs.certify_max(*words).value),
-        "certify-min": lambda *words: dimacs.Verdict("min", dimacs.certify_min(*words).value),
-        "certify-infeasible": lambda *words: dimacs.Verdict("infeasible", dimacs.certify_infeasible(*words).value),
-        "certify-paths": lambda *words: dimacs.Verdict("sp distances", dimacs.certify_paths(*words).value or 1),
-    }
-
     def __init__(self, program, every):
         self.program = program
         self.every = every
@@ -264,7 +245,7 @@ class Texts:
     def line(self, command, *texts):
         self.asked += 1
         if not self.program or self.asked % self.every:
-            return line_of(self.CALLS[command], *texts)
+            return line_of(getattr(dimacs, command.replace("-", "_")), *texts)
         self.ran += 1
         files = [f"{k}" for k in range(len(texts))]
         for file, it in zip(files, texts):
@@ -286,14 +267,8 @@ def judged(name, case, judge, claims, certificate, chance, texts):
 def judged_paths(chance, texts):
     it = PathsCase(chance)
     line = line_of(dimacs.judge_paths_arrays, *formed(chance, (*it.graph, it.distances, it.predecessors)))
-    if it.distances[it.source - 1] != 0:
-        return
-    printed, is_whole = it.texts()
-    other = texts.line("judge-paths", *printed)
-    if is_whole:
-        yield "judge paths", line, other
-    else:
-        yield "judge paths", line.split()[-1], other.split()[-1]
+    if it.distances[it.source - 1] == 0:
+        yield "judge paths", line, it.judged(it.predecessors, texts)
 
 
 def certified(name, case, certify, judge, certificate, chance, texts):
@@ -341,7 +316,7 @@ def certified_paths(chance, texts):
     try:
         before = dimacs.certify_paths_arrays(*formed(chance, (*it.graph, it.distances))).predecessors
         yield "certify paths", "v sp distances 1", other
-        yield "certify paths, its predecessors", "v sp ss 1", texts.line("judge-paths", *it.texts(before)[0])
+        yield "certify paths, its predecessors", "v sp ss 1", it.judged(before, texts)
     except dimacs.Refused as no:
         yield "certify paths", no.printed, other
 
@@ -349,7 +324,7 @@ def certified_paths(chance, texts):
 def solved(name, case, solve, by_texts, certificate, chance, texts):
     """An instance: the line of its solver, that of the texts, and what it handed out as a text."""
     it, kind = case(chance), name[-3:]
-    other = line_of(lambda instance: dimacs.Verdict(kind, by_texts(instance).value), it.texts()[0])
+    other = line_of(by_texts, it.texts()[0])
     try:
         value, flows, shown = solve(*formed(chance, it.instance))
         yield name, f"v {kind} {value}", other
@@ -371,7 +346,7 @@ def solved_paths(chance, texts):
     try:
         _, it.distances, it.predecessors = dimacs.solve_paths_arrays(*formed(chance, it.graph))
         yield "solve paths", f"v {list(map(int, it.distances))}", f"v {wanted}"
-        yield "solve paths, what was made", "v sp ss 1", texts.line("judge-paths", *it.texts()[0])
+        yield "solve paths, what was made", "v sp ss 1", it.judged(it.predecessors, texts)
     except dimacs.Refused as no:
         negative = [number for number, weight in enumerate(it.costs, 1) if weight < 0]
         yield "solve paths", no.printed, f"x arc {negative[0]} NegativeWeight"
