@@ -138,7 +138,6 @@ static void maximum_flows(void) {
 #define LEAST NUMBERS(2, 2, 2, 0, 4)
 #define POTENTIALS NUMBERS(4, 2, 1, 0)
 #define ROUND_TRIP(low, cap, cost) MIN(1, IDS(1), IDS(1), NUMBERS(low), NUMBERS(cap), NUMBERS(cost), NUMBERS(0))
-#define STREET(low, units) MIN(2, IDS(1), IDS(2), NUMBERS(low), NUMBERS(5), NUMBERS(0), NUMBERS(units, -units))
 #define NOTHING MIN(0, EMPTY, EMPTY, EMPTY, EMPTY, EMPTY, EMPTY)
 
 /* Potentials would take more than 64 bits. */
@@ -146,8 +145,6 @@ static void maximum_flows(void) {
                        NUMBERS(1, 0, 0, -1))
 
 static void least_costs(void) {
-    CASE("a lower bound", judge_min(ROUND_TRIP(3, 5, 2), NUMBERS(3), NUMBERS(0)), 0, "v min 6\n", 0);
-    CASE("above the capacity", judge_min(ROUND_TRIP(3, 5, 2), NUMBERS(6), NUMBERS(0)), 1, "x arc 1 AboveCap\n", 0);
     CASE("no nodes to judge", judge_min(NOTHING, NO_NUMBERS, NO_NUMBERS), 0, "v min 0\n", 0);
     CASE("no nodes to certify", certify_min(NOTHING, NO_NUMBERS), 0, "v min 0\n", 0);
     CASE("no nodes to solve", solve_min(NOTHING), 0, "v min 0\n", 0);
@@ -168,7 +165,6 @@ static void least_costs(void) {
 #define WIDE MIN(3, IDS(1, 2), IDS(3, 3), NUMBERS(0, 0), NUMBERS(LAST, LAST), NUMBERS(0, 0), NUMBERS(LAST, LAST, 0))
 
 static void infeasible(void) {
-    CASE("less than has to leave", judge_infeasible(STREET(4, 3), MARKS(1, 0)), 0, "v infeasible\n", 0);
     CASE("nothing", judge_infeasible(NOTHING, NO_MARKS), 1, "x certificate 0 0 NotViolated\n", 0);
     MISUSED("fewer bytes", judge_infeasible(SHIPPING, MARKS(1, 0, 0)));
     MISUSED("more supplies", judge_infeasible(SHIP(LOWS, CAPS, COSTS, NUMBERS(4, 0, 0, -4, 0)), CUT));
@@ -190,18 +186,9 @@ static void infeasible(void) {
 #define PREDECESSORS IDS(0, 1, 0, 0)
 
 static void distances(void) {
-    CASE("in the circle", judge_paths(ROAD, 4, NUMBERS(NONE, NONE, 0, 0), IDS(0, 0, 4, 0)), 0, "v sp ss 1\n", 0);
-    CASE("in the circle", certify_paths(ROAD, 3, NUMBERS(NONE, NONE, 0, 0)), 0, "v sp ss 1\n", 4);
-    check_that("its predecessors", !memcmp(predecessors, (const uint32_t[]){0, 0, 0, 3}, 16));
     CASE("a node alone", judge_paths(ALONE, 1, NUMBERS(0), IDS(0)), 0, "v sp ss 1\n", 0);
     CASE("a node alone", certify_paths(ALONE, 1, NUMBERS(0)), 0, "v sp ss 1\n", 1);
     CASE("a node alone", solve_paths(ALONE), 0, "v sp ss 1\n", 1, 1);
-    CASE("no predecessor", judge_paths(ROAD, 1, FAR, IDS(0, 0, 0, 0)), 1, "x node 2 NodeRange\n", 0);
-    CASE("a predecessor that is no node", judge_paths(ROAD, 1, FAR, IDS(0, 5, 0, 0)), 1, "x node 2 NodeRange\n", 0);
-    CASE("one of a node that isn't reached", judge_paths(ROAD, 1, FAR, IDS(0, 1, 0, 3)), 1, "x node 4 NodeRange\n", 0);
-    CASE("a circle of predecessors", judge_paths(ROAD, 1, NUMBERS(0, 5, 0, 0), IDS(0, 1, 4, 3)), 1,
-         "x node 3 PredUnknown\n", 0);
-    CASE("left out", judge_paths(ROAD, 1, NUMBERS(0, NONE, NONE, NONE), IDS(0, 0, 0, 0)), 1, "x arc 1 Escapes\n", 0);
     MISUSED("fewer heads", judge_paths(GRAPH(4, IDS(1, 3, 4), IDS(2, 4), NUMBERS(5, 0, 0)), 1, FAR, PREDECESSORS));
     MISUSED("fewer weights", judge_paths(GRAPH(4, IDS(1, 3, 4), IDS(2, 4, 3), EMPTY), 1, FAR, PREDECESSORS));
     MISUSED("fewer weights", solve_paths(GRAPH(4, IDS(1, 3, 4), IDS(2, 4, 3), EMPTY)));
