@@ -13,8 +13,8 @@ Not compared, since arrays and texts differ there by design:
   - where NotMaximum and NotLeast are needed, which is at the text's VALUE, and of arrays `solution 0 0`;
   - potentials past 64 bits, which a text can hold: then certify_min_arrays and solve_min_arrays give up, and the text has to
     get a yes;
-  - predecessors that are no nodes, or don't lead back to the source: no text has them, so what writes labels has to refuse
-    them by the line of the judge;
+  - predecessors that are no nodes, or don't lead back to the source: no text has them, so what writes labels has to
+    refuse them by the line of the judge;
   - a distance of 2^63 - 1 or more, which a text can hold: then solve_paths_arrays gives up.
 """
 
@@ -213,7 +213,7 @@ def formed(chance, words):
 
 # ---- lines
 
-# What follows the v, where it isn't the kind of an answer: a certifier of paths doesn't return how many sources it read.
+# What follows the v, if it isn't the kind of an answer. A certifier of paths doesn't return how many sources it read.
 LINES = {"sp": "sp ss", "paths": "sp distances 1"}
 
 

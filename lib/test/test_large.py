@@ -1,6 +1,6 @@
-"""The calls over arrays of a million items, in each of their outcomes, over what tests/large_runs.py has as texts; and those
-over texts of 100 MB. A call that gave up for want of memory above some size would keep its contract, and is seen by nothing
-else."""
+"""The calls over arrays of a million items, in each of their outcomes, over what tests/large_runs.py has as texts; and
+those over texts of 100 MB. A call that gave up for want of memory above some size would keep its contract, and is seen by
+nothing else."""
 
 import array
 import unittest
@@ -97,7 +97,8 @@ class Large(unittest.TestCase):
         texts = dict(large_runs.supply_texts())
         met, unmet = (dimacs.read("min", texts[it]) for it in ("supplies", "unmet"))
         no_node = unmet.nodes, with_other(-1, 0, unmet.tails), *[*unmet][2:]
-        judge, certify, solve = dimacs.judge_infeasible_arrays, dimacs.certify_infeasible_arrays, dimacs.solve_min_arrays
+        judge, certify = dimacs.judge_infeasible_arrays, dimacs.certify_infeasible_arrays
+        solve = dimacs.solve_min_arrays
         inside, made = dimacs.read("cut", texts["set"]).inside, solve(*met)
         self.answers(
             (None, judge, *unmet, inside),

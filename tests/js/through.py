@@ -21,9 +21,8 @@ HERE = os.path.dirname(os.path.abspath(__file__))
 sys.path.append(os.path.dirname(HERE))
 from abi import declared  # noqa: E402  (the folder isn't a package of this one)
 
-WIDTHS = {"uint8_t": 1, "uint32_t": 4, "int64_t": 8}
+WIDTHS = {"uint8_t": 1, "uint32_t": 4, "int64_t": 8, "size_t": 8}
 ARRAYS = {"dimacs_nodes": 4, "dimacs_numbers": 8}
-
 
 # The types of the parameters of each call, and the fields of each instance, as dimacs.h declares them.
 CALLS, STRUCTS = declared()
@@ -64,68 +63,34 @@ def kinds_of(struct):
 
 
 def instance(struct, at):
-    """The numbers and the arrays of an instance in memory."""
-    parts, place = [], at
+    """The bytes of an instance, whose layout is the same there, and by their places in it the arrays that it refers to."""
+    arrays, length = {}, 0
     for kind in kinds_of(struct):
         if kind == "uint32_t":
-            parts.append({"n": ctypes.c_uint32.from_address(place).value})
-            place += 4
+            length += 4
         else:
-            place += -place % 8
-            width = ARRAYS[kind]
-            parts.append({"b": encoded(number_at(place), width * number_at(place + 8)), "w": width})
-            place += 16
-    return {"s": parts}
-
-
-class Room:
-    """What a call may write: the items of an array, and the number that is needed, if that isn't another array's."""
-
-    def __init__(self, at, length, needed=None):
-        self.at, self.length, self.needed = at, length, needed
-        self.before = self.now()
-
-    def now(self):
-        return content(self.at, self.length), number_at(self.needed) if self.needed else 0
-
-    def set(self, items, needed):
-        ctypes.memmove(self.at, items, len(items))
-        if self.needed:
-            ctypes.c_uint64.from_address(self.needed).value = needed
+            place = length + -length % 8
+            arrays[place] = encoded(number_at(at + place), ARRAYS[kind] * number_at(at + place + 8))
+            length = place + 16
+    return {"b": encoded(at, length), "arrays": arrays}
 
 
 def described(parameters, given):
-    """The arguments of a call as calls.mjs takes them, and its rooms."""
-    words, rooms, given = [], [], list(given)
-    while parameters:
-        kind = parameters.pop(0)
-        struct = re.match(r"const (dimacs_\w+) \*", kind)
-        array = re.match(r"(const )?(u?int\d+_t) \*$", kind)
-        if struct:
-            words.append(instance(struct[1], address(given.pop(0))))
-        elif array:
-            words.append(described_array(array, parameters, given, rooms))
+    """The arguments of a call as calls.mjs takes them, and the memory that it may write. A pointer leads to as many items
+    as the number after it says, or to one."""
+    words, written = [], []
+    for k, (kind, it) in enumerate(zip(parameters, given)):
+        pointer = re.fullmatch(r"(const )?(\w+) \*", kind)
+        if not pointer:
+            words.append({"n": number(it)} if kind == "uint32_t" else {"q": str(number(it))})
+        elif pointer[2] in STRUCTS:
+            words.append(instance(pointer[2], address(it)))
         else:
-            given_number = number(given.pop(0))
-            words.append({"n": given_number} if kind == "uint32_t" else {"q": str(given_number)})
-    return words, rooms
-
-
-def described_array(array, parameters, given, rooms):
-    """An array that is read, or a room. One number has no length, and of arrays with the same length the last has it."""
-    width, at = WIDTHS[array[2]], address(given.pop(0))
-    if parameters[0] != "size_t":
-        rooms.append(Room(at, width))
-        return {"r": encoded(at, width), "w": width, "has": ""}
-    parameters.pop(0)
-    length = width * number(given.pop(0))
-    if array[1]:
-        return {"b": encoded(at, length), "w": width}
-    has_needed = parameters and parameters[0] == "size_t *"
-    if has_needed:
-        parameters.pop(0)
-    rooms.append(Room(at, length, address(given.pop(0)) if has_needed else None))
-    return {"r": encoded(at, length), "w": width, "has": "length needed" if has_needed else "length"}
+            count = number(given[k + 1]) if parameters[k + 1 : k + 2] == ["size_t"] else 1
+            place = address(it), WIDTHS[pointer[2]] * count
+            words.append({"b": encoded(*place), "written": not pointer[1]})
+            written += [] if pointer[1] else [place]
+    return words, written
 
 
 class Function:
@@ -139,17 +104,16 @@ class Function:
         self.argtypes = self.restype = None
 
     def __call__(self, *given):
-        words, rooms = described([it for it in CALLS[self.name].split(", ") if it != "void"], given)
+        words, written = described([it for it in CALLS[self.name].split(", ") if it != "void"], given)
         self.native.argtypes, self.native.restype = self.argtypes, ctypes.c_uint32
         status = self.native(*given)
-        wanted = status, [it.now() for it in rooms]
-        for it in rooms:
-            it.set(*it.before)
+        wanted = status, [content(*it) for it in written]
         self.node.stdin.write(json.dumps({"name": self.name, "args": words}) + "\n")
         answer = json.loads(self.node.stdout.readline())
-        for it, back in zip(rooms, answer["back"]):
-            it.set(base64.b64decode(back["bytes"]), int(back["needed"]))
-        self.compare((answer["status"], [it.now() for it in rooms]), wanted)
+        found = answer["status"], [*map(base64.b64decode, answer["written"])]
+        for (at, length), items in zip(written, found[1]):
+            ctypes.memmove(at, items, length)
+        self.compare(found, wanted)
         return answer["status"]
 
     def compare(self, found, wanted):
