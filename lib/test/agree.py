@@ -11,8 +11,8 @@ Not compared, since arrays and texts differ there by design:
   - wrong lengths, and numbers past the limits of instances, which are misuse of arrays and faults of texts;
   - a claimed value, which a text has and arrays haven't: the right one is printed;
   - where NotMaximum and NotLeast are needed, which is at the text's VALUE, and of arrays `solution 0 0`;
-  - potentials past 64 bits, which a text can hold: then certify_min_arrays and solve_min_arrays give up, and the text has to
-    get a yes;
+  - potentials past 64 bits, which a text can hold: then certify_min_arrays and solve_min_arrays give up, and the text
+    has to get a yes;
   - predecessors that are no nodes, or don't lead back to the source: no text has them, so what writes labels has to
     refuse them by the line of the judge;
   - a distance of 2^63 - 1 or more, which a text can hold: then solve_paths_arrays gives up.
@@ -224,8 +224,6 @@ def line_of(call, *words):
         kind = it.kind if isinstance(it, dimacs.Verdict) else it._kind
         value = "" if it.value is None else f" {it.value}"
         return f"v {LINES.get(kind, kind)}{value}"
-    except dimacs.Feasible as it:
-        return f"x {it.text} {it.line} {it.field} {it.reason}"
     except dimacs.Infeasible:
         return "v infeasible"
     except dimacs.Refused as it:

@@ -1,6 +1,6 @@
 """The calls over arrays of a million items, in each of their outcomes, over what tests/large_runs.py has as texts; and
-those over texts of 100 MB. A call that gave up for want of memory above some size would keep its contract, and is seen by
-nothing else."""
+those over texts of 100 MB. A call that gave up for want of memory above some size would keep its contract, and is seen
+by nothing else."""
 
 import array
 import unittest

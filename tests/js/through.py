@@ -63,7 +63,7 @@ def kinds_of(struct):
 
 
 def instance(struct, at):
-    """The bytes of an instance, whose layout is the same there, and by their places in it the arrays that it refers to."""
+    """The bytes of an instance, whose layout is the same there, and by their places the arrays to which they lead."""
     arrays, length = {}, 0
     for kind in kinds_of(struct):
         if kind == "uint32_t":
@@ -76,8 +76,8 @@ def instance(struct, at):
 
 
 def described(parameters, given):
-    """The arguments of a call as calls.mjs takes them, and the memory that it may write. A pointer leads to as many items
-    as the number after it says, or to one."""
+    """The arguments of a call as calls.mjs takes them, and the memory that it may write. A pointer leads to as many
+    items as the number after it says, or to one."""
     words, written = [], []
     for k, (kind, it) in enumerate(zip(parameters, given)):
         pointer = re.fullmatch(r"(const )?(\w+) \*", kind)
