@@ -7,17 +7,11 @@
 #include <stdlib.h>
 #include <string.h>
 
-#ifdef __GNUC__
-#define MAYBE_UNUSED __attribute__((unused))
-#else
-#define MAYBE_UNUSED
-#endif
-
 static int passed, failed;
 
 /* A case passes where the call answered this status and handed out this text, whole. */
-MAYBE_UNUSED static void check(const char *name, uint32_t status, const uint8_t *out, size_t needed, uint32_t wanted,
-                               const char *text) {
+static inline void check(const char *name, uint32_t status, const uint8_t *out, size_t needed, uint32_t wanted,
+                         const char *text) {
     if (status == wanted && needed == strlen(text) && memcmp(out, text, needed) == 0) {
         passed++;
         return;

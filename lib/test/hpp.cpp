@@ -17,11 +17,6 @@ using Ids = std::vector<std::uint32_t>;
 using Amounts = std::vector<std::int64_t>;
 
 template <class Call>
-static void throws_length(const char *name, const Call &call, const char *line) {
-    throws<WrongLength>(name, call, line);
-}
-
-template <class Call>
 static void throws_limit(const char *name, const Call &call, const std::string &line) {
     throws<PastLimit>(name, call, line, [&](const auto &it) { is(name, it.refused().line, line); });
 }
@@ -170,18 +165,18 @@ static void maximum_flows() {
 
 static void misuses() {
     const Amounts flows{4, 2, 1, 3, 3};
-    throws_length("fewer flows", [&] { return certify_max(network, Amounts{1}); },
-                  "flows has 1 items, and there are 5 arcs");
-    throws_length("fewer heads", [&] { return solve_max({4, 1, 4, tails, Ids{2}, caps}); },
-                  "heads has 1 items, and there are 5 arcs");
-    throws_length("more marks", [&] { return judge_infeasible(shipping, Inside(5)); },
-                  "inside has 5 items, and there are 4 nodes");
-    throws_length("fewer potentials", [&] { return judge_min(shipping, flows, Amounts(3)); },
-                  "potentials has 3 items, and there are 4 nodes");
-    throws_length("fewer distances", [&] { return certify_paths({4, tails, heads, caps}, 1, Amounts(3)); },
-                  "distances has 3 items, and there are 4 nodes");
-    throws_length("no kind", [&] { return convert(static_cast<Text>(99), max); },
-                  "an array has another length than it has to have");
+    throws<WrongLength>("fewer flows", [&] { return certify_max(network, Amounts{1}); },
+                        "flows has 1 items, and there are 5 arcs");
+    throws<WrongLength>("fewer heads", [&] { return solve_max({4, 1, 4, tails, Ids{2}, caps}); },
+                        "heads has 1 items, and there are 5 arcs");
+    throws<WrongLength>("more marks", [&] { return judge_infeasible(shipping, Inside(5)); },
+                        "inside has 5 items, and there are 4 nodes");
+    throws<WrongLength>("fewer potentials", [&] { return judge_min(shipping, flows, Amounts(3)); },
+                        "potentials has 3 items, and there are 4 nodes");
+    throws<WrongLength>("fewer distances", [&] { return certify_paths({4, tails, heads, caps}, 1, Amounts(3)); },
+                        "distances has 3 items, and there are 4 nodes");
+    throws<WrongLength>("no kind", [&] { return convert(static_cast<Text>(99), max); },
+                        "an array has another length than it has to have");
     throws_limit("a head", [&] { return solve_max({3, 1, 3, tails, heads, caps}); }, "x arc 4 NodeRange");
     throws_limit("the sink", [&] { return certify_max({4, 1, 1, tails, heads, caps}, flows); }, "x node 1 NodeTwice");
     throws_limit("too many nodes", [&] { return solve_max({UINT32_MAX, 1, 2, {}, {}, {}}); },
@@ -285,13 +280,13 @@ static void reads_and_writes_paths() {
        "x node 2 NumberRange");
     is("the source's isn't 0", write_distances(2, distances).message(), "x node 2 NotShortest");
     is("no way back", write_labels(1, distances, Ids{0, 2, 0, 0}).message(), "x node 2 PredUnknown");
-    throws_length("fewer predecessors", [&] { return write_labels(1, distances, Ids(1)); },
-                  "predecessors has 1 items, and there are 4 distances");
+    throws<WrongLength>("fewer predecessors", [&] { return write_labels(1, distances, Ids(1)); },
+                        "predecessors has 1 items, and there are 4 distances");
     throws_limit("no source", [&] { return write_distances(5, distances); }, "x node 5 NodeRange");
     is("queries for pairs", write_queries(read_queries(pairs).value()), pairs);
     is("for all distances", write_queries(read_queries(source).value()), source);
-    throws_length("a query without an end", [] { return write_queries({{1, 2}, Ids{3}}); },
-                  "tos has 1 items, and there are 2 froms");
+    throws<WrongLength>("a query without an end", [] { return write_queries({{1, 2}, Ids{3}}); },
+                        "tos has 1 items, and there are 2 froms");
     throws_limit("node 0", [] { return write_queries({{0}, std::nullopt}); }, "x node 0 NumberRange");
 }
 
@@ -315,10 +310,10 @@ static void refuses_texts() {
     is("an arc twice", read_solution("s 6\nf 1 2 6\nf 1 2 6\n", network).message(), "x solution 3 0 ArcTwice");
     is("a value past 64 bits", read_solution("s " + most + "\n", network).message(), "x solution 1 2 NumberRange");
     is("a potential past 64 bits", read_potentials("p pot 2 1\ny 2 " + most + "\n").message(), "x node 2 NumberRange");
-    throws_length("fewer flows", [] { return write_solution(6, network, Amounts(1)); },
-                 "flows has 1 items, and there are 5 arcs");
-    throws_length("fewer heads", [] { return read_solution("s 0\n", Graph{4, tails, {}, caps}); },
-                 "heads has 0 items, and there are 5 arcs");
+    throws<WrongLength>("fewer flows", [] { return write_solution(6, network, Amounts(1)); },
+                        "flows has 1 items, and there are 5 arcs");
+    throws<WrongLength>("fewer heads", [] { return read_solution("s 0\n", Graph{4, tails, {}, caps}); },
+                        "heads has 0 items, and there are 5 arcs");
     throws_limit("a node too high", [] { return write_graph({3, tails, heads, caps}); }, "x arc 4 NodeRange");
     throws_limit("of a solution", [] { return read_solution("s 0\n", Graph{3, tails, heads, caps}); },
                  "x arc 4 NodeRange");
