@@ -61,11 +61,8 @@ class Numbering {
 // The value of a property map, which may be a pointer.
 template <class Values, class Key>
 auto value_at(const Values &map, const Key &key) {
-    if constexpr (std::is_pointer_v<Values>) {
-        return map[key];
-    } else {
-        return get(map, key);
-    }
+    using ::boost::get;
+    return get(map, key);
 }
 
 // The greatest number of a type, by which Boost says that a vertex isn't reached.

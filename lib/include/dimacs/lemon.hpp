@@ -84,11 +84,11 @@ class Index {
     // The numbers of a map, in the order of the arcs or the nodes.
     template <class Values>
     std::vector<std::int64_t> by_arc(const Values &map) const {
-        return detail::by_arc(*this, [&](auto k) { return detail::narrow(value_at(map, arcs_[k])); });
+        return detail::by_arc(*this, [&](auto k) { return detail::narrow(map[arcs_[k]]); });
     }
     template <class Values>
     std::vector<std::int64_t> by_node(const Values &map) const {
-        return detail::by_node(*this, [&](auto k) { return detail::narrow(value_at(map, nodes_[k])); });
+        return detail::by_node(*this, [&](auto k) { return detail::narrow(map[nodes_[k]]); });
     }
 
     // The distances that a search found.
@@ -97,7 +97,7 @@ class Index {
         return detail::by_node(*this, [&](auto k) {
             const auto &node = nodes_[k];
             if (!search.reached(node)) return std::optional(unreached);
-            return detail::array_distance<std::decay_t<decltype(search.dist(node))>>(search.dist(node));
+            return detail::array_distance(search.dist(node));
         });
     }
 
@@ -145,11 +145,6 @@ class Index {
         std::reverse(items.begin(), items.end());
         const auto is_before = [this](const Item &it, const Item &other) { return graph_->id(it) < graph_->id(other); };
         if (!std::is_sorted(items.begin(), items.end(), is_before)) std::sort(items.begin(), items.end(), is_before);
-    }
-
-    template <class Values, class Item>
-    static auto value_at(const Values &map, const Item &item) -> std::decay_t<decltype(map[item])> {
-        return map[item];
     }
 
     const G *graph_;

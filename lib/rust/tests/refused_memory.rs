@@ -22,7 +22,7 @@ fn is_refused() -> bool {
     })
 }
 
-// Each call is handed on as it comes, or refused.
+// Each call is handed on as it comes, or refused. What grows is allocated anew.
 unsafe impl GlobalAlloc for Refusing {
     unsafe fn alloc(&self, layout: Layout) -> *mut u8 {
         if is_refused() {
@@ -33,13 +33,6 @@ unsafe impl GlobalAlloc for Refusing {
 
     unsafe fn dealloc(&self, at: *mut u8, layout: Layout) {
         unsafe { System.dealloc(at, layout) }
-    }
-
-    unsafe fn realloc(&self, at: *mut u8, layout: Layout, size: usize) -> *mut u8 {
-        if is_refused() {
-            return null_mut();
-        }
-        unsafe { System.realloc(at, layout, size) }
     }
 }
 
