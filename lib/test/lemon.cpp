@@ -126,12 +126,11 @@ static void least_cost(const Graph &graph, const Numbers &capacity, const Number
 }
 
 /* A search that answers what it was made with: less than 0 for a node that isn't reached. */
-template <class Number>
 struct Made {
-    std::vector<Number> distances;
+    std::vector<long long> distances;
 
-    bool reached(Node node) const { return distances[static_cast<std::size_t>(Graph::id(node))] >= 0; }
-    Number dist(Node node) const { return distances[static_cast<std::size_t>(Graph::id(node))]; }
+    bool reached(Node node) const { return dist(node) >= 0; }
+    long long dist(Node node) const { return distances[static_cast<std::size_t>(Graph::id(node))]; }
 };
 
 /* The numbers that end what 64 bits hold, in maps of 64 and more; boost.cpp has those of all types. */
@@ -185,7 +184,7 @@ static void missing_nodes() {
     is_missing("no sink", [&] { return ours::certify_max(graph, three, from, none, three); });
     const Graph::NodeMap<bool> cut(graph, false);
     is_missing("to be judged", [&] { return ours::judge_max(graph, three, none, to, three, cut); });
-    const Made<long long> made{{0, 3, 6}};
+    const Made made{{0, 3, 6}};
     is_missing("of paths", [&] { return ours::certify_paths(graph, three, none, made); });
 
     Graph::NodeMap<bool> is_seen(graph, true);
@@ -199,16 +198,6 @@ static void missing_nodes() {
     throws<std::out_of_range>("no node's mark", [&] { return yes->inside[none]; });
 }
 
-/* A search, of whose distances one is less by 1. */
-template <class Search>
-struct Spoiled {
-    const Search &search;
-    Node at;
-
-    bool reached(Node node) const { return search.reached(node); }
-    long long dist(Node node) const { return search.dist(node) - (node == at ? 1 : 0); }
-};
-
 static void distances(const Graph &graph, const Numbers &cost) {
     const Node source = graph.nodeFromId(5);
     lemon::Dijkstra<Graph, Numbers> solver(graph, cost);
@@ -220,7 +209,9 @@ static void distances(const Graph &graph, const Numbers &cost) {
     lemon::Bfs<Graph> steps(graph);
     steps.run(source);
     check_that("Bfs' distances", ours::certify_paths(graph, lemon::ConstMap<Arc, int>(1), source, steps).has_value());
-    const Spoiled<lemon::Dijkstra<Graph, Numbers>> spoiled{solver, graph.nodeFromId(8)};
+    Made spoiled;
+    for (int id = 0; id < NODES; id++) spoiled.distances.push_back(solver.dist(graph.nodeFromId(id)));
+    spoiled.distances[8] -= 1;
     const auto no = ours::certify_paths(graph, cost, source, spoiled);
     check_that("a distance less 1", no.get_if<Refused>() && (no.get_if<Refused>()->arc || no.get_if<Refused>()->node));
 }
@@ -298,7 +289,7 @@ static void texts() {
     const std::string roads = "p sp 3 2\na 3 2 7\na 1 2 -7\n";
     check_that("a graph", ours::read_graph(roads, graph, cost)->size() == 2);
     is("written", ours::write_graph(graph, cost), roads);
-    const Made<long long> found{{3, -1, 0}};
+    const Made found{{3, -1, 0}};
     is("distances", ours::write_distances(graph, graph.nodeFromId(2), found).value(),
        "p distances 3 1\nt 3 1\nd 1 3\n");
     is("of another source", ours::write_distances(graph, graph.nodeFromId(0), found).message(), "x node 1 NotShortest");
