@@ -7,6 +7,12 @@ export const DONE = 0, REFUSED = 1, MISUSED = 2, NO_MEMORY = 4, GAVE_UP = 5;
 export const KINDS = {max: 0, min: 1, infeasible: 2, paths: 3};
 export const TEXTS = {max: 0, min: 1, gr: 2, query: 3, solution: 4, cut: 5, pot: 6, dist: 7, distances: 8};
 
+/** Throws for what is no kind of text. */
+export function testKind(kind) {
+    if (Object.hasOwn(TEXTS, kind)) return;
+    throw new RangeError(`${kind} is no kind of text: these are ${Object.keys(TEXTS).join(", ")}`);
+}
+
 /** The limit of solvers if none is given. */
 export const LIMIT = 1_000_000n;
 

@@ -2,7 +2,7 @@
 import {linesOf, throwRefused, throwUndecided} from "./answers.js";
 import {bytesOf, inFormOf} from "./bytes.js";
 import {ARRAYS, FORMS, Given} from "./given.js";
-import {DONE, LINE, One, REFUSED, Room} from "./library.js";
+import {DONE, LINE, One, REFUSED, Room, testKind} from "./library.js";
 import {library} from "./loaded.js";
 import {IDS, NUMBERS, UNREACHED} from "./numbers.js";
 import {show} from "./texts.js";
@@ -28,11 +28,6 @@ const LEAST = 8;
 
 /** About as many bytes as a line has, at most. */
 const MOST = 32;
-
-function formOf(kind) {
-    if (Object.hasOwn(KINDS, kind)) return KINDS[kind];
-    throw new RangeError(`${kind} is no kind of text: these are ${Object.keys(KINDS).join(", ")}`);
-}
 
 function testBeside(kind, beside) {
     const comes = Object.hasOwn(BESIDE, kind) ? `with ${BESIDE[kind]}` : "alone";
@@ -82,8 +77,9 @@ function madeOf(kind, found, beside) {
 
 /** A text as arrays. */
 export function read(kind, text, beside) {
-    const form = formOf(kind), {name, numbers, same, others} = form;
+    testKind(kind);
     testBeside(kind, beside);
+    const form = KINDS[kind], {name, numbers, same, others} = form;
     const {before, after, say} = around(kind, beside), bytes = bytesOf(text);
     const words = [...before, bytes, ...after], rooms = roomsFor(form, bytes.length);
     const {status, handed: [line, ...found]} = library.call(`dimacs_read_${name}`, words, rooms);
@@ -118,12 +114,12 @@ function given(kind, value, instance) {
 
 /** The canonical text of what read returns, or of an object with the same fields. */
 export function write(kind, value, instance) {
-    const {name} = formOf(kind);
+    testKind(kind);
     if (kind === "solution" || instance !== undefined) testBeside(kind, instance);
     if (Object(value) !== value) throw new TypeError("a value is an object of numbers and arrays, as read returns it");
     if ((value.radius ?? null) !== null) throw new RangeError(`labels with a radius, here ${value.radius}, aren't written`);
     const {words, lines, say} = given(kind, value, instance), rooms = [new Room(Uint8Array, LINE + MOST * lines)];
-    const {status, handed: [text]} = library.call(`dimacs_write_${name}`, words, rooms);
+    const {status, handed: [text]} = library.call(`dimacs_write_${KINDS[kind].name}`, words, rooms);
     const first = linesOf(text.subarray(0, status === DONE ? 0 : LINE));
     throwUndecided(status, first, {say});
     throwRefused(status, first);

@@ -3,7 +3,7 @@ import {Certified, Feasible, Infeasible, NotOptimal, Refused, Solved} from "./an
 import {linesOf, throwRefused, throwUndecided, verdict} from "./answers.js";
 import {bytesOf, inFormOf} from "./bytes.js";
 import {kept} from "./explained.js";
-import {DONE, LIMIT, TEXTS} from "./library.js";
+import {DONE, LIMIT, testKind} from "./library.js";
 import {texts} from "./loaded.js";
 import {limitOf} from "./numbers.js";
 
@@ -91,9 +91,7 @@ export const solveMin = (instance, limit = LIMIT) => solve("min", [instance], li
 export const solvePaths = (graph, queries) => solve("paths", [graph, queries], LIMIT);
 
 function printed(call, kind, text) {
-    if (!Object.hasOwn(TEXTS, kind)) {
-        throw new RangeError(`${kind} is no kind of text: these are ${Object.keys(TEXTS).join(", ")}`);
-    }
+    testKind(kind);
     const {status, handed: [out]} = texts.run(call, kind, [bytesOf(text)]);
     refusing(`${call} ${kind}`, [text], status, linesOf(out));
     return inFormOf(text, out);

@@ -98,15 +98,6 @@ function afterLine(bytes, at) {
     return end < 0 ? bytes.length : end + 1;
 }
 
-/** Whether a byte separates fields. */
-const isBlank = (byte) => byte === 32 || (byte > 8 && byte < 14 && byte !== NEWLINE);
-
-/** The first byte of a line that isn't blank. */
-function firstByte(bytes, at, end) {
-    while (at < end && isBlank(bytes[at])) at++;
-    return at < end ? bytes[at] : NEWLINE;
-}
-
 /** The fields of a line, or of its beginning. */
 function fieldsOf(bytes, at, end) {
     return latin.decode(bytes.subarray(at, Math.min(end, at + MOST_OF_LINE))).split(/\s+/).filter(Boolean);
@@ -115,8 +106,8 @@ function fieldsOf(bytes, at, end) {
 /** The fields of the first line that is neither blank nor a comment. */
 function firstRecord(bytes) {
     for (let at = 0; at < bytes.length; ) {
-        const end = afterLine(bytes, at), first = firstByte(bytes, at, end);
-        if (first !== NEWLINE && first !== 99) return fieldsOf(bytes, at, end);
+        const end = afterLine(bytes, at), fields = fieldsOf(bytes, at, end);
+        if (fields.length && fields[0][0] !== "c") return fields;
         at = end;
     }
     return [];
@@ -210,16 +201,10 @@ async function sumOf(bytes) {
     return sum ? [...new Uint8Array(sum)].map((it) => it.toString(16).padStart(2, "0")).join("") : null;
 }
 
-/** The bytes of a text in base 64. */
-function decoded(text) {
-    const letters = atob(text), bytes = new Uint8Array(letters.length);
-    for (let i = 0; i < letters.length; i++) bytes[i] = letters.charCodeAt(i);
-    return bytes;
-}
-
 const ANSWERS = {
     async start({module}) {
-        const plain = new Blob([decoded(module)]).stream().pipeThrough(new DecompressionStream("gzip"));
+        const packed = Uint8Array.from(atob(module), (it) => it.charCodeAt(0));
+        const plain = new Blob([packed]).stream().pipeThrough(new DecompressionStream("gzip"));
         const headers = {"content-type": "application/wasm"};
         const library = new Library(await WebAssembly.compileStreaming(new Response(plain, {headers})));
         texts = new Texts(library);
