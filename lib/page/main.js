@@ -107,15 +107,11 @@ function show({slot, kind, about: text, text: shown, isWhole}, source, name) {
     if (slot === "instance" && claims.length && !claims.includes($("kind").value)) $("kind").value = claims[0];
 }
 
-/** One text after the other, so that the last one stays. */
-function queue(work) {
+/** Hands over one text after the other, so that the last one stays. */
+function take(source, name, slot, came) {
+    const at = changes, work = () => hold({source, name, slot, came, at});
     pending = pending.then(work, work);
     return pending;
-}
-
-function take(source, name, slot, came) {
-    const at = changes;
-    return queue(() => hold({source, name, slot, came, at}));
 }
 
 /** Hands over what the worker doesn't have yet, as what was typed just now. */
@@ -247,13 +243,12 @@ function made({name, bytes, text, isWhole}, {what, kind, status}) {
     const file = named(`${isBetter ? "-better" : ""}.${name}`);
     const row = element("div", {className: "row"}, element("h3", {textContent: title}));
     row.append(button(`Download ${file}`, () => download(file, bytes)));
-    if (name === "solution") row.append(button("Use it as the solution", () => use(file, bytes)));
+    const use = () => give([new File([bytes], file)], "claim");
+    if (name === "solution") row.append(button("Use it as the solution", use));
     const shown = element("pre", {tabIndex: 0, textContent: isWhole ? text : `${text}..`});
     shown.setAttribute("aria-label", title);
     return element("div", {className: "made"}, row, shown);
 }
-
-const use = (file, bytes) => give([new File([bytes], file)], "claim");
 
 function clearAnswer() {
     answered = null;

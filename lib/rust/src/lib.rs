@@ -31,6 +31,7 @@ pub mod texts;
 mod words;
 
 pub use error::{Error, Place, Refused};
+use ffi::call;
 
 /// The command's default limit, for the calls that solve for flows.
 pub const LIMIT: u64 = 1_000_000;
@@ -60,5 +61,7 @@ pub fn proved() -> bool {
 /// assert_eq!(dimacs::proved(), !text.ends_with(" (not proved)"));
 /// ```
 pub fn version_text() -> Result<String, texts::Error> {
-    texts::version_text()
+    let mut text = rooms::Room::new(rooms::LINE)?;
+    let status = call!(ffi::dimacs_version_text: {text});
+    words::line_of(status, text)
 }

@@ -92,13 +92,6 @@ const MIN: u32 = 1;
 const INFEASIBLE: u32 = 2;
 const PATHS: u32 = 3;
 
-/// The text of the library's version.
-pub(crate) fn version_text() -> Result<String, Error> {
-    let mut text = Room::new(LINE)?;
-    let status = call!(ffi::dimacs_version_text: {text});
-    line_of(status, text)
-}
-
 fn judge(kind: u32, texts: [&[u8]; 3], room: usize) -> Result<String, Error> {
     let mut lines = Room::new(room)?;
     let [instance, claim, certificate] = texts;
