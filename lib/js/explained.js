@@ -1,7 +1,7 @@
 // What explains an answer: the command that gives it, run once more over the same texts, or over texts made of arrays.
 // The printed line is proved to be the answer's; the lines after it aren't.
 import {bytesOf, inFormOf} from "./bytes.js";
-import {DONE, LINE, Room} from "./library.js";
+import {DONE, LINE, Room, VERBS} from "./library.js";
 import {library, texts} from "./loaded.js";
 
 /** The names of each command's texts, which the lines quote: those that refusals have for them. */
@@ -72,9 +72,6 @@ const RETOLD = [
 ];
 const ofArrays = (line) => RETOLD.reduce((told, [words, mine]) => told.replace(words, mine), line);
 
-/** How many texts a command reads. */
-const COUNTS = {judge: 3, certify: 2, solve: 2};
-
 /** The text that the library writes of arrays, or null if it refuses them. */
 function written(name, ...words) {
     const {status, handed: [text]} = library.call(`dimacs_write_${name}`, words, [new Room(Uint8Array, LINE)]);
@@ -97,7 +94,7 @@ export class AskedOfArrays {
 
     /** The lines for arrays that were refused by the line `printed`, with the message `said`, or null. None quotes a text. */
     explanation(command, printed, said) {
-        const [verb, kind] = command.split("-"), count = command === "certify-infeasible" ? 1 : COUNTS[verb];
+        const [verb, kind] = command.split("-"), count = command === "certify-infeasible" ? 1 : VERBS[verb][0];
         const made = namesOf(command).slice(0, count).map((name) => this.#text(kind, name));
         if (this.arrays.better) made.push(this.#solution(this.arrays.better));
         const [first, ...more] = made.includes(null) ? ["x"] : explanation(command, made, "better").split("\n");

@@ -210,7 +210,7 @@ function run(call, words) {
 const NONE = new Uint8Array(0);
 
 /** How many texts the call of a command takes, and how much room it is given at first, by the lengths of two of them. */
-const VERBS = {
+export const VERBS = {
     judge: [3, () => [LINE]],
     certify: [2, (first, second) => [LINE, LINE + first + second]],
     spread: [2, (first, second) => [LINE, LINE + first + second]],

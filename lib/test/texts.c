@@ -36,12 +36,6 @@ static void kinds(void) {
     CASE("a claim that isn't read", judge(DIMACS_INFEASIBLE, surplus, "?", both), 0, "v infeasible\n", "");
     CASE("no claim is certified", certify(DIMACS_INFEASIBLE, surplus, "?"), 0, "v infeasible\n", both);
     CASE("no query is solved", solve(DIMACS_MAX, max, "?"), 0, "v max 6\n", cut);
-    CASE("distances of other nodes", certify(DIMACS_PATHS, graph, "p distances 5 0\n"), 1,
-         "x distances 0 0 NodesDiffer\n", "");
-    CASE("a query of no node", solve(DIMACS_PATHS, graph, "p aux sp ss 1\ns 5\n"), 1, "x node 5 QueryNode\n", "");
-    CASE("a least cost past its range",
-         solve(DIMACS_MIN, "p min 1 1\na 1 1 9223372036854775807 9223372036854775807 9223372036854775807\n", ""), 5,
-         "g limit\n", "");
     CASE("no kind to judge", judge(4, max, flow, cut), 2, "", "");
     CASE("the greatest number, no kind", judge(UINT32_MAX, max, flow, cut), 2, "", "");
     CASE("no kind to certify", certify(4, surplus, ""), 2, "", "");
