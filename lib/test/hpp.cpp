@@ -22,10 +22,8 @@ static void throws_limit(const char *name, const Call &call, const std::string &
 }
 
 static void explains_texts() {
-    const std::string balance = explain("judge-max I S C", max, "s 4\nf 1 2 4\n", cut);
-    is("a refusal explained", balance,
-       "x node 2 Balance\n0 leaves node 2, 4 enters it: 4 too little leaves\nentries out of it: 0\n"
-       "entries into it: 1\n  S:2: f 1 2 4\n");
+    const std::string no = explain("judge-max I S C", max, "s 4\nf 1 2 4\n", cut);
+    check_that("a refusal explained", no.rfind("x node 2 Balance\n0 leaves node 2, 4 enters it", 0) == 0);
     const std::string yes = explain("judge-max I S C", max, flow, cut);
     check_that("a yes explained", yes.rfind("v max 6\non the source's side of the cut, 1 of the 4 nodes: 1\n", 0) == 0);
     is("a single text", explain("show cut C", cut), "i cut 4 1\n");
@@ -58,12 +56,7 @@ static void judges_texts() {
     check_that("a test's arc", !arc && arc.get_if<Refused>()->arc == 1U && !arc.get_if<Refused>()->text);
     const auto node = judge_max(max, flow, "p cut 4 0\n");
     check_that("a test's node", node.get_if<Refused>()->node == 1U);
-    try {
-        (void)judge_max(max, slow, cut).value();
-        check_that("the value of a no", 0);
-    } catch (const BadAnswer &it) {
-        is("the value of a no", it.what(), "x arc 1 NotSaturated");
-    }
+    throws<BadAnswer>("the value of a no", [] { return judge_max(max, slow, cut).value(); }, "x arc 1 NotSaturated");
 }
 
 static void certifies_texts() {
