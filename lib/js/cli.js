@@ -1,7 +1,7 @@
 #!/usr/bin/env node
 // The command, on each system that has node: its arguments, output, files and statuses. Texts go through dimacs.wasm.
 import {closeSync, existsSync, fstatSync, openSync, readFileSync, readSync, writeSync} from "node:fs";
-import {LIMIT, Library, OutOfMemory, TEXTS, Texts} from "./library.js";
+import {LIMIT, OutOfMemory, TEXTS} from "./library.js";
 import {Usage, isText} from "./misuse.js";
 
 const DONE = 0, NO_RUN = 2, DEVICE = 3, NO_MEMORY = 4;
@@ -185,19 +185,13 @@ function run(texts, job) {
     return status;
 }
 
-/** A file of the package, or of the tree where it was built. */
-function fileOf(name, built) {
-    const own = new URL(name, import.meta.url);
-    return existsSync(own) ? own : new URL(`../../build/${built}`, import.meta.url);
-}
+/** The module, which isn't loaded to complain. */
+const loaded = () => import("./loaded.js");
 
-function loaded() {
-    const place = process.env.DIMACS_WASM || fileOf("dimacs.wasm", "wasm/dimacs.wasm");
-    return new Library(new WebAssembly.Module(readFileSync(place)));
-}
-
+/** What is in the package, or in the tree where it was built. */
 function usage() {
-    return new Usage(JSON.parse(readFileSync(fileOf("usage.json", "npm/package/usage.json"), "utf8")));
+    const [own, built] = ["", "../../build/npm/package/"].map((it) => new URL(`${it}usage.json`, import.meta.url));
+    return new Usage(JSON.parse(readFileSync(existsSync(own) ? own : built, "utf8")));
 }
 
 /** Writes to the standard error. If it can't be written, the status alone tells. */
@@ -221,20 +215,22 @@ function print(text) {
 const TRANSLATED = "compiled to WebAssembly, by a translation that isn't proved";
 
 /** The text that arguments ask for, or null. */
-function askedText([first, ...rest]) {
+async function askedText([first, ...rest]) {
     if (first === "help" && rest.length === 1) return usage().commands.get(rest[0])?.usage ?? null;
     if (rest.length) return null;
-    if (["--version", "-V"].includes(first)) return `dimacs ${loaded().description}\n${TRANSLATED}\n`;
+    if (["--version", "-V"].includes(first)) {
+        return `dimacs ${(await loaded()).library.description}\n${TRANSLATED}\n`;
+    }
     return ["--help", "-h", "help"].includes(first) ? usage().all : null;
 }
 
 /** Does what arguments ask for, and returns the status. */
-function main(words) {
+async function main(words) {
     const areTexts = words.every(isText);
-    const text = areTexts && askedText(words), job = areTexts && jobOf(words);
+    const text = areTexts && (await askedText(words)), job = areTexts && jobOf(words);
     if (!text && !job) return complain(NO_RUN, usage().complaintOf(words));
     try {
-        if (job) return run(new Texts(loaded()), job);
+        if (job) return run((await loaded()).texts, job);
         print(text);
         return DONE;
     } catch (why) {
@@ -249,7 +245,7 @@ function main(words) {
 
 // Whatever else fails, as a call that the engine ended, leaves a claim undecided: node's own status would be a no.
 try {
-    process.exitCode = main(process.argv.slice(2));
+    process.exitCode = await main(process.argv.slice(2));
 } catch (why) {
     tell(`dimacs: ${String(why?.message ?? why).split("\n")[0]}\n`);
     process.exitCode = NO_MEMORY;
