@@ -288,8 +288,6 @@ static void refuses_texts() {
     getrusage(RUSAGE_SELF, &after);
     check_that("which take no memory", after.ru_maxrss - before.ru_maxrss < 1 << 14);  // in kilobytes
     is("a byte 0", read_graph(std::string("p sp 2 1\na 1 2 7\0\n", 18)).message(), "x instance 2 4 BadNumber");
-    is("a long line", read_graph("p sp 2 1\na 1 2 " + std::string(1 << 20, '7')).message(),
-       "x instance 2 0 LineTooLong");
     is("of another kind", read_min(max).message(), "x instance 1 2 BadWord");
     is("queries", read_queries("p aux sp p2p 1\nq 1\n").message(), "x query 2 0 FieldCount");
     is("a cut", read_cut("p cut 1 1\nu 2\n").message(), "x certificate 2 2 NodeRange");

@@ -108,11 +108,8 @@ fn more_nodes_than_lines_are_read_and_written() {
 
 #[test]
 fn what_is_not_read_has_its_line() {
-    let long = format!("p sp 2 1\na 1 2 {}\n", "7".repeat(1 << 20));
-    let said = |it: Result<_, arrays::Error>| it.map(|_: reading::GraphVectors| ()).unwrap_err().to_string();
-    assert_eq!(said(reading::read_graph("p sp 2 268435456\n")), "x instance 2 0 TooFew");
-    assert_eq!(said(reading::read_graph("p sp 2 1\na 1 2 7\0\n")), "x instance 2 4 BadNumber");
-    assert_eq!(said(reading::read_graph(long)), "x instance 2 0 LineTooLong");
+    let zero = reading::read_graph("p sp 2 1\na 1 2 7\0\n");
+    assert_eq!(zero.unwrap_err().to_string(), "x instance 2 4 BadNumber");
     let most = "9223372036854775808";
     let far = reading::read_potentials(format!("p pot 2 1\ny 2 {most}\n"));
     assert_eq!(far, Err(Error::Refused(refused(Place::Node(2), "NumberRange"))));
