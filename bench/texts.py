@@ -5,7 +5,7 @@ import shutil
 import subprocess
 
 from families import least, most
-from families.instance import SEED
+from families.instance import SEED, Random
 
 # The families of instances, by kind, and what makes one of a size in MB: a function and its numbers, or gen's words.
 FAMILIES = {
@@ -72,6 +72,14 @@ def generate(folder, *commands):
     os.rename(part, folder)
 
 
+def write_queries(path, nodes, count):
+    """For all distances from so many nodes, one in each of as many equal parts of all nodes."""
+    random, part = Random(), max(1, nodes // count)
+    with open(path, "w") as text:
+        text.write(f"p aux sp ss {count}\n")
+        text.writelines(f"s {1 + k * nodes // count + random.below(part)}\n" for k in range(count))
+
+
 def declared(file):
     """The nodes and arcs of the problem line."""
     with open(file) as text:
@@ -102,23 +110,23 @@ def road_texts(folder, binary, junctions, degree, count):
     generate(
         folder,
         ["gen", "road", junctions, degree, SEED, files[0]],
-        ["gen", "sources", junctions, count, SEED, files[1]],
+        lambda part: write_queries(f"{part}/{files[1]}", junctions, count),
         [binary, "solve-paths", *files],
     )
     return [f"{folder}/{file}" for file in files]
 
 
-def beside(file, name, *command):
-    """The folder beside an instance in which a command was run."""
+def beside(file, name, command):
+    """The folder beside an instance in which a command was run, or a function of the folder."""
     folder = f"{os.path.dirname(file)}-{name}"
-    generate(folder, command[0] if callable(command[0]) else command)
+    generate(folder, command)
     return folder
 
 
 def solved(binary, file):
     """The files of a claim that dimacs makes of an instance of a flow, and of its certificate."""
     kind = file.split(".")[-1]
-    folder = beside(file, "solved", binary, f"solve-{kind}", os.path.abspath(file), "solution", "certificate")
+    folder = beside(file, "solved", [binary, f"solve-{kind}", os.path.abspath(file), "solution", "certificate"])
     return f"{folder}/solution", f"{folder}/certificate"
 
 
@@ -130,14 +138,15 @@ def claimed(binary, file):
 
 def queries(file, megabytes):
     """The file of the queries to a graph: for all distances from a few sources."""
-    words = ["sources", declared(file)[0], SOURCES[megabytes], SEED, "sources.query"]
-    return beside(file, "sources", "gen", *words) + "/sources.query"
+    nodes, _ = declared(file)
+    name = "sources.query"
+    return beside(file, "sources", lambda part: write_queries(f"{part}/{name}", nodes, SOURCES[megabytes])) + f"/{name}"
 
 
 def labelled(binary, file, megabytes):
     """The file of the labels that dimacs makes of a graph for its queries."""
     words = [os.path.abspath(it) for it in (file, queries(file, megabytes))]
-    return beside(file, "labelled", binary, "solve-paths", *words, "labels") + "/labels"
+    return beside(file, "labelled", [binary, "solve-paths", *words, "labels"]) + "/labels"
 
 
 def sources(query):

@@ -1,7 +1,6 @@
 // Writes the texts that are measured. The same words give the same texts.
 //
 //   gen road N DEGREE SEED OUT.gr     a road-like planar graph: N nodes, about DEGREE arcs for each
-//   gen sources N K SEED OUT.query    K different sources among N nodes
 //   gen max N M SEED PREFIX           PREFIX.max, .solution and .cut: a maximum flow and its tight cut
 //   gen mixed N M SEED PREFIX         the same with the arcs in a random order, and the entries in another
 //   gen min N M SEED PREFIX           PREFIX.min, .solution and .pot: a minimum cost flow and its potentials
@@ -109,17 +108,6 @@ static void road(int64_t nodes, double degree, uint64_t seed, const string &path
     for (const Street &s : all) {
         out << "a " << s.from << ' ' << s.to << ' ' << s.length << '\n';
         out << "a " << s.to << ' ' << s.from << ' ' << s.length << '\n';
-    }
-}
-
-// One source in each of K equal parts of the nodes.
-static void sources(int64_t nodes, int64_t count, uint64_t seed, const string &path) {
-    Random random(seed);
-    Output out(path);
-    out << "p aux sp ss " << count << '\n';
-    for (int64_t i = 0; i < count; i++) {
-        int64_t first = 1 + (int64_t)((__int128)i * nodes / count);
-        out << "s " << first + random.between(0, std::max<int64_t>(0, nodes / count - 1)) << '\n';
     }
 }
 
@@ -280,11 +268,10 @@ int main(int count, char **words) {
     if (count != 6) kind = "";
     auto whole = [&](int i) { return strtoll(words[i], nullptr, 10); };
     if (kind == "road") road(whole(2), atof(words[3]), whole(4), words[5]);
-    else if (kind == "sources") sources(whole(2), whole(3), whole(4), words[5]);
     else if (kind == "max" || kind == "mixed") planted_max(whole(2), whole(3), whole(4), words[5], kind == "mixed");
     else if (kind == "min" || kind == "parallel") planted_min(whole(2), whole(3), whole(4), words[5], kind == "parallel");
     else {
-        fprintf(stderr, "gen road|sources|max|mixed|min|parallel N NUMBER SEED OUT\n");
+        fprintf(stderr, "gen road|max|mixed|min|parallel N NUMBER SEED OUT\n");
         return 2;
     }
     return 0;

@@ -33,17 +33,10 @@ PEERS = [
 KINDS = {"max": "Maximum flow", "min": "Least cost", "gr": "Distances"}
 OURS = {kind: [f"solve-{word}", f"certify-{word}"] for kind, word in (("max", "max"), ("min", "min"), ("gr", "paths"))}
 
-# the families that are measured where not all are asked for
-SHOWN = {
-    "max": ["frames", "grid", "image", "layers", "matching"],
-    "min": ["assign", "goto", "netgen", "road", "square grid"],
-    "gr": ["long grid", "netgen", "road", "square grid", "torus"],
-}
-
 
 def instances(kind, megabytes):
     """The wanted instances of a kind and size by their names."""
-    for family in FAMILIES[kind] if os.environ.get("ALL") else SHOWN[kind]:
+    for family in FAMILIES[kind]:
         if wants(f"{kind}, {family}"):
             yield family, instance(kind, family, megabytes)
 
