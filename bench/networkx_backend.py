@@ -1,13 +1,10 @@
 #!/usr/bin/env python3
 """Times networkx with backend="dimacs" next to networkx itself, on five graphs of 100,000 arcs.
 
-It needs networkx 3.2 or later, and the package `dimacs` installed, so that networkx finds the backend. Each call is
-made by a process of its own, which is stopped after --stop seconds. The seconds are those of the call alone, the least
-of five rounds, or of fewer if they take 10 seconds together. What both answer has to have the same value.
-docs/LIBRARY.md has the ratios.
+It needs networkx 3.2 or later, and the package `dimacs` installed, so that networkx finds the backend. The seconds are
+those of the call alone, the least of five rounds, or of fewer if they take 10 seconds together. What both answer has to
+have the same value. docs/LIBRARY.md has the ratios.
 """
-import argparse
-import multiprocessing
 import random
 import time
 
@@ -77,8 +74,8 @@ CALLS = [
 ]
 
 
-def measure(number, backend, pipe):
-    """Makes a call, and sends the counts of nodes and arcs, the value of the answer and the least seconds."""
+def measured(number, backend):
+    """Makes a call, and returns the counts of nodes and arcs, the value of the answer and the least seconds."""
     function, made, value = CALLS[number]
     words = made(random.Random(number))
     arcs = sum(len(heads) for _, heads in words[0].adjacency())
@@ -87,33 +84,17 @@ def measure(number, backend, pipe):
         begin = time.perf_counter()
         answer = function(*words, backend=backend)
         seconds.append(time.perf_counter() - begin)
-    pipe.send((len(words[0]), arcs, value(answer), min(seconds)))
-
-
-def measured(number, backend, stop):
-    """What a process sends, or None if it is stopped."""
-    here, there = multiprocessing.Pipe(duplex=False)
-    process = multiprocessing.Process(target=measure, args=(number, backend, there))
-    process.start()
-    there.close()
-    found = here.recv() if here.poll(stop) else None
-    process.terminate()
-    process.join()
-    return found
+    return len(words[0]), arcs, value(answer), min(seconds)
 
 
 def main():
-    words = argparse.ArgumentParser(description=__doc__.splitlines()[0])
-    words.add_argument("--stop", type=int, default=600, help="after so many seconds networkx is stopped")
-    asked = words.parse_args()
     print("| Call | Graph | Nodes | Arcs | networkx | dimacs | Ratio |\n|---|---|---|---|---|---|---|", flush=True)
     for number, (function, made, _) in enumerate(CALLS):
-        nodes, arcs, value, ours = measured(number, "dimacs", asked.stop)
-        theirs = measured(number, "networkx", asked.stop)
-        assert theirs is None or theirs[2] == value, f"{function.__name__}: {theirs[2]} and {value}"
-        over, seconds = ("", theirs[3]) if theirs else ("over ", asked.stop)
+        nodes, arcs, value, ours = measured(number, "dimacs")
+        *_, same, theirs = measured(number, "networkx")
+        assert same == value, f"{function.__name__}: {same} and {value}"
         graph = f"`{function.__name__}` | {made.__name__} | {nodes:,} | {arcs:,}"
-        print(f"| {graph} | {over}{seconds:.2f} | {ours:.2f} | {over}{seconds / ours:.1f} |", flush=True)
+        print(f"| {graph} | {theirs:.2f} | {ours:.2f} | {theirs / ours:.1f} |", flush=True)
 
 
 if __name__ == "__main__":

@@ -5,7 +5,7 @@ import shutil
 import subprocess
 
 from families import least, most
-from families.instance import SEED, Random
+from families.instance import Random
 
 # The families of instances, by kind, and what makes one of a size in MB: a function and its numbers, or gen's words.
 FAMILIES = {
@@ -94,13 +94,13 @@ def instance(kind, family, megabytes):
     if callable(make):
         generate(folder, lambda part: make(*numbers).write(f"{part}/instance.{kind}"))
     else:
-        generate(folder, ["gen", make, *numbers, SEED, "instance.gr" if kind == "gr" else "instance"])
+        generate(folder, ["gen", make, *numbers, "instance.gr" if kind == "gr" else "instance"])
     return f"{folder}/instance.{kind}"
 
 
 def flow_texts(folder, kind, arcs, generator):
     """The files of an instance with its claim and its certificate, as gen makes them by one of its words."""
-    generate(folder, ["gen", generator, arcs // ARCS_PER_NODE[kind], arcs, SEED, "flow"])
+    generate(folder, ["gen", generator, arcs // ARCS_PER_NODE[kind], arcs, "flow"])
     return [f"{folder}/flow.{end}" for end in (kind, "solution", CERTIFICATES[kind])]
 
 
@@ -109,7 +109,7 @@ def road_texts(folder, binary, junctions, degree, count):
     files = ["road.gr", "road.query", "road.dist"]
     generate(
         folder,
-        ["gen", "road", junctions, degree, SEED, files[0]],
+        ["gen", "road", junctions, degree, files[0]],
         lambda part: write_queries(f"{part}/{files[1]}", junctions, count),
         [binary, "solve-paths", *files],
     )

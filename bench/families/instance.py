@@ -1,15 +1,14 @@
-"""Instances of all three kinds, and numbers that look random, the same for the same seed."""
+"""Instances of all three kinds, and numbers that look random, the same each time."""
 
 MASK = 2**64 - 1
 STEP = 0x9E3779B97F4A7C15
-SEED = 1
 
 
 class Random:
-    """As random.h in gen."""
+    """As in gen.cpp."""
 
-    def __init__(self, seed=SEED):
-        self.state = seed * STEP + 1 & MASK
+    def __init__(self):
+        self.state = STEP + 1
 
     def next(self):
         self.state = z = self.state + STEP & MASK

@@ -1,10 +1,10 @@
 // Writes the texts that are measured. The same words give the same texts.
 //
-//   gen road N DEGREE SEED OUT.gr     a road-like planar graph: N nodes, about DEGREE arcs for each
-//   gen max N M SEED PREFIX           PREFIX.max, .solution and .cut: a maximum flow and its tight cut
-//   gen mixed N M SEED PREFIX         the same with the arcs in a random order, and the entries in another
-//   gen min N M SEED PREFIX           PREFIX.min, .solution and .pot: a minimum cost flow and its potentials
-//   gen parallel N M SEED PREFIX      the same with one arc more, which has the ends of the first
+//   gen road N DEGREE OUT.gr     a road-like planar graph: N nodes, about DEGREE arcs for each
+//   gen max N M PREFIX           PREFIX.max, .solution and .cut: a maximum flow and its tight cut
+//   gen mixed N M PREFIX         the same with the arcs in a random order, and the entries in another
+//   gen min N M PREFIX           PREFIX.min, .solution and .pot: a minimum cost flow and its potentials
+//   gen parallel N M PREFIX      the same with one arc more, which has the ends of the first
 //
 // The flows and their certificates are made first and the instance around them, so that any size takes linear time.
 // No two arcs of a flow instance have the same ends, but for `parallel`: node v has arcs to the nodes v + step, for
@@ -18,8 +18,6 @@
 #include <string>
 #include <vector>
 
-#include "random.h"
-
 using std::string;
 using std::vector;
 
@@ -27,6 +25,26 @@ using std::vector;
 struct Output : std::ofstream {
     explicit Output(const string &path) : std::ofstream(path, std::ios::binary) { exceptions(failbit | badbit); }
     ~Output() { close(); }
+};
+
+// Numbers that look random, the same each time.
+class Random {
+public:
+    uint64_t next() {
+        uint64_t z = (state += STEP);
+        z = (z ^ (z >> 30)) * 0xBF58476D1CE4E5B9;
+        z = (z ^ (z >> 27)) * 0x94D049BB133111EB;
+        return z ^ (z >> 31);
+    }
+    // from 0, below n
+    uint64_t below(uint64_t n) { return (uint64_t)(((unsigned __int128)next() * n) >> 64); }
+    int64_t between(int64_t low, int64_t high) { return low + (int64_t)below((uint64_t)(high - low + 1)); }
+    // from 0, below 1
+    double unit() { return (next() >> 11) * 0x1p-53; }
+
+private:
+    static const uint64_t STEP = 0x9E3779B97F4A7C15;
+    uint64_t state = STEP + 1;
 };
 
 // ---- roads
@@ -97,8 +115,8 @@ template <class T> static void shuffle_pieces(vector<T> &all, size_t piece, Rand
     }
 }
 
-static void road(int64_t nodes, double degree, uint64_t seed, const string &path) {
-    Random random(seed);
+static void road(int64_t nodes, double degree, const string &path) {
+    Random random;
     Junctions junctions(nodes);
     vector<Street> all = streets(junctions, degree, random);
     shuffle_pieces(all, 4096, random);
@@ -154,8 +172,8 @@ static void write_max(const string &prefix, uint32_t nodes, const vector<Arc> &a
 // The flow runs along the ring 1, 2, .., N; shortcuts carry a few units past a piece of it. No arc that goes back, from
 // a node to a lower one, carries anything. The cut is the lower half of the nodes: the arcs that leave it get what
 // they carry as their capacity, all others get more.
-static void planted_max(uint32_t nodes, uint64_t arc_count, uint64_t seed, const string &prefix, bool mixed) {
-    Random random(seed);
+static void planted_max(uint32_t nodes, uint64_t arc_count, const string &prefix, bool mixed) {
+    Random random;
     vector<uint32_t> steps = {1};
     add_distinct_steps(steps, std::max<uint64_t>(2, arc_count / nodes), nodes, random);
 
@@ -227,8 +245,8 @@ static void write_potentials(const string &path, const vector<int64_t> &potentia
 
 // The potentials come first. An arc then carries its least and has a reduced cost that isn't negative, or its most and
 // one that isn't positive, or anything between and 0. The supplies are what the arcs leave at each node.
-static void planted_min(uint32_t nodes, uint64_t arc_count, uint64_t seed, const string &prefix, bool has_parallels) {
-    Random random(seed);
+static void planted_min(uint32_t nodes, uint64_t arc_count, const string &prefix, bool has_parallels) {
+    Random random;
     vector<int64_t> potentials(nodes + 1), supplies(nodes + 1, 0);
     for (uint32_t v = 1; v <= nodes; v++) potentials[v] = random.between(-20000, 20000);
     vector<uint32_t> steps;
@@ -265,13 +283,13 @@ static void planted_min(uint32_t nodes, uint64_t arc_count, uint64_t seed, const
 
 int main(int count, char **words) {
     string kind = count > 1 ? words[1] : "";
-    if (count != 6) kind = "";
+    if (count != 5) kind = "";
     auto whole = [&](int i) { return strtoll(words[i], nullptr, 10); };
-    if (kind == "road") road(whole(2), atof(words[3]), whole(4), words[5]);
-    else if (kind == "max" || kind == "mixed") planted_max(whole(2), whole(3), whole(4), words[5], kind == "mixed");
-    else if (kind == "min" || kind == "parallel") planted_min(whole(2), whole(3), whole(4), words[5], kind == "parallel");
+    if (kind == "road") road(whole(2), atof(words[3]), words[4]);
+    else if (kind == "max" || kind == "mixed") planted_max(whole(2), whole(3), words[4], kind == "mixed");
+    else if (kind == "min" || kind == "parallel") planted_min(whole(2), whole(3), words[4], kind == "parallel");
     else {
-        fprintf(stderr, "gen road|max|mixed|min|parallel N NUMBER SEED OUT\n");
+        fprintf(stderr, "gen road|max|mixed|min|parallel N NUMBER OUT\n");
         return 2;
     }
     return 0;
