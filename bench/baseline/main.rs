@@ -13,6 +13,7 @@
 //! baseline judge-paths GRAPH QUERY LABELS
 //! ```
 
+mod by_node;
 mod claims;
 mod judges;
 mod network;
