@@ -96,14 +96,7 @@ pub struct Cut {
     pub nodes: u32,
     declared: Declared,
     count: usize,
-    named: NodeSet,
-}
-
-impl Cut {
-    #[inline(always)]
-    pub fn contains(&self, node: u32) -> bool {
-        self.named.contains(node)
-    }
+    pub named: NodeSet,
 }
 
 impl Reading for Cut {
@@ -136,19 +129,9 @@ impl Reading for Cut {
 
 #[derive(Default)]
 pub struct Potentials {
-    named: Cut,
-    values: Vec<i128>,
-}
-
-impl Potentials {
-    pub fn nodes(&self) -> u32 {
-        self.named.nodes
-    }
-
-    #[inline(always)]
-    pub fn of(&self, node: u32) -> i128 {
-        self.values[node as usize]
-    }
+    pub named: Cut,
+    /// By node.
+    pub values: Vec<i128>,
 }
 
 impl Reading for Potentials {

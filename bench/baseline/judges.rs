@@ -73,14 +73,14 @@ fn test_cut(network: &Network, flows: &[i64], cut: &Cut) -> Result<(), String> {
     if cut.nodes != network.nodes {
         return Err(at_certificate("NodesDiffer"));
     }
-    if !cut.contains(network.source) {
+    if !cut.named.contains(network.source) {
         return Err(at_node(network.source, "SourceOutside"));
     }
-    if cut.contains(network.sink) {
+    if cut.named.contains(network.sink) {
         return Err(at_node(network.sink, "SinkInside"));
     }
     for (arc, &(tail, head)) in network.ends.iter().enumerate() {
-        match (cut.contains(tail), cut.contains(head)) {
+        match (cut.named.contains(tail), cut.named.contains(head)) {
             (true, false) if flows[arc] != network.values[arc] => {
                 return Err(at_arc(arc, "NotSaturated"));
             }
@@ -123,11 +123,12 @@ fn test_cost(network: &Network, flows: &[i64], solution: &Solution) -> Result<()
 }
 
 fn test_reduced_costs(network: &Network, flows: &[i64], potentials: &Potentials) -> Result<(), String> {
-    if potentials.nodes() != network.nodes {
+    if potentials.named.nodes != network.nodes {
         return Err(at_certificate("NodesDiffer"));
     }
+    let y = &potentials.values;
     for (arc, &(tail, head)) in network.ends.iter().enumerate() {
-        let reduced_cost = network.values[arc] as i128 - potentials.of(tail) + potentials.of(head);
+        let reduced_cost = network.values[arc] as i128 - y[tail as usize] + y[head as usize];
         let (low, cap) = network.bounds[arc];
         if reduced_cost > 0 && flows[arc] != low || reduced_cost < 0 && flows[arc] != cap {
             return Err(at_arc(arc, "NotTight"));

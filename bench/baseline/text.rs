@@ -149,10 +149,12 @@ fn read_usual<R: Reading, const K: usize>(kind: Kind, path: &str, reading: &mut 
     let mut window = Window::open(path);
     let mut line = 0;
     loop {
-        window.fill_up_to(room(K));
+        if window.can_fill_up_to(room(K)) {
+            window.fill();
+        }
         while let Some((numbers, length)) = usual_line::<K>(window.bytes(), usual.letter, &is_id) {
             line += 1;
-            window.skip(length);
+            window.start += length;
             let wide = numbers.get(wide_place).map_or(0, |&number| number as i128);
             let record = Record { letter: usual.letter, numbers, wide };
             reading.take(&record, line).map_err(|refusal| Fault { line, refusal })?;
@@ -337,19 +339,8 @@ impl Window {
     }
 
     #[inline(always)]
-    fn skip(&mut self, count: usize) {
-        self.start += count;
-    }
-
-    #[inline(always)]
     fn can_fill_up_to(&self, count: usize) -> bool {
         self.end - self.start < count && !self.is_last
-    }
-
-    fn fill_up_to(&mut self, count: usize) {
-        if self.can_fill_up_to(count) {
-            self.fill();
-        }
     }
 
     #[cold]
