@@ -123,17 +123,12 @@ def beside(file, name, command):
     return folder
 
 
-def solved(binary, file):
-    """The files of a claim that dimacs makes of an instance of a flow, and of its certificate."""
-    kind = file.split(".")[-1]
-    folder = beside(file, "solved", [binary, f"solve-{kind}", os.path.abspath(file), "solution", "certificate"])
-    return f"{folder}/solution", f"{folder}/certificate"
-
-
 def claimed(binary, file):
-    """The file of a claim of an instance: the one that was made with it, or else one that dimacs makes."""
-    made = file[: file.rindex(".")] + ".solution"
-    return made if os.path.exists(made) else solved(binary, file)[0]
+    """The file of a claim of an instance of a flow: the one that was made with it, or else one that dimacs makes."""
+    stem, _, kind = file.rpartition(".")
+    if os.path.exists(f"{stem}.solution"):
+        return f"{stem}.solution"
+    return beside(file, "solved", [binary, f"solve-{kind}", os.path.abspath(file), "solution", "certificate"]) + "/solution"
 
 
 def queries(file, megabytes):

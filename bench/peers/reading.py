@@ -31,26 +31,26 @@ def by_dimacs():
     return read
 
 
-def by_pandas():
-    import pandas
+def by_table(load, **more):
+    """Reads the arcs by a function that loads tables."""
 
     def read(kind, file):
         nodes, before = problem(file)
-        columns = range(1, 6 if kind == "min" else 4)
-        return nodes, len(pandas.read_csv(file, sep=" ", header=None, skiprows=before, usecols=columns))
+        return nodes, len(load(file, skiprows=before, usecols=range(1, 6 if kind == "min" else 4), **more))
 
     return read
+
+
+def by_pandas():
+    import pandas
+
+    return by_table(pandas.read_csv, sep=" ", header=None)
 
 
 def by_numpy():
     import numpy
 
-    def read(kind, file):
-        nodes, before = problem(file)
-        columns = range(1, 6 if kind == "min" else 4)
-        return nodes, len(numpy.loadtxt(file, dtype=numpy.int64, skiprows=before, usecols=columns))
-
-    return read
+    return by_table(numpy.loadtxt, dtype=numpy.int64)
 
 
 def by_igraph():
