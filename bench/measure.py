@@ -61,11 +61,6 @@ def measure(command, limit=NO_LIMIT, stdout=subprocess.DEVNULL):
     return Taken(float(cpu), int(kilobytes) * 1024, run.returncode, run.stdout)
 
 
-def printed(command):
-    """What a command prints, whatever its status."""
-    return subprocess.run(command, capture_output=True, text=True, check=False).stdout
-
-
 def measure_in_turn(commands, rounds, run=measure):
     """What the runs of each command took, as `run` measures one."""
     taken = {name: Rounds() for name in commands}

@@ -128,7 +128,8 @@ def claimed(binary, file):
     stem, _, kind = file.rpartition(".")
     if os.path.exists(f"{stem}.solution"):
         return f"{stem}.solution"
-    return beside(file, "solved", [binary, f"solve-{kind}", os.path.abspath(file), "solution", "certificate"]) + "/solution"
+    words = [binary, f"solve-{kind}", os.path.abspath(file), "solution", "certificate"]
+    return beside(file, "solved", words) + "/solution"
 
 
 def queries(file, megabytes):

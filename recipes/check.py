@@ -4,8 +4,8 @@
 Fails if a verdict isn't the expected one, or if a recipe doesn't say that a text has a fault, that there are too many
 arguments, or that dimacs isn't there. What dimacs refuses, tests/referee.py tests.
 
-BINARY is the built `dimacs`; without it the variable DIMACS, or else crates/dimacs/out/dimacs. The recipes in Python and
-C++ need the library too, in the folder BUILD.
+BINARY is the built `dimacs`; without it the variable DIMACS, or else crates/dimacs/out/dimacs. The recipes in Python
+and C++ need the library too, in the folder BUILD.
 
 Environment:
   PYTHON   the Python that has the packages; python3
@@ -89,7 +89,12 @@ BEYOND = [("scipy_max.py", "wide.max"), ("scipy_min.py", "wide.min"), ("glpsol_m
 # What the recipes write, by the last word of the run; a text with an arc from node 0; and texts without a fault.
 WRITTEN = {"max": ["solution", "cut"], "min": ["solution", "pot"], "infeasible": ["cut"], "paths": ["distances"]}
 FAULTY = {"max": ["zero.max"], "min": ["zero.min"], "infeasible": ["zero.min"], "paths": ["zero.gr", "road.query"]}
-RIGHT = {"max": ["pipes.max"], "min": ["freight.min"], "infeasible": ["shortage.min"], "paths": ["road.gr", "road.query"]}
+RIGHT = {
+    "max": ["pipes.max"],
+    "min": ["freight.min"],
+    "infeasible": ["shortage.min"],
+    "paths": ["road.gr", "road.query"],
+}
 
 
 # ---- generated instances, the same ones each time
@@ -184,7 +189,7 @@ class Check:
 
     def __init__(self, binary, folder):
         self.folder, self.accepted, self.ended, self.failed, self.verdicts = folder, 0, 0, 0, {}
-        self.environment = {**os.environ, "DIMACS": binary, "DIMACS_LIBRARY": LIBRARY, "PYTHONPATH": f"{TOP}/lib/python"}
+        self.environment = os.environ | {"DIMACS": binary, "DIMACS_LIBRARY": LIBRARY, "PYTHONPATH": f"{TOP}/lib/python"}
         for name, instance in GENERATED.items():
             instance.write(f"{folder}/{name}")
         for name, lines in LINES.items():
@@ -210,7 +215,8 @@ class Check:
     def solve(self, recipe, texts, **environment):
         """Runs a recipe on texts, which are examples, generated or written."""
         name, end = recipe.split(".")
-        words = {"py": [PYTHON, "-B", f"{HERE}/{recipe}"], "sh": ["sh", f"{HERE}/{recipe}"], "cpp": [f"{self.folder}/{name}"]}
+        file = f"{HERE}/{recipe}"
+        words = {"py": [PYTHON, "-B", file], "sh": ["sh", file], "cpp": [f"{self.folder}/{name}"]}
         examples = f"{TOP}/examples/"
         files = [examples + it if os.path.exists(examples + it) else f"{self.folder}/{it}" for it in texts]
         environment = {**self.environment, **environment}
@@ -223,7 +229,7 @@ class Check:
         if ran.returncode == status and re.fullmatch(line, first):
             self.ended += 1
         else:
-            self.fail(f"{recipe} {texts}: wanted status {status} and '{line}', got status {ran.returncode} and '{first}'")
+            self.fail(f"{recipe} {texts}: wanted status {status}, '{line}', got status {ran.returncode}, '{first}'")
 
     def messages(self, recipe, run, written):
         """Tests what it says of a fault, of an argument too many, and if dimacs isn't there."""
@@ -242,10 +248,11 @@ class Check:
                 continue
             ran = self.solve(recipe, texts.split() + written)
             found = "; ".join(ran.stdout.splitlines()) + f" (status {ran.returncode})" * (ran.returncode != 0)
-            first = found if ran.returncode == 0 else "a verdict"
-            wanted = verdict[0] if verdict else self.verdicts.setdefault((run, texts), first)
+            known = self.verdicts.get((run, texts), found if ran.returncode == 0 else "a verdict")
+            wanted = verdict[0] if verdict else known
             if found == wanted:
                 self.accepted += 1
+                self.verdicts[run, texts] = found
             else:
                 self.fail(f"{recipe} on {texts}: wanted '{wanted}', got '{found}' {ran.stderr[-200:]}")
 

@@ -7,7 +7,7 @@ import os
 import subprocess
 import sys
 
-from measure import HERE, PYTHON, head, measure_in_turn, printed, row, wants
+from measure import HERE, PYTHON, head, measure_in_turn, row, wants
 from measure import measure as run
 from texts import declared
 from works import baseline
@@ -51,7 +51,7 @@ def cells(judge, show, asked):
     kind, instance = show.words[1], show.files[0]
     commands = {name: [asked.binary, *it.words, *it.files] for name, it in ((JUDGING, judge), (SHOWING, show))}
     for command in commands.values():
-        if not printed(command).startswith(("v", "i")):
+        if run(command).status:
             sys.exit(f"no answer: {' '.join(command)}")
     for name, command, kinds in READERS:
         command = [*command, kind, instance]
