@@ -192,10 +192,11 @@ fn put_others_alone(
     came[..in_order].fill(true);
     let mut next = in_order;
     for (k, entry) in solution.entries.iter().enumerate().skip(in_order) {
+        let arc_at = |place| index.arc_at(network, entry.ends, place);
         let near = network.ends[next..].iter().take(NEAR);
         let found = match near.copied().position(|ends| ends == entry.ends) {
             Some(skipped) => Some(next + skipped),
-            None => index.first_arc(network, entry.ends),
+            None => index.first_place(network, entry.ends).and_then(arc_at),
         };
         let Some(arc) = found else {
             return Err(at_solution(solution.entry_line(k), 0, "UnknownArc"));
