@@ -6,7 +6,6 @@ import importlib.util
 import os
 import pathlib
 import pickle
-import re
 import sys
 import tempfile
 import time
@@ -16,18 +15,11 @@ from unittest import mock
 
 import dimacs
 from dimacs import UNREACHED, Cut, Distances, Graph, Labels, MaxInstance, MinInstance, Potentials, Queries, Solution, instances
-from spoiled_texts import JUDGES, judged_texts
 from shared import draws, networkx, numpy, raised
 
 MAX = "c pipes\np max 4 3\nn 4 t\nn 1 s\na 1 2 9223372036854775807\n\na 2 4 +05\na 1 4 0\n"
 MIN = "p min 3 2\nn 3 -4\nn 1 4\na 1 2 0 9223372036854775807 -9223372036854775808\na 2 3 1 5 7\n"
 GRAPH = "p sp 3 2\na 1 2 -9223372036854775808\na 3 3 9223372036854775807\n"
-#: Why arrays are refused where the text alone has no fault.
-BEYOND_THE_TEXT = {
-    "solution": ("UnknownArc", "ArcTwice", "NumberRange"),
-    "pot": ("NumberRange",),
-    **dict.fromkeys(("dist", "distances"), ("BlockMissing", "NumberRange")),
-}
 CASES = int(os.environ.get("CASES", 1000))
 LAST = 2**63 - 1
 
@@ -250,24 +242,6 @@ def random_labels(rng, nodes):
     return Labels(order[0], distances, before)
 
 
-def without_predecessors(labels):
-    """Labels as distances. Of spoiled lines the fields stay as they are."""
-    found = labels.replace(b"p dist ", b"p distances ", 1)
-    return re.sub(rb"^(d \S+ \S+|t \S+ \S+) \S+$", rb"\1", found, flags=re.MULTILINE)
-
-
-def block_of(canonical, source):
-    """The fields of the block of a source, by node."""
-    found, current = {}, None
-    for line in canonical.decode().splitlines()[1:]:
-        letter, *numbers = line.split()
-        if letter == "t":
-            current = int(numbers[0])
-        elif current == source:
-            found[int(numbers[0])] = [int(it) for it in numbers[1:]]
-    return found
-
-
 class Laws(unittest.TestCase):
     def test_read_after_write(self):
         for rng in draws(1, CASES):
@@ -287,49 +261,6 @@ class Laws(unittest.TestCase):
                 text = dimacs.write(value)
                 self.assertEqual(dimacs.read(kind, text, *of), value)
                 self.assertEqual(dimacs.convert(kind, text), text)
-
-    def test_spoiled_texts(self):
-        """Each fault is named as the command names it."""
-        seen = {kind: [0, 0] for kind in dimacs.reading.KINDS}
-        for seed in range(CASES):
-            command = list(JUDGES)[seed % len(JUDGES)]
-            texts = dict(zip(JUDGES[command][1], (it.encode("latin-1") for it in judged_texts(command, seed))))
-            if "dist" in texts:
-                texts["distances"] = without_predecessors(texts["dist"])
-            instance = None
-            for kind, text in texts.items():
-                of = {"solution": [instance], "dist": [1 + seed % 3], "distances": [1 + seed % 3]}.get(kind, [])
-                if of != [None]:
-                    found = self.compare(kind, text, *of)
-                    instance = found if kind in ("max", "min") else instance
-                    seen[kind][found is None] += 1
-        for kind, counts in seen.items():
-            self.assertGreater(min(counts), CASES // 50, kind)
-
-    def compare(self, kind, text, *of):
-        """Reads a text as the command does, and returns the value if it has no fault."""
-        wanted = no = None
-        try:
-            wanted = dimacs.convert(kind, text)
-        except dimacs.Refused as it:
-            no = it.printed
-        try:
-            found = dimacs.read(kind, text, *of)
-        except dimacs.Refused as it:
-            if no is None:
-                self.assertIn(it.reason, BEYOND_THE_TEXT[kind])
-                return None
-            self.assertEqual(it.printed, no, text)
-            return None
-        self.assertIsNone(no, text)
-        if kind in ("dist", "distances"):
-            fields = block_of(wanted, *of)
-            for k, column in enumerate(listed(found)[1:]):
-                least = [0, UNREACHED][k == 0]
-                self.assertEqual(column, [(fields.get(node, [least, 0])[k] if node != of[0] else 0) for node in range(1, len(found) + 1)], text)
-        elif kind != "solution":
-            self.assertEqual(dimacs.write(found), wanted)
-        return found
 
 
 class Files(unittest.TestCase):
