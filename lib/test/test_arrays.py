@@ -7,7 +7,7 @@ import unittest
 from unittest import mock
 
 import dimacs
-from dimacs import buffers, given, library
+from dimacs import buffers, given
 from shared import numpy, pandas, raised
 
 INF = float("inf")
@@ -64,23 +64,7 @@ class Certifies(unittest.TestCase):
         self.assertEqual(dimacs.judge_min_arrays(*words, potentials).value, cost)
 
 
-def answering(status, line, *counts):
-    """A call of a library that hands out this line, and reports that it has so many items for each room."""
-
-    def call(*words):
-        out, _, needed, *rooms = words[-9:]
-        out[: len(line)] = line
-        needed._obj.value = len(line)
-        for room_needed, count in zip(rooms[2::3], counts):
-            room_needed._obj.value = count
-        return status
-
-    return call
-
-
 class Rooms(unittest.TestCase):
-    """What is handed out is whole, or nothing is."""
-
     def test_more_arcs_than_the_most_nodes(self):
         for certify, instance, claim, better in [
             (dimacs.certify_max_arrays, MAX, SLOW, FLOW),
@@ -89,23 +73,6 @@ class Rooms(unittest.TestCase):
             with mock.patch.object(given, "MOST_NODES", 4), self.assertRaises(dimacs.NotOptimal) as caught:
                 certify(*instance, claim)
             self.assertEqual(len(caught.exception.better), len(better))
-
-    def test_other_lengths_than_the_rooms(self):
-        no = library.REFUSED, b"x solution 0 0 NotMaximum\n"
-        for answer in [
-            (library.DONE, b"v max 6\n", 3, 0),
-            (library.DONE, b"v max 6\n", 5, 0),
-            (*no, 0, 4),
-            (*no, 0, 6),
-            (*no, 4, 0),
-        ]:
-            stub = mock.patch.object(library, "certify_max_arrays", answering(*answer))
-            with self.subTest(answer), stub, self.assertRaises(RuntimeError):
-                dimacs.certify_max_arrays(*MAX, FLOW)
-
-    def test_more_nodes_than_there_may_be(self):
-        with mock.patch.object(given, "MOST_NODES", 3), self.assertRaises(RuntimeError):
-            dimacs.certify_max_arrays(*MAX, FLOW)
 
 
 class Misuse(unittest.TestCase):

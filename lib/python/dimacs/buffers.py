@@ -16,7 +16,7 @@ from decimal import MAX_EMAX, MIN_EMIN, Context, Decimal
 from functools import partial
 from numbers import Number, Rational
 from pathlib import Path
-from typing import TYPE_CHECKING, Any, Callable, Iterable, NamedTuple, Sequence, Union
+from typing import TYPE_CHECKING, Any, Callable, Iterable, NamedTuple, Sequence, TypeAlias, Union
 
 from .answers import UNREACHED
 
@@ -387,41 +387,21 @@ def value_of(claimed: Any, name: str) -> int:
     return number_of(claimed, VALUES, name)
 
 
-class Room:
-    """Memory for items that a call hands out."""
+#: Memory for items that a call hands out.
+Room: TypeAlias = "array.array[int]"
 
-    __slots__ = ("_items", "_kept", "_needed")
 
-    def __init__(self, items: Items, length: int) -> None:
-        self._items = items
-        self._kept = array.array(items.code, (0,)) * length
-        self._needed = ctypes.c_size_t()
+def room_of(items: Items, length: int) -> Room:
+    return array.array(items.code, (0,)) * length
 
-    @classmethod
-    def of(cls, items: Items, numbers: Sequence[int]) -> Room:
-        """A room with these items, as if a call had handed them out."""
-        room = cls(items, 0)
-        room._kept.extend(numbers)
-        room._needed.value = len(room._kept)
-        return room
 
-    def words(self) -> tuple[int, int, Any]:
-        """The address of the memory, the number of items that fit, and the address of the number handed out."""
-        address, length = self._kept.buffer_info()
-        return address, length, ctypes.byref(self._needed)
-
-    def items(self) -> array.array[int]:
-        if self._needed.value != len(self._kept):
-            raise RuntimeError(f"the library handed out {self._needed.value} items, and there is room for {len(self._kept)}")
-        return self._kept
-
-    def in_form_of(self, came: Any) -> Any:
-        """All items: a numpy array or an array.array if the argument is one, else a list. Marks are bools, and
-        in array.array bytes that aren't 0 if they are true."""
-        kept = self.items()
-        if is_numpy(came):
-            found = sys.modules["numpy"].frombuffer(kept, self._items.code)
-            return found != 0 if self._items is MARKS else found
-        if isinstance(came, array.array):
-            return kept
-        return list(map(bool, kept)) if self._items is MARKS else kept.tolist()
+def in_form_of(came: Any, kept: Room) -> Any:
+    """Items that a call handed out: a numpy array or an array.array if the argument is one, else a list. Marks are bools, and
+    in array.array bytes that aren't 0 if they are true."""
+    are_marks = kept.typecode == MARKS.code
+    if is_numpy(came):
+        found = sys.modules["numpy"].frombuffer(kept, kept.typecode)
+        return found != 0 if are_marks else found
+    if isinstance(came, array.array):
+        return kept
+    return list(map(bool, kept)) if are_marks else kept.tolist()

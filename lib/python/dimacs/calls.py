@@ -67,7 +67,7 @@ def _refusal(given: Given, no: Refused, asked: AskedOfArrays, came: Any, *better
     asked.add(better=flows)
     if no.reason == "Feasible":
         return Feasible(given.shown(FLOWS, flows, came))
-    values = {"value": given.value_of(given.column(FLOWS)), "better_value": given.value_of(flows.items())}
+    values = {"value": given.value_of(given.column(FLOWS)), "better_value": given.value_of(flows)}
     numbers = {name: given.value(it) for name, it in values.items()}
     shown = given.shown(FLOWS, flows, came)
     return NotOptimal(no.reason, shown, text=no.text, line=no.line, field=no.field, numbers=numbers)
@@ -85,7 +85,7 @@ def of_value(certified: Certified, claimed: Any, name: str) -> Certified:
 def solve_max(given: Given, came: Any = (), limit: Any = LIMIT) -> Solved:
     given.add_number("limit", limit, LIMITS)
     found, rooms = _solve_bounded("max", given, _test_bounded_max, FLOWS, INSIDE)
-    inside = rooms[INSIDE].items()
+    inside = rooms[INSIDE]
     if any(inside[tail - 1] and not inside[head - 1] for tail, head in _limitless_ends(given)):
         _test_bounded_max(given)
         raise GaveUp("the capacities have a sum that is out of range")
@@ -100,7 +100,7 @@ def solve_min(given: Given, came: Any = (), limit: Any = LIMIT) -> Solved:
         _test_found_set(given, inside)
         no = Infeasible(given.shown(INSIDE, inside, came), _imbalance(given))
         raise kept(no, _shown_by(given, "infeasible", inside=inside))
-    costs, potentials = given.column(COSTS), rooms[POTENTIALS].items()
+    costs, potentials = given.column(COSTS), rooms[POTENTIALS]
     for arc, (tail, head) in zip(given.limitless(), _limitless_ends(given)):
         if costs[arc] - potentials[tail - 1] + potentials[head - 1] < 0:
             _test_bounded_min(given)
@@ -205,7 +205,7 @@ def _test_bounded_min(given: Given) -> None:
 
 def _test_found_set(given: Given, inside: Room) -> None:
     """A set that was found to show that no flow is feasible has to show it of arcs without a limit too."""
-    if given.limitless() and not _is_violated(given, inside.items()):
+    if given.limitless() and not _is_violated(given, inside):
         raise GaveUp("no flow is feasible that stays below 2^63 - 1 on the arcs without a limit")
 
 

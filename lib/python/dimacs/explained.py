@@ -158,7 +158,7 @@ class AskedOfArrays(Asked):
         self._more.update(more)
 
     def _column(self, kind: Array) -> Any:
-        return self._more[kind.name].items() if kind.name in self._more else self._given.column(kind)
+        return self._more[kind.name] if kind.name in self._more else self._given.column(kind)
 
     def _text(self, name: str) -> str:
         given, kind = self._given, self.kind
@@ -173,7 +173,7 @@ class AskedOfArrays(Asked):
         elif name == "solution":
             lines = _solution(given, self._column(FLOWS))
         elif name == "better":
-            lines = _solution(given, self._more[name].items())
+            lines = _solution(given, self._more[name])
         elif name == "distances":
             lines = _labels(given, "distances", self._column(DISTANCES), None)
         else:

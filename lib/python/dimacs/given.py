@@ -14,7 +14,7 @@ from typing import Any, Callable, Iterable, Iterator, NamedTuple, Sequence
 
 from .answers import UNREACHED, PastLimit, Refused, Unbounded
 from .buffers import CAPACITIES, IDS, LENGTHS, MARKS, NUMBERS, UNLIMITED, Buffer, Items, Room, array_of, gone_through
-from .buffers import is_bool, is_numpy, is_single, item, number_of, test_array, unlabelled, written
+from .buffers import in_form_of, is_bool, is_numpy, is_single, item, number_of, room_of, test_array, unlabelled, written
 from .scales import units_of
 
 #: The greatest number of nodes.
@@ -277,7 +277,7 @@ class Given:
 
     def room(self, kind: Array) -> Room:
         """Memory for an array that is handed out. If there are too many nodes, the library hands out none."""
-        return Room(kind.items, min(self.count(kind), MOST_NODES) if kind.each == "nodes" else self.count(kind))
+        return room_of(kind.items, min(self.count(kind), MOST_NODES) if kind.each == "nodes" else self.count(kind))
 
     def shown(self, kind: Array, room: Room, came: Any) -> Any:
         """An array that was handed out, in the user's numbers, and in the form of one that came."""
@@ -285,12 +285,12 @@ class Given:
 
     def _in_numbers(self, kind: Array, room: Room, came: Any) -> Any:
         if kind.items is IDS and self.names.base == 0:
-            return room.in_form_of(came).astype("q") - 1 if is_numpy(came) else [it - 1 for it in room.items()]
+            return in_form_of(came, room).astype("q") - 1 if is_numpy(came) else [it - 1 for it in room]
         if not (self.units and kind.unit):
-            return room.in_form_of(came)
+            return in_form_of(came, room)
         scale = self.units.of(kind.unit)
         is_distance = kind.items is LENGTHS
-        shown = [math.inf if is_distance and it == UNREACHED else scale.shown(it) for it in room.items()]
+        shown = [math.inf if is_distance and it == UNREACHED else scale.shown(it) for it in room]
         return sys.modules["numpy"].array(shown, "O") if is_numpy(came) else shown
 
     def value(self, number: int | None) -> Any:

@@ -174,8 +174,8 @@ def call_for_texts(function: Callable[..., int], *words: Any, rooms: Sequence[in
 
 
 def call_with_rooms(function: Callable[..., int], words: Sequence[Any], rooms: Iterable[Room]) -> tuple[int, bytes]:
-    """Makes a call that hands out items to rooms that are large enough. Returns its status and the line."""
-    return call_with_line(function, words, [word for room in rooms for word in room.words()])
+    """Makes a call that hands out items to rooms that have as many. Returns its status and the line."""
+    return call_with_line(function, words, [word for it in rooms for word in (*it.buffer_info(), ctypes.byref(_size()))])
 
 
 def call_with_line(function: Callable[..., int], words: Sequence[Any], handed: Sequence[Any]) -> tuple[int, bytes]:

@@ -6,11 +6,12 @@ to parallel arcs. They go through texts, and spread_max and spread_min.
 
 from __future__ import annotations
 
+from array import array
 from typing import Any
 
 from . import texts
 from .answers import PastLimit, Refused
-from .buffers import IDS, NUMBERS, Numbers, Room, number_of, only_array_of, test_same_lengths
+from .buffers import IDS, NUMBERS, Numbers, in_form_of, number_of, only_array_of, test_same_lengths
 from .given import MAX, MIN, MOST_NODES, Given, Names
 from .instances import Instance, MaxInstance, MinInstance
 from .reading import read
@@ -33,7 +34,7 @@ def _spread(call: Any, kind: type[Instance], given: Given, *pairs: Any) -> Any:
         if it.text == "solution" and it.line is not None:
             it.numbers = {name: column[it.line - 2] for name, column in zip(("tail", "head"), columns)}
         raise
-    return Room.of(NUMBERS, read("solution", solution, instance).flows.tolist()).in_form_of(pairs[-1])
+    return in_form_of(pairs[-1], array(NUMBERS.code, read("solution", solution, instance).flows.tolist()))
 
 
 def spread_max_arrays(
