@@ -1,11 +1,17 @@
 """The command of the package, next to the program: statuses, lines and files."""
 
+import io
 import os
 import pathlib
 import subprocess
 import sys
 import tempfile
 import unittest
+import warnings
+from unittest import mock
+
+import explain  # tests/explain.py
+from dimacs import __main__
 
 TOP = pathlib.Path(__file__).parents[2]
 PROGRAM = pathlib.Path(os.environ.get("DIMACS_LIBRARY", "")).parent / "dimacs"
@@ -76,58 +82,77 @@ NAMED = [
     ["judge-max", *ODD],
     ["judge-max", *reversed(ODD)],
 ]
-TWICE = ["judge-infeasible", "/dev/stdin", "/dev/stdin"]
 
-@unittest.skipUnless((TOP / "examples" / "pipes.max").is_file() and PROGRAM.is_file(), "no program or examples beside it")
+EXAMPLES = {it.name: it.read_bytes() for it in (TOP / "examples").glob("*.*")}
+EXAMPLES.update({name: EXAMPLES[it] for name, it in ODD.items() if it in EXAMPLES})
+
+
+def by_program(words, folder):
+    ran = subprocess.run([PROGRAM, *words], cwd=folder, capture_output=True, check=False)
+    return ran.returncode, ran.stdout, ran.stderr
+
+
+def by_package(words, folder):
+    """The same in this process, which takes less time than another Python."""
+    here, out, err = os.getcwd(), io.TextIOWrapper(io.BytesIO()), io.StringIO()
+    os.chdir(folder)
+    try:
+        with mock.patch.multiple(sys, argv=["dimacs", *words], stdout=out, stderr=err), mock.patch("signal.signal"):
+            with warnings.catch_warnings():
+                warnings.simplefilter("ignore")  # the end of the process closes files
+                status = __main__.main()
+    finally:
+        os.chdir(here)
+    return status, out.buffer.getvalue(), err.getvalue().encode()
+
+
+@unittest.skipUnless(EXAMPLES and PROGRAM.is_file(), "no program or examples beside it")
 class Command(unittest.TestCase):
-    def ran(self, *words):
-        """The status, both outputs and the files that a command leaves in a folder with the examples."""
+    def ran(self, run, words, texts):
+        """The status, both outputs and the files that a command leaves in a folder with these texts."""
         with tempfile.TemporaryDirectory() as folder:
-            place = pathlib.Path(folder)
-            for it in (TOP / "examples").glob("*.*"):
-                (place / it.name).symlink_to(it)
-            for name, example in ODD.items():
-                (place / name).symlink_to(TOP / "examples" / example)
-            given = (place / "shortage.min").read_bytes()
-            found = subprocess.run(words, cwd=place, capture_output=True, check=False, input=given)
-            files = {it.name: it.read_bytes() for it in place.iterdir() if not it.is_symlink()}
-            return found.returncode, found.stdout, found.stderr, files
+            for name, text in texts.items():
+                pathlib.Path(folder, name).write_bytes(text if isinstance(text, bytes) else text.encode())
+            return *run(words, folder), {it.name: it.read_bytes() for it in pathlib.Path(folder).iterdir()}
 
-    def same(self, *words):
-        theirs, ours = self.ran(PROGRAM, *words), self.ran(sys.executable, "-m", "dimacs", *words)
-        self.assertEqual(ours, theirs)
-        return ours
+    def same(self, *words, texts=EXAMPLES):
+        with self.subTest(words):
+            theirs, ours = (self.ran(it, words, texts) for it in (by_program, by_package))
+            self.assertEqual(ours, theirs)
+            return ours
 
     def test_runs(self):
-        statuses = set()
-        for line in RUNS.strip().splitlines():
-            with self.subTest(line):
-                statuses.add(self.same(*line.split())[0])
+        statuses = {self.same(*line.split())[0] for line in RUNS.strip().splitlines()}
         self.assertEqual(statuses, {0, 1, 3, 5})
 
     def test_explained(self):
         for line in RUNS.strip().splitlines():
             if not line.startswith(("show", "convert")):
-                with self.subTest(line):
-                    self.same("explain", *line.split())
+                self.same("explain", *line.split())
         for words in NAMED:
             self.same("explain", *words)
+        for words, own in [*((it[1], it[2]) for it in explain.CASES), *((it[0], it[1]) for it in explain.YES)]:
+            self.same("explain", *words.split(), texts={**explain.TEXTS, **own})
 
     def test_a_stream_that_is_named_twice(self):
         """The program can't read a pipe again, to explain it. The answer is the same."""
-        for explain in [], ["explain"]:
-            theirs, ours = (self.ran(*it, *explain, *TWICE) for it in ([PROGRAM], [sys.executable, "-m", "dimacs"]))
-            self.assertEqual((ours[0], *ours[1].splitlines()[:1]), (theirs[0], *theirs[1].splitlines()[:1]))
+        for command in ["judge-infeasible"], ["explain", "judge-infeasible"]:
+            answers = []
+            for by in [PROGRAM], [sys.executable, "-m", "dimacs"]:
+                words = [*by, *command, "/dev/stdin", "/dev/stdin"]
+                ran = subprocess.run(words, input=EXAMPLES["shortage.min"], capture_output=True, check=False)
+                answers.append((ran.returncode, *ran.stdout.splitlines()[:1]))
+            self.assertEqual(*answers)
 
     def test_arguments(self):
         """The messages differ: both begin alike, and ask for nothing."""
         for line in "", *MISUSED.strip().splitlines():
             with self.subTest(line):
-                theirs, ours = self.ran(PROGRAM, *line.split()), self.ran(sys.executable, "-m", "dimacs", *line.split())
+                theirs, ours = (self.ran(it, line.split(), EXAMPLES) for it in (by_program, by_package))
                 self.assertEqual((ours[:2], ours[3]), (theirs[:2], theirs[3]))
                 self.assertEqual(ours[2].split(b"\n")[0], b"dimacs: usage")
         for words in ["help"], ["--help"], ["help", "solve-max"]:
-            self.assertIn(b"solve-max INSTANCE SOLUTION CUT [--limit N]", self.ran(sys.executable, "-m", "dimacs", *words)[1])
+            self.assertIn(b"solve-max INSTANCE SOLUTION CUT [--limit N]", self.ran(by_package, words, {})[1])
 
     def test_version(self):
         self.same("--version")

@@ -3,16 +3,12 @@ tests/explain.py and docs/JUDGING.md were."""
 
 import concurrent.futures
 import copy
-import os
 import pickle
-import subprocess
-import tempfile
 import unittest
 from decimal import Decimal
 from pathlib import Path
 
 import dimacs
-from dimacs import library
 import test_arrays
 from test_arrays import DISTANCES, ENDS, GRAPH, POTENTIALS, PREDECESSORS
 from test_networkx import pipes
@@ -20,15 +16,7 @@ from test_texts import CLAIMED, CUT, FLOW, LEAST, MAX, MIN, PAIRS, POT, SOURCE, 
 from test_texts import GRAPH as ROADS
 from shared import networkx, pandas, raised
 
-try:
-    import explain as cases  # tests/explain.py
-except ImportError:
-    cases = None
-
 PIPES, SHIPS = test_arrays.MAX, test_arrays.MIN
-
-#: The program, beside the library.
-PROGRAM = Path(os.environ.get("DIMACS_LIBRARY", "")).parent / "dimacs"
 
 EXAMPLES = Path(__file__).resolve().parents[2] / "examples"
 
@@ -258,42 +246,3 @@ class Frames(Explained):
         self.assertEqual(answer.explain(), MAXIMUM + names)
         frame.sort_index(ascending=False, inplace=True)
         self.assertEqual(answer.explain(), MAXIMUM + names)
-
-
-def files_of(words):
-    """The names of a command's files, and how many of them it reads."""
-    verb, *files = words
-    if verb in ("convert", "show"):
-        return files[1:], 1
-    what, kind = verb.split("-")
-    counts = {"judge": len(files), "solve": 2 if kind == "paths" else 1}
-    return files, counts.get(what, 1 if kind == "infeasible" else 2)
-
-
-def read(place, name):
-    path = Path(place) / name
-    return path.read_bytes() if path.exists() else b""
-
-
-@unittest.skipUnless(cases and PROGRAM.is_file(), "the program isn't there, or its cases")
-class Program(unittest.TestCase):
-    """The program over files, and the library over texts with their names: all cases of tests/explain.py."""
-
-    def test_same_lines(self):
-        for words, own in [*((it[1], it[2]) for it in cases.CASES), *((it[0], it[1]) for it in cases.YES)]:
-            names, count = files_of(words.split())
-            if len(set(names)) == len(names):
-                with self.subTest(words):
-                    self.compare(words, names, count, {**cases.TEXTS, **own})
-
-    def compare(self, words, names, count, texts):
-        with tempfile.TemporaryDirectory() as place:
-            for name, text in texts.items():
-                (Path(place) / name).write_bytes(text if isinstance(text, bytes) else text.encode())
-            before = [read(place, it) for it in names]
-            called = [PROGRAM.resolve(), "explain", *words.split()]
-            ran = subprocess.run(called, cwd=place, capture_output=True, check=False)
-            after = [read(place, it) for it in names]
-        given = [*before[:count], *after[count:], b"", b"", b""][:3]
-        arguments = [word for it in (words.encode(), *given) for word in (it, len(it))]
-        self.assertEqual(library.call(library.explain(), *arguments), (ran.returncode, ran.stdout))
