@@ -10,7 +10,6 @@ import unittest.mock
 import warnings
 
 import dimacs
-from dimacs.distances import NegativeCycle, distances_from
 from shared import draws, networkx, raised
 
 
@@ -151,12 +150,6 @@ class Flows(Backend):
         self.assertEqual((found, across), (value, value))
         for function in networkx.minimum_cut_value, networkx.maximum_flow_value:
             self.assertEqual(function(graph, source, sink, backend="dimacs"), value)
-
-    def test_the_cut_is_the_certificate(self):
-        graph = pipes()
-        value, flow = networkx.maximum_flow(graph, "s", "t", backend="dimacs")
-        _, (side, _) = networkx.minimum_cut(graph, "s", "t", backend="dimacs")
-        self.assertEqual(dimacs.judge_networkx_max(graph, "s", "t", flow, side).value, value)
 
     def test_exceptions(self):
         unbounded = networkx.DiGraph([("s", "a"), ("a", "t")])
@@ -404,21 +397,6 @@ class Paths(Backend):
                 self.test_are_paths(graph, source, "weight", both[1])
                 self.assertEqual(networkx.single_source_bellman_ford_path(graph, source, backend="dimacs"), both[1][1])
             self.are_as_long("single_source_bellman_ford", graph, source, target)
-
-    def test_a_cycle_that_is_not_reached(self):
-        graph = networkx.DiGraph([("s", "t")])
-        graph.add_weighted_edges_from([("a", "b", -2), ("b", "a", 1), ("a", "s", -3)])
-        self.same(networkx.single_source_bellman_ford, graph, "s")
-        self.assertIsNone(self.compared(networkx.single_source_bellman_ford, graph, "a"))
-        self.assertRaises(NegativeCycle, distances_from, 2, [1, 2], [2, 1], [-2, 1], 1)
-
-    def test_missing_nodes(self):
-        for method in "dijkstra", "bellman_ford":
-            for end in "", "_path", "_path_length":
-                function = getattr(networkx, f"single_source_{method}{end}")
-                self.assertIsNone(self.compared(function, pipes(), "elsewhere"))
-        self.assertIsNone(self.compared(networkx.dijkstra_path_length, pipes(), "elsewhere", "elsewhere"))
-        self.assertIsNone(self.compared(networkx.dijkstra_path_length, pipes(), "t", "s"))
 
     def test_what_networkx_is_left(self):
         graph = pipes()

@@ -123,6 +123,7 @@ class LeastCost(Networkx):
         graph = weighted([("a", "b", -1), ("b", "a", 0)], "weight")
         it = raised(dimacs.NotOptimal, dimacs.certify_networkx_min, graph, {"a": {"b": 5}, "b": {"a": 5}})
         self.assertGreater(it.better["a"]["b"], 5)
+        self.assertRaises(networkx.NetworkXUnbounded, dimacs.solve_networkx_min, graph)
 
     def test_floats_that_are_whole(self):
         graph, flow = shipping(), {"a": {"b": {"rail": 2, "road": 1}}, "b": {"c": {0: 3.0}}}

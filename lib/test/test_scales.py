@@ -135,49 +135,11 @@ class Flows(unittest.TestCase):
     def test_graphs(self):
         graph = networkx.DiGraph([("a", "b", {"capacity": 2.5, "weight": Decimal("0.1")})])
         networkx.set_node_attributes(graph, {"a": -1.5, "b": 1.5}, "demand")
-        cost, flow, _ = dimacs.solve_networkx_min(graph, scale=10)
+        cost, flow, prices = dimacs.solve_networkx_min(graph, scale=10)
         self.assertEqual((cost, flow["a"]["b"]), (Fraction(15, 100), Fraction(3, 2)))
         self.assertEqual(dimacs.certify_networkx_min(graph, flow, scale=10).value, cost)
+        self.assertEqual(dimacs.judge_networkx_min(graph, flow, prices, scale=10).value, cost)
         self.assertEqual(dimacs.certify_networkx_paths(graph, "a", {"a": 0, "b": 0.1}, scale=10).predecessors["b"], "a")
-
-
-@unittest.skipUnless(networkx, "no networkx")
-class Graphs(unittest.TestCase):
-    def drawn(self, chance, unit):
-        """A graph whose numbers are multiples of 1 / unit, in floats, and the same in whole numbers."""
-        graph = chance.choice([networkx.DiGraph, networkx.MultiDiGraph])()
-        nodes = chance.randrange(2, 6)
-        graph.add_nodes_from(range(nodes), demand=0)
-        for _ in range(chance.randrange(1, 9)):
-            data = {"capacity": chance.choice([INF, chance.randrange(12)]), "weight": chance.randrange(-1, 12)}
-            graph.add_edge(chance.randrange(nodes), chance.randrange(nodes), **data)
-        for tail, head, data in graph.edges(data=True):
-            amount = chance.randrange(min(data["capacity"], 2) + 1)
-            graph.nodes[tail]["demand"] -= amount
-            graph.nodes[head]["demand"] += amount
-        scaled = graph.copy()
-        for data in [it for *_, it in scaled.nodes(data=True)] + [it for *_, it in scaled.edges(data=True)]:
-            data.update({name: number / unit for name, number in data.items()})
-        return graph, scaled
-
-    def test_what_networkx_finds(self):
-        kinds = {"yes": 0, "unbounded": 0}
-        for chance in draws(6, 400):
-            unit = chance.choice([1, 4, 10])
-            whole, graph = self.drawn(chance, unit)
-            scale = chance.choice([unit, Decimal(1) / unit, 2 * unit, "exact" if unit != 10 else unit])
-            try:
-                wanted = Fraction(networkx.network_simplex(whole)[0], unit * unit)
-            except networkx.NetworkXUnbounded:
-                kinds["unbounded"] += 1
-                self.assertRaises(networkx.NetworkXUnbounded, dimacs.solve_networkx_min, graph, scale=scale)
-                continue
-            kinds["yes"] += 1
-            cost, flow, prices = dimacs.solve_networkx_min(graph, scale=scale)
-            self.assertEqual(Fraction(cost), wanted)
-            self.assertEqual(Fraction(dimacs.certify_networkx_min(graph, flow, scale=scale).value), wanted)
-            self.assertEqual(Fraction(dimacs.judge_networkx_min(graph, flow, prices, scale=scale).value), wanted)
-        self.assertGreater(min(kinds.values()), 5, kinds)
 
 
 class Limitless(Said):
@@ -205,12 +167,6 @@ class Limitless(Said):
             self.assertEqual(dimacs.judge_max_arrays(*words, inside, base=0).value, wanted)
         self.assertGreater(min(kinds.values()), 200, kinds)
 
-    def test_least_costs(self):
-        ends, more = (3, [1, 2, 1], [2, 3, 3], [0] * 3), ([1] * 3, [5, 0, -5])
-        self.assertEqual(dimacs.solve_min_arrays(*ends, [INF, INF, 2], *more)[:2], (8, [3, 3, 2]))
-        no = raised(dimacs.Infeasible, dimacs.solve_min_arrays, *ends, [INF, 1, 2], *more)
-        self.assertTrue(dimacs.judge_infeasible_arrays(*ends, [INF, 1, 2], *more, no.inside))
-
     def test_what_costs_least(self):
         """As with a great capacity, unless a greater one makes it cheaper."""
         kinds = {"yes": 0, "unbounded": 0, "infeasible": 0}
@@ -236,8 +192,11 @@ class Limitless(Said):
         words = nodes, *ends, lows, [min(it, most) for it in caps], costs, supplies
         try:
             cost, flows, prices = dimacs.solve_min_arrays(*words, base=0)
-        except (dimacs.Unbounded, dimacs.Infeasible) as it:
-            return type(it).__name__.lower()
+        except dimacs.Unbounded:
+            return "unbounded"
+        except dimacs.Infeasible as no:
+            self.assertTrue(dimacs.judge_infeasible_arrays(*words, no.inside, base=0))
+            return "infeasible"
         self.assertEqual(dimacs.judge_min_arrays(*words, flows, prices, base=0).value, cost)
         self.assertEqual(dimacs.certify_min_arrays(*words, flows, base=0).value, cost)
         return cost
