@@ -78,7 +78,7 @@ def draw(
     else:
         answer = judge.answer(kinds.COMMANDS[found], contents)
     network = reading.read_instance(found[0], canonical[found[0]], list(only))
-    _mark(network, canonical, answer, source, texts)
+    _mark(network, judge, canonical, answer, source, texts)
     return picture(network, answer, [it.name for it in texts], has_own_layers)
 
 
@@ -93,7 +93,7 @@ def picture(network: Network, answer: Answer, names: Sequence[str], has_own_laye
 
 
 def _mark(
-    network: Network, canonical: Dict[str, bytes], answer: Answer, source: Optional[int], texts: Sequence[Text]
+    network: Network, judge: Judge, canonical: Dict[str, bytes], answer: Answer, source: Optional[int], texts: Sequence[Text]
 ) -> None:
     refusal = marks.refusal_of(answer.lines[0]) if answer.lines else None
     certificate = kinds.CERTIFICATES.get(answer.command)
@@ -111,13 +111,13 @@ def _mark(
         marks.mark_potentials(network, reading.read_potentials(canonical["pot"]))
     blocks = canonical.get("dist", canonical.get("distances"))
     if blocks and not is_other:
-        refusal = _mark_block(network, reading.read_blocks(blocks), canonical, source, refusal)
+        refusal = _mark_block(network, judge, reading.read_blocks(blocks), canonical, source, refusal)
     if refusal:
         marks.mark_refused(network, refusal, entry)
 
 
 def _mark_block(
-    network: Network, blocks: List[reading.Block], canonical: Dict[str, bytes], source: Optional[int],
+    network: Network, judge: Judge, blocks: List[reading.Block], canonical: Dict[str, bytes], source: Optional[int],
     refusal: Optional[marks.Refusal],
 ) -> Optional[marks.Refusal]:
     """Marks the block of a source, or the first in which a test fails, or the first. The refusal, if it is of this one."""
@@ -126,8 +126,8 @@ def _mark_block(
     if not blocks:
         return refusal
     fitting = [it for it in blocks if source in (None, it.source)]
-    failing = [it for it in fitting if refusal and marks.fails_in(reading.arcs_of("gr", canonical["gr"]), it, refusal)]
-    block = (failing or fitting)[0]
+    failing = next((it for it in fitting if refusal and _fails_in(judge, canonical, network, it, refusal)), None)
+    block = failing or fitting[0]
     targets = reading.read_targets(canonical["query"], block.source) if "query" in canonical else ()
     marks.mark_block(network, block, targets)
     if len(blocks) > 1:
@@ -137,6 +137,19 @@ def _mark_block(
         network.notes.append("what is refused isn't among what is drawn")
         return None
     return refusal
+
+
+def _fails_in(
+    judge: Judge, canonical: Dict[str, bytes], network: Network, block: reading.Block, refusal: marks.Refusal
+) -> bool:
+    """Whether this block alone is refused for the same arc or node. What isn't of an arc or a label is of each block."""
+    if refusal.arc is None and refusal.reason != "NoTightArc":
+        return True
+    texts = [canonical["gr"], reading.text_of("dist" if "dist" in canonical else "distances", network.node_count, block)]
+    if "dist" in canonical:
+        texts.insert(1, f"p aux sp p2p 1\nq {block.source} {block.source}\n".encode())
+    answer = judge.answer("judge-paths" if "dist" in canonical else "certify-paths", texts)
+    return marks.refusal_of(answer.lines[0]) == refusal
 
 
 def _entry(text: bytes, line: int) -> Optional[Tuple[int, int, int]]:

@@ -85,42 +85,6 @@ def _is_tight(arc: Arc, block: Block) -> bool:
     return arc.tail in found and arc.head in found and found[arc.tail] + (arc.cost or 0) == found[arc.head]
 
 
-def fails_in(arcs: Iterable[Arc], block: Block, refusal: Refusal) -> bool:
-    """Whether the test that refused an arc or a node fails in this block, over all arcs of the graph."""
-    if refusal.arc is not None:
-        return any(it.number == refusal.arc and _arc_fails(it, block, refusal.reason) for it in arcs)
-    if refusal.reason == "NoTightArc":
-        return refusal.node in block.distances and refusal.node not in _reached(arcs, block)
-    return True
-
-
-def _arc_fails(arc: Arc, block: Block, reason: str) -> bool:
-    found, weight = block.distances, arc.cost or 0
-    if reason == "NegativeWeight":
-        return block.radius is not None and weight < 0
-    if arc.tail not in found:
-        return False
-    if reason == "Escapes":
-        return arc.head not in found and (block.radius is None or found[arc.tail] + weight <= block.radius)
-    return arc.head in found and found[arc.head] > found[arc.tail] + weight
-
-
-def _reached(arcs: Iterable[Arc], block: Block) -> Set[int]:
-    """The nodes that tight arcs lead to: of labels from their predecessors, else on a walk from the source."""
-    heads: Dict[int, List[int]] = {}
-    for arc in arcs:
-        if _is_tight(arc, block):
-            heads.setdefault(arc.tail, []).append(arc.head)
-    if block.predecessors:
-        return {block.source, *(head for head, tail in block.predecessors.items() if head in heads.get(tail, ()))}
-    reached, left = {block.source}, [block.source]
-    while left:
-        found = set(heads.get(left.pop(), ())) - reached
-        reached |= found
-        left += found
-    return reached
-
-
 # ---- what was refused
 
 

@@ -150,6 +150,15 @@ def read_blocks(text: bytes) -> List[Block]:
     return blocks
 
 
+def text_of(kind: str, nodes: int, block: Block) -> bytes:
+    """The text that has this block alone."""
+    far = [node for node in block.distances if node != block.source]
+    ends = [block.source, len(far), *([] if block.radius is None else [block.radius])]
+    lines = [f"p {kind} {nodes} 1", f"t {' '.join(map(str, ends))}"]
+    lines += [f"d {node} {block.distances[node]} {block.predecessors.get(node, '')}" for node in far]
+    return "".join(f"{it}\n" for it in lines).encode()
+
+
 def read_targets(text: bytes, source: int) -> Set[int]:
     """The nodes whose distance from a source is asked for by name."""
     return {int(fields[1]) for letter, fields in records(text) if letter == "q" and int(fields[0]) == source}
