@@ -1,14 +1,13 @@
 #!/usr/bin/env python3
-"""Tests the library for C, C++, Python and Rust: tests/library.py [--build FOLDER] [--instances N] [--runs M]
+"""Tests the library for C, C++, Python and Rust: tests/library.py [--build FOLDER] [--instances N]
 
 FOLDER is where `make` built the library and the program: build, or build/quick for those that aren't proved. It runs
 what stands in lib/test: in C, under sanitizers if they fit and by valgrind, the calls over texts and arrays with room and
 without, in eight threads, and with each growth of memory refused in turn; in C++, by `c++`, or `clang++` and its
 sanitizers, dimacs.hpp, and over it what LEMON and Boost answer; the crate for Cargo; and in Python, by each of `python3`
 and /usr/bin/python3, also arrays of a million items, texts of 100 MB, and networkx' own tests of what the backend of it
-answers. N random small instances in arrays are compared with the texts that are printed from them, M of which go through
-the program: `--runs 8000` has all of them do so, which takes some minutes. Then it installs the wheel and calls it, and
-builds and runs what docs/LIBRARY.md shows.
+answers. N random small instances in arrays are compared with the texts that are printed from them. Then it installs the
+wheel and calls it, and builds and runs what docs/LIBRARY.md shows.
 
 What needs a tool that isn't there is left out, and named; what Debian doesn't have apart. Each layer has a least number
 that has to pass in it if nothing of it is left out. The last line counts what passed and what failed.
@@ -256,9 +255,8 @@ def test_networkx(counts, environment, place):
         counts.leave_out("networkx' own tests", lacking[-1])
 
 
-def test_agreement(counts, build, place, instances, runs):
-    words = [pythons()[0], f"{TEST}/agree.py", "--instances", str(instances), "--runs", str(runs)]
-    words += ["--program", f"{build}/dimacs"]
+def test_agreement(counts, build, place, instances):
+    words = [pythons()[0], f"{TEST}/agree.py", "--instances", str(instances)]
     counts.add("agree.py", run(*words, env=package(build)), by_count)
 
 
@@ -348,9 +346,8 @@ def main():
     words = argparse.ArgumentParser(description="Tests the library for C, C++, Python and Rust.")
     words.add_argument("--build", default=f"{TOP}/build", help="the folder of the library and the program")
     words.add_argument("--instances", type=int, default=8_000, help="how many are compared in arrays and as texts")
-    words.add_argument("--runs", type=int, default=300, help="how many of their texts go through the program")
     asked = words.parse_args()
-    agree = functools.partial(test_agreement, instances=asked.instances, runs=asked.runs)
+    agree = functools.partial(test_agreement, instances=asked.instances)
     layers = {**LAYERS, "arrays and texts": (agree, asked.instances)}
     passed = failed = 0
     for layer, (test, least) in layers.items():

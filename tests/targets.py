@@ -93,7 +93,7 @@ def test_wasm(tests):
     if not tests.made("wasm/dimacs.wasm", "npm/dimacs.tgz", "libdimacs.so", "dimacs"):
         return
     module, library = f"{tests.build}/wasm/dimacs.wasm", f"{tests.build}/libdimacs.so"
-    instances = ["--instances", "50000" if tests.is_all else "2000", "--runs", "1", "--program", f"{tests.build}/dimacs"]
+    instances = ["--instances", "50000" if tests.is_all else "2000"]
     python = {**package(tests.build), "CASES": "500"}
     for name, *words in (("agree", *instances), ("test_texts",), ("test_arrays",), ("test_reading",)):
         words = [sys.executable, f"{JS}/through.py", module, library, f"{TEST}/{name}.py", *words]

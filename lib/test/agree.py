@@ -1,11 +1,10 @@
 #!/usr/bin/env python3
-"""Compares the calls over arrays with the same as texts: agree.py [--instances N] [--program BINARY] [--runs M]
+"""Compares the calls over arrays with the same as texts: agree.py [--instances N]
 
 Random small instances with claims, right and wrong ones, with small numbers or some near the ends of types, go through
-the calls over arrays, in any form, and, printed, through those over texts; M of them, spread over all, through the
-program instead. Each has to get the same line. What a certifier hands out has to be accepted as a text. A run that
-gives up keeps its contract: one that solves may do so only where a cost on some of the arcs is out of range. The last
-line counts what agreed, and what didn't.
+the calls over arrays, in any form, and, printed, through those over texts. Each has to get the same line. What a
+certifier hands out has to be accepted as a text. A run that gives up keeps its contract: one that solves may do so only
+where a cost on some of the arcs is out of range. The last line counts what agreed, and what didn't.
 
 Not compared, since arrays and texts differ there by design:
   - wrong lengths, and numbers past the limits of instances, which are misuse of arrays and faults of texts;
@@ -24,10 +23,9 @@ import functools
 import math
 import random
 import sys
-import tempfile
 
 import dimacs
-from instances import Program, cost, graph_text, max_text, min_text, nets, text
+from instances import cost, graph_text, max_text, min_text, nets, text
 from shared import cut_text, fits, form, near, solution_text
 
 MOST_VALUE = 10**30  # the greatest VALUE of a solution
@@ -197,13 +195,13 @@ class PathsCase(Arcs):
         """The text of the distances."""
         return dimacs.write(dimacs.Distances(self.source, self.distances))
 
-    def judged(self, predecessors, texts):
+    def judged(self, predecessors):
         """The line that the labels get as a text, or by which they aren't written."""
         try:
             labels = dimacs.write(dimacs.Labels(self.source, self.distances, predecessors))
         except dimacs.Refused as no:
             return no.printed
-        return texts.line("judge-paths", self.graph_text(), text("p aux sp ss 1", f"s {self.source}"), labels)
+        return line_of_texts("judge-paths", self.graph_text(), text("p aux sp ss 1", f"s {self.source}"), labels)
 
 
 def formed(chance, words):
@@ -232,58 +230,44 @@ def line_of(call, *words):
         return "g limit"
 
 
-class Texts:
-    """Finds the lines that the texts get: by the library, or every so many times by the program."""
-
-    def __init__(self, program, every):
-        self.program = program
-        self.every = every
-        self.asked = self.ran = 0
-
-    def line(self, command, *texts):
-        self.asked += 1
-        if not self.program or self.asked % self.every:
-            return line_of(getattr(dimacs, command.replace("-", "_")), *texts)
-        self.ran += 1
-        files = [f"{k}" for k in range(len(texts))]
-        for file, it in zip(files, texts):
-            self.program.write(file, it)
-        return self.program.run(command, *files)
+def line_of_texts(command, *texts):
+    """The same of a call over texts."""
+    return line_of(getattr(dimacs, command.replace("-", "_")), *texts)
 
 
 # ---- comparisons: each yields a name, the line of the arrays, and that of the texts
 
 
-def judged(name, case, judge, claims, certificate, chance, texts):
+def judged(name, case, judge, claims, certificate, chance):
     """An instance with these claims, of which the last one is a certificate: the line of its judge."""
     it = case(chance)
     line = line_of(judge, *formed(chance, (*it.instance, *(getattr(it, claim) for claim in claims))))
     shown = certificate(getattr(it, claims[-1]))
-    yield name, line, texts.line(name.replace(" ", "-"), *it.texts()[: len(claims)], shown)
+    yield name, line, line_of_texts(name.replace(" ", "-"), *it.texts()[: len(claims)], shown)
 
 
-def judged_paths(chance, texts):
+def judged_paths(chance):
     it = PathsCase(chance)
     line = line_of(dimacs.judge_paths_arrays, *formed(chance, (*it.graph, it.distances, it.predecessors)))
     if it.distances[it.source - 1] == 0:
-        yield "judge paths", line, it.judged(it.predecessors, texts)
+        yield "judge paths", line, it.judged(it.predecessors)
 
 
-def certified(name, case, certify, judge, certificate, chance, texts):
+def certified(name, case, certify, judge, certificate, chance):
     """A flow: the line of its certifier, and what it handed out as a text."""
     it, command = case(chance), f"certify-{name[-3:]}"
     lines = it.texts()
-    other = texts.line(command, *lines)
+    other = line_of_texts(command, *lines)
     try:
         value, shown = certify(*formed(chance, (*it.instance, it.flows)))
         yield name, f"v {name[-3:]} {value}", other
-        yield f"{name}, its certificate", other, texts.line(judge, *lines, certificate(shown))
+        yield f"{name}, its certificate", other, line_of_texts(judge, *lines, certificate(shown))
     except dimacs.NotOptimal as no:
         yield name, f"x solution 1 2 {no.reason}", other
         better = it.texts(no.better)
         values = [int(solution.split()[1]) for _, solution in (lines, better)]
         is_better = values[0] < values[1] if no.reason == "NotMaximum" else values[1] < values[0]
-        again = texts.line(command, *better)
+        again = line_of_texts(command, *better)
         is_feasible = again.startswith("v ") or again.endswith((no.reason, "CostRange"))
         yield f"{name}, what is better", "better" if is_better and is_feasible else again, "better"
     except dimacs.Refused as no:
@@ -292,44 +276,44 @@ def certified(name, case, certify, judge, certificate, chance, texts):
         yield f"{name}, past 64 bits", other.split()[0], "v"
 
 
-def certified_infeasible(chance, texts):
+def certified_infeasible(chance):
     it = InfeasibleCase(chance)
     instance = it.texts()[0]
     try:
         inside = dimacs.certify_infeasible_arrays(*formed(chance, it.instance)).inside
-        yield "certify infeasible", "v infeasible", texts.line("certify-infeasible", instance)
-        yield "certify infeasible, its set", "v infeasible", texts.line("judge-infeasible", instance, cut_text(inside))
+        yield "certify infeasible", "v infeasible", line_of_texts("certify-infeasible", instance)
+        yield "certify infeasible, its set", "v infeasible", line_of_texts("judge-infeasible", instance, cut_text(inside))
     except dimacs.Feasible as no:
-        yield "certify infeasible", "x instance 0 0 Feasible", texts.line("certify-infeasible", instance)
-        again = texts.line("certify-min", *it.texts(no.flow))
+        yield "certify infeasible", "x instance 0 0 Feasible", line_of_texts("certify-infeasible", instance)
+        again = line_of_texts("certify-min", *it.texts(no.flow))
         is_feasible = again.startswith("v ") or again.endswith(("NotLeast", "CostRange"))
         yield "certify infeasible, a flow", "feasible" if is_feasible else again, "feasible"
 
 
-def certified_paths(chance, texts):
+def certified_paths(chance):
     it = PathsCase(chance)
     if it.distances[it.source - 1] != 0:
         return
-    other = texts.line("certify-paths", it.graph_text(), it.claim())
+    other = line_of_texts("certify-paths", it.graph_text(), it.claim())
     try:
         before = dimacs.certify_paths_arrays(*formed(chance, (*it.graph, it.distances))).predecessors
         yield "certify paths", "v sp distances 1", other
-        yield "certify paths, its predecessors", "v sp ss 1", it.judged(before, texts)
+        yield "certify paths, its predecessors", "v sp ss 1", it.judged(before)
     except dimacs.Refused as no:
         yield "certify paths", no.printed, other
 
 
-def solved(name, case, solve, by_texts, certificate, chance, texts):
+def solved(name, case, solve, by_texts, certificate, chance):
     """An instance: the line of its solver, that of the texts, and what it handed out as a text."""
     it, kind = case(chance), name[-3:]
     other = line_of(by_texts, it.texts()[0])
     try:
         value, flows, shown = solve(*formed(chance, it.instance))
         yield name, f"v {kind} {value}", other
-        yield f"{name}, what was made", other, texts.line(f"judge-{kind}", *it.texts(flows), certificate(shown))
+        yield f"{name}, what was made", other, line_of_texts(f"judge-{kind}", *it.texts(flows), certificate(shown))
     except dimacs.Infeasible as no:
         yield name, "v infeasible", other
-        yield f"{name}, its set", other, texts.line("judge-infeasible", it.texts()[0], cut_text(no.inside))
+        yield f"{name}, its set", other, line_of_texts("judge-infeasible", it.texts()[0], cut_text(no.inside))
     except dimacs.GaveUp:
         if other == "g limit":
             yield f"{name}, out of range", name == "solve min" and it.may_cost_too_much(), True
@@ -337,14 +321,14 @@ def solved(name, case, solve, by_texts, certificate, chance, texts):
             yield f"{name}, past 64 bits", "v", other.split()[0]
 
 
-def solved_paths(chance, texts):
+def solved_paths(chance):
     it = PathsCase(chance)
     it.costs[:] = [max(0, weight) for weight in it.costs] if chance.random() < 0.8 else it.costs
     wanted = it.search()[0]
     try:
         _, it.distances, it.predecessors = dimacs.solve_paths_arrays(*formed(chance, it.graph))
         yield "solve paths", f"v {list(map(int, it.distances))}", f"v {wanted}"
-        yield "solve paths, what was made", "v sp ss 1", it.judged(it.predecessors, texts)
+        yield "solve paths, what was made", "v sp ss 1", it.judged(it.predecessors)
     except dimacs.Refused as no:
         negative = [number for number, weight in enumerate(it.costs, 1) if weight < 0]
         yield "solve paths", no.printed, f"x arc {negative[0]} NegativeWeight"
@@ -369,25 +353,19 @@ COMPARED = [
 def main():
     words = argparse.ArgumentParser(description="Compares the calls over arrays with the same as texts.")
     words.add_argument("--instances", type=int, default=8_000)
-    words.add_argument("--program", help="the built dimacs; without it only the calls over texts are asked")
-    words.add_argument("--runs", type=int, default=300, help="how many texts go through the program")
     words.add_argument("--seed", type=int, default=11)
     asked = words.parse_args()
     chance = random.Random(asked.seed)
     seen, different = collections.Counter(), 0
-    with tempfile.TemporaryDirectory() as place:
-        program = Program(asked.program, place) if asked.program else None
-        texts = Texts(program, max(1, asked.instances // asked.runs))
-        for k in range(asked.instances):
-            for name, line, other in COMPARED[k % len(COMPARED)](chance, texts):
-                answer = str(other).split()
-                seen[name, answer[0] if answer[0] != "x" else answer[-1]] += 1
-                if line != other:
-                    different += 1
-                    print(f"{name}: the arrays get {line!r}, the texts {other!r} (instance {k})")
+    for k in range(asked.instances):
+        for name, line, other in COMPARED[k % len(COMPARED)](chance):
+            answer = str(other).split()
+            seen[name, answer[0] if answer[0] != "x" else answer[-1]] += 1
+            if line != other:
+                different += 1
+                print(f"{name}: the arrays get {line!r}, the texts {other!r} (instance {k})")
     for (name, answer), count in sorted(seen.items()):
         print(f"{count:7} {name}: {answer}")
-    print(f"{asked.instances} instances, {texts.asked} texts, {texts.ran} of them through the program")
     print(f"{sum(seen.values()) - different} passed, {different} failed")
     return 1 if different else 0
 
