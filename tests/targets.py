@@ -94,10 +94,9 @@ def test_wasm(tests):
         return
     module, library = f"{tests.build}/wasm/dimacs.wasm", f"{tests.build}/libdimacs.so"
     instances = ["--instances", "50000" if tests.is_all else "2000"]
-    python = {**package(tests.build), "CASES": "500"}
     for name, *words in (("agree", *instances), ("test_texts",), ("test_arrays",), ("test_reading",)):
         words = [sys.executable, f"{JS}/through.py", module, library, f"{TEST}/{name}.py", *words]
-        tests.counted(f"{name}.py through node", run(*words, env=python))
+        tests.counted(f"{name}.py through node", run(*words, env=package(tests.build)))
     tests.counted("heap.mjs", run("node", f"{JS}/heap.mjs", module))
     test_in_c(tests, "this system", CC, [], [("int128", [])], [])
     environment = {**os.environ, "DIMACS_WASM": module}
