@@ -9,23 +9,13 @@ from unittest import mock
 
 import dimacs
 from dimacs import library
+from refusals import TEXTS  # tests/refusals.py
 from shared import Said, raised
 
-MAX = "p max 4 5\nn 1 s\nn 4 t\na 1 2 4\na 1 3 2\na 2 3 2\na 2 4 3\na 3 4 5\n"
-FLOW = "s 6\nf 1 2 4\nf 1 3 2\nf 2 3 1\nf 2 4 3\nf 3 4 3\n"
-SLOW = "s 5\nf 1 2 3\nf 1 3 2\nf 2 4 3\nf 3 4 2\n"
-CUT = "p cut 4 1\nu 1\n"
-MIN = "p min 4 5\nn 1 4\nn 4 -4\na 1 2 0 4 2\na 1 3 0 2 2\na 2 3 0 2 1\na 2 4 0 3 3\na 3 4 0 5 1\n"
-LEAST = "s 14\nf 1 2 2\nf 1 3 2\nf 2 3 2\nf 3 4 4\n"
-DEAR = "s 15\nf 1 2 2\nf 1 3 2\nf 2 3 1\nf 2 4 1\nf 3 4 3\n"
-POT = "p pot 4 3\ny 1 4\ny 2 2\ny 3 1\n"
-GRAPH = "p sp 4 3\na 1 2 5\na 3 4 0\na 4 3 0\n"
-PAIRS = "p aux sp p2p 2\nq 1 2\nq 1 4\n"
-SOURCE = "p aux sp ss 1\ns 1\n"
-DIST = "p dist 4 1\nt 1 1\nd 2 5 1\n"
+MAX, FLOW, SLOW, CUT = (TEXTS[it] for it in ("max", "flow", "slow", "cut"))
+MIN, LEAST, DEAR, POT, SURPLUS = (TEXTS[it] for it in ("min", "least", "dear", "pot", "surplus"))
+GRAPH, PAIRS, SOURCE, DIST, CLAIMED = (TEXTS[it] for it in ("cycle", "pairs", "source", "dist", "near"))
 NEAR = "p dist 4 1\nt 1 0 3\n"
-CLAIMED = "p distances 4 1\nt 1 1\nd 2 5\n"
-SURPLUS = "p min 2 1\nn 1 1\na 1 2 0 5 1\n"
 
 
 class Judges(Said):
@@ -46,19 +36,14 @@ class Judges(Said):
             (dimacs.judge_max, "", FLOW, CUT, "instance 1 0 ProblemMissing"),
             (dimacs.judge_max, MAX, "s 6\nf 1 2 x\n", CUT, "solution 2 4 BadNumber"),
             (dimacs.judge_max, MAX, FLOW, "p cut 4 1\nu 5\n", "certificate 2 2 NodeRange"),
-            (dimacs.judge_max, MAX, "s 7" + FLOW[3:], CUT, "solution 1 2 ValueDiffers"),
             (dimacs.judge_paths, GRAPH, "p aux sp xx 0\n", DIST, "query 1 4 BadWord"),
             (dimacs.convert, "gr", "p sp 2 1\na 1 3 5\n", "instance 2 3 NodeRange"),
             (dimacs.show, "gr", "p sp 2 1\u00b9\n", "instance 1 4 BadNumber"),
-            (dimacs.certify_infeasible, "p min 1 0\nn 2 1\n", "instance 2 2 NodeRange"),
             (dimacs.certify_paths, GRAPH, CLAIMED.replace("d 2 5", "d 2 6"), "arc 1 NotShortest"),
             (dimacs.certify_paths, GRAPH, CLAIMED.replace("d 2 5", "d 2 4"), "node 2 NoTightArc"),
-            (dimacs.certify_paths, GRAPH, "p distances 5 0\n", "distances 0 0 NodesDiffer"),
             (dimacs.certify_paths, GRAPH, "p distances 4 1\nt 1 1\nd 5 5\n", "distances 3 2 NodeRange"),
             (dimacs.solve_max, MIN, "instance 1 2 BadWord"),
-            (dimacs.solve_paths, GRAPH, "", "query 1 0 ProblemMissing"),
             (dimacs.solve_paths, GRAPH, "p aux sp ss 1\ns 5\n", "node 5 QueryNode"),
-            (dimacs.solve_paths, "p sp 2 1\na 1 2 -1\n", PAIRS, "node 4 QueryNode"),
             (dimacs.solve_paths, "p sp 4 1\na 1 2 -1\n", PAIRS, "arc 1 NegativeWeight"),
         ]:
             self.says(dimacs.Refused, message, call, *words)
