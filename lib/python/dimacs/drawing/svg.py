@@ -194,22 +194,9 @@ def _head(back: Point, tip: Point, half: float) -> str:
 
 
 def _split(curve: Sequence[Point], length: float) -> Tuple[List[Point], Point]:
-    """The curve without its end, which is so long, and the end's tip."""
-    tip = curve[-1]
+    """The curve without its end, which is straight and so long, and the end's tip."""
+    before, tip = curve[-2:]
+    share = length / (math.hypot(tip.x - before.x, tip.y - before.y) or 1.0)
     while len(curve) > 4 and math.hypot(curve[-4].x - tip.x, curve[-4].y - tip.y) < length:
         curve = curve[:-3]
-    last, low, high = list(curve[-4:]), 0.0, 1.0
-    for _ in range(12):
-        middle = (low + high) / 2
-        at = _first_part(last, middle)[-1]
-        low, high = (low, middle) if math.hypot(at.x - tip.x, at.y - tip.y) < length else (middle, high)
-    return [*curve[:-4], *_first_part(last, low)], tip
-
-
-def _first_part(cubic: Sequence[Point], t: float) -> List[Point]:
-    """The part of a cubic curve up to t, by de Casteljau."""
-    found, left = [cubic[0]], list(cubic)
-    while len(left) > 1:
-        left = [Point(a.x + (b.x - a.x) * t, a.y + (b.y - a.y) * t) for a, b in zip(left, left[1:])]
-        found.append(left[0])
-    return found
+    return [*curve[:-1], Point(tip.x + (before.x - tip.x) * share, tip.y + (before.y - tip.y) * share)], tip
