@@ -141,26 +141,6 @@ class Forms(unittest.TestCase):
     def test_numpy_at_any_address(self):
         self.aligned(lambda content, code, offset: numpy.frombuffer(content, code, offset=offset))
 
-    def test_labels(self):
-        class Labelled:
-            """Is gone through by its labels, as a DataFrame is."""
-
-            def __init__(self, items):
-                self._items = items
-
-            def __iter__(self):
-                return iter(range(len(self._items)))
-
-            def to_numpy(self):
-                return self._items
-
-        def listed(items):
-            return Labelled(list(items))
-
-        self.judged(listed, listed, listed)
-        self.all_judged(lambda code, items: Labelled(array.array(code, items)), "qIB")
-        self.assertRaises(ValueError, self.judged, listed, listed, lambda items: Labelled([2**8] * len(items)))
-
     @unittest.skipUnless(pandas, "pandas isn't there")
     def test_pandas(self):
         def of(kind, items):
