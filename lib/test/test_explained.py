@@ -10,6 +10,7 @@ from pathlib import Path
 
 import dimacs
 import test_arrays
+from explain import YES  # tests/explain.py
 from test_arrays import DISTANCES, ENDS, GRAPH, POTENTIALS, PREDECESSORS
 from test_networkx import pipes
 from test_texts import CLAIMED, CUT, FLOW, LEAST, MAX, MIN, PAIRS, POT, SOURCE, SURPLUS
@@ -20,15 +21,8 @@ PIPES, SHIPS = test_arrays.MAX, test_arrays.MIN
 
 EXAMPLES = Path(__file__).resolve().parents[2] / "examples"
 
-MAXIMUM = """\
-v max 6
-on the source's side of the cut, 1 of the 4 nodes: 1
-arcs into it, all empty: 0
-arcs out of it, all full: 2
-  arc 1: 1 -> 2, CAP 4
-  arc 2: 1 -> 3, CAP 2
-4 + 2 = 6, the value of the flow: all flow to the sink has to cross these arcs, so none has a greater value
-"""
+# What tests/explain.py has worked out of the maximum flow of test_texts.py.
+MAXIMUM = "v max 6\n" + YES[0][2]
 
 # The same for the pipes of docs/JUDGING.md.
 OF_PIPES = """\
