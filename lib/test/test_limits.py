@@ -1,4 +1,5 @@
-"""Every layer near the ends of types: random cases, which get the answers that texts get, whose numbers are printed here.
+"""Calls over matrices and the backend near the ends of types: random cases, which get the answers that texts get, whose
+numbers are printed here. agree.py compares arrays with texts, and graphs hand their numbers on to these.
 
 A case is drawn by its number alone, which is named if it fails.
 """
@@ -50,12 +51,9 @@ class Net:
     def arcs(self):
         return [(*ends, cap) for ends, cap in zip(self.ends, self.caps)]
 
-    def split_ends(self):
-        return [list(it) for it in zip(*self.ends)]
-
     def max(self):
         """The arguments of calls over arrays about a maximum flow."""
-        return self.nodes, 1, self.nodes, *self.split_ends(), self.caps
+        return self.nodes, 1, self.nodes, *map(list, zip(*self.ends)), self.caps
 
     def sent(self, flows):
         """What leaves each node less what enters it."""
@@ -165,60 +163,6 @@ class Limits(unittest.TestCase):
             again = better(found[1])
             self.is_wanted(self.outcome(dimacs.certify_max, *net.texts(again)), "yes", "better")
             self.assertGreater(net.sent(again)[0], net.sent(flows)[0])
-
-
-@unittest.skipUnless(networkx, "no networkx")
-class Graphs(Limits):
-    def graph(self, chance, net, attribute="capacity"):
-        """A graph with a key for each arc, by its number, and an edge of which the numbers may be those of numpy."""
-        graph = networkx.MultiDiGraph()
-        graph.add_nodes_from(range(1, net.nodes + 1))
-        for arc, ((tail, head), number) in enumerate(zip(net.ends, net.caps)):
-            number = numpy_of(chance, [number])[0] if numpy and chance.random() < 0.3 else number
-            graph.add_edge(tail, head, arc, **{attribute: number})
-        return graph
-
-    def flow(self, net, flows):
-        found = {}
-        for arc, ((tail, head), it) in enumerate(zip(net.ends, flows)):
-            found.setdefault(tail, {}).setdefault(head, {})[arc] = it
-        return found
-
-    @cases(1500)
-    def test_maximum_flows(self, chance):
-        net = Net(chance)
-        flows = claimed(chance, net)
-        graph, flow = self.graph(chance, net), self.flow(net, flows)
-        found = self.outcome(dimacs.certify_networkx_max, graph, 1, net.nodes, flow)
-        if found[0] == "yes":
-            found = "yes", dimacs.Certified(found[1].value, [it in found[1].inside for it in range(1, net.nodes + 1)])
-        self.is_certified_max(
-            net, flows, found, lambda it: [it[tail][head][arc] for arc, (tail, head) in enumerate(net.ends)]
-        )
-
-    @cases(2000)
-    def test_distances(self, chance):
-        net = Net(chance)
-        if min(net.caps) < 0:
-            return
-        true = dict(enumerate(distances(net.nodes, net.arcs(), 1), 1))
-        claim = {node: it for node, it in true.items() if it is not None}
-        changed = chance.choice(list(true))
-        claim[changed] = claim.get(changed, chance.choice([LAST, 2**63, near(chance)])) + chance.choice(OFFSETS)
-        graph = self.graph(chance, net, "weight")
-        found = self.outcome(dimacs.certify_networkx_paths, graph, 1, claim)
-        solved = self.outcome(dimacs.solve_networkx_paths, graph, 1)
-        if not fits(net.caps):
-            self.is_wanted(solved, "past")
-            return self.is_wanted(found, "past")
-        reached = {node: it for node, it in true.items() if it is not None}
-        if max(reached.values()) >= LAST:
-            self.is_wanted(solved, "gave up")
-        else:
-            self.assertEqual(solved[1].distances, reached)
-        if not fits(claim.values()) or LAST in claim.values():
-            return self.is_wanted(found, "past")
-        self.is_wanted(found, "yes" if claim == reached else "no")
 
 
 @unittest.skipUnless(csgraph, "no SciPy")

@@ -56,14 +56,6 @@ class MaximumFlow(Networkx):
         flow["spring"]["mill"] = LAST
         raised(ValueError, dimacs.certify_networkx_max, graph, *ENDS, flow)
 
-    def test_refused(self):
-        graph, judge = pipes(), dimacs.judge_networkx_max
-        open_edge = "arc ('spring', 'mill') NotSaturated: it leaves the cut and carries 4, its capacity is 6"
-        self.says(dimacs.Refused, open_edge, judge, graph, *ENDS, FLOW, {"spring"})
-        self.says(dimacs.Refused, "node 'spring' SourceOutside", judge, graph, *ENDS, FLOW, ["town"])
-        more, less = {**FLOW, "mill": {"farm": 1, "fort": 4}}, "node 'mill' Balance: 5 leaves, 4 enters"
-        self.says(dimacs.Refused, less, dimacs.certify_networkx_max, graph, *ENDS, more)
-
     def test_forms_of_a_side(self):
         graph = pipes()
         words, inside = (graph, *ENDS, FLOW), {node: node in SIDE for node in graph}
@@ -108,6 +100,9 @@ class LeastCost(Networkx):
     def test_attributes_that_are_missing(self):
         cost, flow = networkx.network_simplex(shipping())
         self.assertEqual((cost, dimacs.judge_networkx_min(shipping(), flow).value), (9, 9))
+        graph = shipping()
+        del graph["b"]["c"][0]["weight"]
+        self.assertEqual(dimacs.solve_networkx_min(graph).value, 6)
 
     def test_better(self):
         graph = shipping()
