@@ -142,7 +142,7 @@ def _node(network: Network, sketch: Sketch, node: int, middle: Point) -> str:
     border, inside = node_colours(it.marks)
     name, *below = sketch.lines[node]
     drawn = [f'<g class="{" ".join(["node", *sorted(it.marks)])}" data-node="{node}">']
-    drawn.append(f"<title>{escaped(node_words(network, node, it))}</title>")
+    drawn.append(f"<title>{escaped(node_words(network, node))}</title>")
     drawn.append(_box(f"s-{border} f-{inside}", middle, box))
     if is_doubled(it.marks):
         drawn.append(_box(f"s-{border}", middle, box, 3).replace("/>", ' fill="none"/>'))

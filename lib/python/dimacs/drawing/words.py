@@ -4,12 +4,12 @@ from __future__ import annotations
 
 import re
 from collections import Counter
-from typing import List, NamedTuple, Sequence, Set, Tuple
+from typing import Iterator, List, NamedTuple, Sequence, Set, Tuple
 
 from .colours import is_strong
 from .layout import Box, Edge, Sketch
 from .marks import refusal_of
-from .network import ASKED, CLAIMED, EMPTY, ENDS, ENTERS, INSIDE, LEAVES, SATURATED, TREE, WRONG, Arc, Network, Node
+from .network import ASKED, CLAIMED, EMPTY, ENDS, ENTERS, INSIDE, LEAVES, SATURATED, TREE, WRONG, Arc, Network
 
 #: The widths of a letter in a wide font, in the sizes in which nodes, what is below them, and arcs are written.
 NAME, BELOW, ALONG, STRONG = 9.8, 7.1, 7.7, 8.4
@@ -63,17 +63,27 @@ def _node_box(lines: Sequence[str], loops: int) -> Box:
 
 def node_lines(network: Network, node: int) -> List[str]:
     """The ID, and what is said below it."""
+    return [str(node), *(line for line, _ in _facts(network, node) if line)]
+
+
+def _facts(network: Network, node: int) -> Iterator[Tuple[str, str]]:
+    """What is known of a node: a line below its ID, if there is one, and in words."""
     it = network.nodes[node]
-    lines = [str(node)]
     if ENDS in it.marks:
-        lines.append("source" if node == network.source else "sink")
+        end = "source" if node == network.source else "sink"
+        yield end, end
     if it.supply:
-        lines.append(f"{it.supply:+}")
+        yield f"{it.supply:+}", f"supply {it.supply}" if it.supply > 0 else f"demand {-it.supply}"
     if it.potential is not None:
-        lines.append(f"y {it.potential}")
+        yield f"y {it.potential}", f"potential {it.potential}"
     if it.distance is not None:
-        lines.append(it.distance)
-    return lines
+        yield it.distance, f"distance {it.distance}"
+    meanings = {INSIDE: f"inside the {_set_of(network)}", ASKED: "asked for", WRONG: "refused"}
+    yield from (("", words) for mark, words in meanings.items() if mark in it.marks)
+
+
+def _set_of(network: Network) -> str:
+    return "cut" if network.kind == "max" else "set"
 
 
 def _has_costs(network: Network) -> bool:
@@ -111,7 +121,7 @@ def _legend(network: Network, refused: bool) -> List[Tuple[str, str]]:
     """What the marks mean that are there."""
     of_arcs: Set[str] = {mark for it in network.arcs for mark in it.marks}
     of_nodes: Set[str] = {mark for it in network.nodes.values() for mark in it.marks}
-    name = "the cut" if network.kind == "max" else "the set"
+    name = f"the {_set_of(network)}"
     meanings = {
         SATURATED: "saturated: carries its capacity",
         EMPTY: "carries nothing",
@@ -172,33 +182,21 @@ def _counted(count: int, noun: str) -> str:
 def _description(network: Network, shown: str, verdict: Sequence[str], notes: Sequence[str]) -> str:
     sentences = [f"{shown}.", *(f"{it}." for it in [*verdict, *notes])]
     sentences.append(f"The network has {_counted(network.node_count, 'node')} and {_counted(network.arc_count, 'arc')}.")
-    sentences += [f"{node_words(network, node, it)}." for node, it in network.nodes.items()]
+    sentences += [f"{node_words(network, node)}." for node in network.nodes]
     sentences += [f"{arc_words(network, it)}." for it in network.arcs]
     sentences.append("The verdict is that of dimacs; the drawing isn't proved.")
     return " ".join(sentences)
 
 
-def node_words(network: Network, node: int, it: Node) -> str:
+def node_words(network: Network, node: int) -> str:
     """What is drawn of a node, in words."""
-    name = "cut" if network.kind == "max" else "set"
-    found = [
-        (ENDS in it.marks, "source" if node == network.source else "sink"),
-        (it.supply > 0, f"supply {it.supply}"),
-        (it.supply < 0, f"demand {-it.supply}"),
-        (it.potential is not None, f"potential {it.potential}"),
-        (it.distance is not None, f"distance {it.distance}"),
-        (INSIDE in it.marks, f"inside the {name}"),
-        (ASKED in it.marks, "asked for"),
-        (WRONG in it.marks, "refused"),
-    ]
-    said = ", ".join(words for is_so, words in found if is_so)
+    said = ", ".join(words for _, words in _facts(network, node))
     return f"Node {node}: {said}" if said else f"Node {node}"
 
 
 def arc_words(network: Network, it: Arc) -> str:
     """What is drawn of an arc, in words."""
-    name = "cut" if network.kind == "max" else "set"
-    cost = "weight" if network.kind == "gr" else "cost"
+    name, cost = _set_of(network), "weight" if network.kind == "gr" else "cost"
     found = [
         (it.flow is not None, f"flow {it.flow}"),
         (it.low != 0, f"lower bound {it.low}"),
