@@ -167,7 +167,7 @@ def _explained(job: _Job, texts: Sequence[bytes]) -> bytes:
             words[1 + place] = words[1 + place][:-1] + end
             shown[ord(end)] = ord(name[-1])
     given = [word for it in (_encoded(words), *texts, b"", b"", b"") for word in bytes_of(it).words()][:8]
-    _, lines = library.call(library.explain(), *given)
+    _, lines = library.call(library.explain, *given)
     return bytes(lines).decode().translate(shown).encode("utf-8", "surrogateescape")
 
 

@@ -56,16 +56,13 @@ _library = ctypes.CDLL(str(_find()))
 
 def _description() -> str:
     """The version of the library, and what it says of its proof."""
-    if not hasattr(_library, "dimacs_version_text"):
-        number = _library.dimacs_version()
-        return f"{number // 10000}.{number // 100 % 100}.{number % 100}"
     out, needed = ctypes.create_string_buffer(LINE), _size()
     _library.dimacs_version_text(out, _size(LINE), ctypes.byref(needed))
     return out.raw[: needed.value].decode("ascii")
 
 
-#: Whether the library says that each of its functions was proved; one that has no such call says nothing.
-proved = hasattr(_library, "dimacs_proved") and bool(_library.dimacs_proved())
+#: Whether the library says that each of its functions was proved.
+proved = bool(_library.dimacs_proved())
 description = _description()
 _TRANSLATED = "+translated" if sys.platform == "win32" else ""
 #: As PEP 440 spells it.
@@ -88,16 +85,11 @@ spread = _export("dimacs_spread", _number, texts=2, rooms=2)
 solve = _export("dimacs_solve", _number, texts=2, more=[_limit], rooms=3)
 convert = _export("dimacs_convert", _number, texts=1)
 show = _export("dimacs_show", _number, texts=1)
-
-
-def explain() -> Callable[..., int]:
-    """A library of version 0.1.0 has no such call."""
-    return _export("dimacs_explain", texts=4)
+explain = _export("dimacs_explain", texts=4)
 
 
 def reader(name: str, before: Sequence[Any], after: Sequence[Any], handed: Sequence[Any]) -> Callable[..., int]:
-    """The call that reads a text, by the types of what it takes before and after the text, and of what it hands out. A library
-    of version 0.1.0 has no such call."""
+    """The call that reads a text, by the types of what it takes before and after the text, and of what it hands out."""
     return _export(f"dimacs_read_{name}", *before, texts=1, more=[*after, *_room, *handed], rooms=0)
 
 
