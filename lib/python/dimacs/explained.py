@@ -8,7 +8,7 @@ import threading
 from typing import Any, Iterator, Sequence, TypeVar
 
 from . import library
-from .answers import Explainable, PastLimit, Placed
+from .answers import Explainable, PastLimit
 from .buffers import UNLIMITED, Room, array_of, bytes_of
 from .given import DISTANCES, FLOWS, HEADS, INSIDE, MAX, MIN, POTENTIALS, PREDECESSORS, TAILS, Array, Given, Names
 from .writing import text_of, text_of_instance
@@ -24,8 +24,8 @@ _NAMES = {
 }
 
 #: The names of single texts, by their kinds.
-_KINDS = {"query": "query", "solution": "solution", "distances": "distances"}
-_KINDS |= dict.fromkeys(("max", "min", "gr"), "instance") | dict.fromkeys(("cut", "pot", "dist"), "certificate")
+KINDS = {"query": "query", "solution": "solution", "distances": "distances"}
+KINDS |= dict.fromkeys(("max", "min", "gr"), "instance") | dict.fromkeys(("cut", "pot", "dist"), "certificate")
 
 _Answer = TypeVar("_Answer", bound=Explainable)
 
@@ -53,10 +53,6 @@ class Asked:
 
     def __init__(self, call: str, *texts: Any, shown: str = "certificate") -> None:
         self._call, self._texts, self._shown = call, texts, shown
-
-    @classmethod
-    def of_text(cls, call: str, kind: str, text: Any) -> Asked:
-        return cls(f"{call} {kind} {_KINDS[kind]}", text)
 
     def __reduce__(self) -> Any:
         return type(None), ()  # a pickled answer keeps nothing
@@ -287,10 +283,3 @@ def _numbers(lines: list[str], forms: Sequence[re.Pattern[str]], most: int) -> l
 def _named(what: str, numbers: list[int], name: Any) -> Iterator[str]:
     if numbers:
         yield f"{what}s by number: " + ", ".join(f"{it} is {name(it - 1)!r}" for it in numbers)
-
-
-def refused(it: Placed, asked: AskedOfArrays | None) -> None:
-    """Keeps what was asked with a refusal, before its arc or node is named."""
-    if asked is not None and isinstance(it, Explainable):
-        asked.printed = it.printed
-        kept(it, asked)

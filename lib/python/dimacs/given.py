@@ -329,9 +329,11 @@ class Given:
             yield
         except (Refused, PastLimit) as it:
             from .compared import compared
-            from .explained import refused
+            from .explained import kept
 
-            refused(it, asked)
+            if asked is not None and isinstance(it, Refused):
+                asked.printed = it.printed
+                kept(it, asked)
             it.numbers = {**it.numbers, **compared(self, it)}
             if it.arc is not None:
                 it.arc = self.names.arc(it.arc - 1)

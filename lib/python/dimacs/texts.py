@@ -11,7 +11,7 @@ from . import library
 from .answers import Certified, Feasible, Infeasible, NotOptimal, Refused, Solved, Verdict
 from .buffers import LIMIT, LIMITS, Buffer, bytes_of, number_of
 from .commands import TEXTS, run
-from .explained import Asked, kept
+from .explained import KINDS, Asked, kept
 
 Text = Union[bytes, str, bytearray, memoryview, "os.PathLike[str]"]
 
@@ -37,7 +37,7 @@ def _asked(call: str, no: Refused, *texts: Text) -> Asked:
     """What a refusal was asked of, and what it shows."""
     name, _, kind = call.partition(" ")
     if kind:
-        return Asked.of_text("show" if name == "read" else name, kind, *texts)
+        return Asked(f"{'show' if name == 'read' else name} {kind} {KINDS[kind]}", *texts)
     for exception, shown in ((NotOptimal, "better"), (Feasible, "flow")):
         found = getattr(no, shown) if isinstance(no, exception) else None
         if found is not None:
