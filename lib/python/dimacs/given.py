@@ -348,8 +348,6 @@ class Given:
 
 def infinite(numbers: Any) -> list[int]:
     """The places of items that are inf."""
-    kind = getattr(getattr(numbers, "dtype", None), "char", None) or getattr(numbers, "typecode", None)
-    kind = kind or getattr(numbers, "format", None)
-    if isinstance(kind, str) and kind[-1] in "?bBhHiIlLqQ":
-        return []
+    if is_numpy(numbers):
+        return list((numbers == math.inf).nonzero()[0].tolist())
     return [place for place, it in enumerate(numbers) if type(it) is not int and it == math.inf]
