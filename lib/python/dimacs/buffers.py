@@ -145,19 +145,6 @@ def written(number: Any) -> str:
         return f"about {rounded(number)}"
 
 
-def _not_whole(name: str, number: Any, items: Items) -> ValueError:
-    is_near = not (isinstance(number, Decimal) and number.is_nan()) and NUMBERS.least <= number <= NUMBERS.greatest
-    return ValueError(f"{name} is {written(number)}, not a whole number{items.hint if is_near else ''}")
-
-
-def _refuse(name: str, number: Any, items: Items) -> ValueError:
-    """The exception for a number out of the range, or one of numpy that isn't whole."""
-    if hasattr(number, "is_integer") and not number.is_integer():
-        return _not_whole(name, number, items)
-    width = "64 bits" if items.least < 0 and items.greatest == 2**63 - 1 else f"{items.least} to {items.greatest}"
-    return ValueError(f"{name} is {written(number)}, not a whole number of {width}")
-
-
 def _is_of(given: Any, module: str, name: str) -> bool:
     """Whether this is of a class of a module, which may not be imported."""
     return isinstance(given, getattr(sys.modules.get(module), name, ()))
@@ -183,7 +170,8 @@ def _whole(number: Any, items: Items, name: str) -> int:
     if items.infinity is not None and is_infinite(number):
         return items.infinity
     if not _is_whole(number):
-        raise _not_whole(name, number, items)
+        is_near = not (isinstance(number, Decimal) and number.is_nan()) and NUMBERS.least <= number <= NUMBERS.greatest
+        raise ValueError(f"{name} is {written(number)}, not a whole number{items.hint if is_near else ''}")
     return _as_int(int, number, name)
 
 
@@ -257,7 +245,7 @@ def _whole_numpy(numpy: Any, numbers: Any, items: Items, name: Name) -> Any:
         whole[infinite], fits = items.infinity, fits | infinite
     if not fits.all():
         place = int(numpy.argmin(fits))
-        raise _refuse(item(name, place), numbers[place], items)
+        number_of(numbers[place], items, item(name, place))  # raises
     return whole
 
 
@@ -370,7 +358,8 @@ def test_same_lengths(lengths: dict[str, int]) -> None:
 def number_of(number: Any, items: Items, name: str) -> int:
     whole = number if type(number) is int else _whole(number, items, name)
     if not items.least <= whole <= items.greatest:
-        raise _refuse(name, number, items)
+        width = "64 bits" if items.least < 0 and items.greatest == 2**63 - 1 else f"{items.least} to {items.greatest}"
+        raise ValueError(f"{name} is {written(number)}, not a whole number of {width}")
     return whole
 
 
