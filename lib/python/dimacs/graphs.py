@@ -13,7 +13,8 @@ from __future__ import annotations
 
 import math
 from collections.abc import Mapping, Set
-from typing import Any, Sequence
+from itertools import repeat
+from typing import Any, Iterable, Iterator, Sequence
 
 from . import calls
 from .answers import Certified, Solved, Verdict
@@ -41,6 +42,55 @@ def _test_shape(has_it: bool, shape: str) -> None:
         raise TypeError(f"the flow isn't a dict of dicts with the amounts {shape}, as it has to be for this graph")
 
 
+class Arcs:
+    """The nodes of a graph of networkx by their numbers, from 1, and its arcs in the order in which networkx has them: an
+    undirected edge is two, one in each direction; a loop is one."""
+
+    def __init__(self, graph: Any) -> None:
+        self.graph = graph
+        self.nodes = list(graph)
+        self.number = {node: number for number, node in enumerate(self.nodes, 1)}
+        self.tails: list[int] = []
+        self.heads: list[int] = []
+        is_multigraph = graph.is_multigraph()
+        for tail, heads in graph.adjacency():
+            ends = list(map(self.number.__getitem__, heads))
+            if is_multigraph:
+                ends = [head for head, keyed in zip(ends, heads.values()) for _ in keyed]
+            self.tails.extend(repeat(self.number[tail], len(ends)))
+            self.heads.extend(ends)
+
+    def names(self) -> Iterator[tuple[Any, ...]]:
+        """The name of each arc as networkx has it: (u, v), or (u, v, key) of a multigraph."""
+        is_multigraph = self.graph.is_multigraph()
+        for tail, heads in self.graph.adjacency():
+            for head, keyed in heads.items():
+                if is_multigraph:
+                    yield from ((tail, head, key) for key in keyed)
+                else:
+                    yield tail, head
+
+    def numbers(self, attribute: Any, missing: Any) -> list[Any]:
+        """The number that each arc has by this attribute."""
+        every = (heads.values() for _, heads in self.graph.adjacency())
+        if self.graph.is_multigraph():
+            every = (keyed.values() for some in every for keyed in some)
+        return [data.get(attribute, missing) for some in every for data in some]
+
+    def some(self, arcs: list[int]) -> tuple[list[int], list[int]]:
+        """The tails and heads of some arcs, which count from 0."""
+        return [self.tails[arc] for arc in arcs], [self.heads[arc] for arc in arcs]
+
+    def flow_dict(self, flows: Iterable[Any]) -> dict[Any, Any]:
+        amounts = iter(flows)
+        if not self.graph.is_multigraph():
+            return {tail: dict(zip(heads, amounts)) for tail, heads in self.graph.adjacency()}
+        return {
+            tail: {head: dict(zip(keyed, amounts)) for head, keyed in heads.items()}
+            for tail, heads in self.graph.adjacency()
+        }
+
+
 class NumberedGraph(Names):
     """The nodes and edges of a graph by the numbers that they have in arrays."""
 
@@ -52,36 +102,27 @@ class NumberedGraph(Names):
             raise TypeError(f"the graph is a {type(graph).__name__}, and has to be a DiGraph or MultiDiGraph of networkx")
         if not graph.is_directed():
             raise ValueError("the graph is undirected: graph.to_directed() has an arc each way")
-        self.nodes = list(graph)
-        self._number = {node: number for number, node in enumerate(self.nodes, 1)}
-        self._is_multigraph = graph.is_multigraph()
-        keys = {"keys": True} if self._is_multigraph else {}
-        listed = list(iter(graph.edges(data=True, **keys)))  # a view would be gone through once more for its length
-        self.edges = [tuple(words) for *words, _ in listed]
-        self._data = [data for *_, data in listed]
-        self._node_data = [graph.nodes[node] for node in self.nodes]
-        self._ends = tuple([self._number[edge[k]] for edge in self.edges] for k in (0, 1))
+        self._arcs = Arcs(graph)
+        self.nodes, self.edges = self._arcs.nodes, list(self._arcs.names())
+        self._ends = self._arcs.tails, self._arcs.heads
         self._how: dict[str, Any] = {"scale": scale, "names": self}
 
     def number(self, node: Any) -> int:
-        if node not in self._number:
+        if node not in self._arcs.number:
             raise ValueError(f"{node!r} is no node of the graph")
-        return self._number[node]
-
-    def _of_edges(self, attribute: str, missing: Any) -> list[Any]:
-        return [data.get(attribute, missing) for data in self._data]
+        return self._arcs.number[node]
 
     def max(self, source: Any, sink: Any) -> Given:
         ends = self.number(source), self.number(sink)
-        return Given(MAX, len(self.nodes), *ends, *self._ends, self._of_edges("capacity", math.inf), **self._how)
+        return Given(MAX, len(self.nodes), *ends, *self._ends, self._arcs.numbers("capacity", math.inf), **self._how)
 
     def min(self) -> Given:
-        demands = [data.get("demand", 0) for data in self._node_data]
-        numbers = [0] * len(self.edges), self._of_edges("capacity", math.inf), self._of_edges("weight", 0)
+        demands = [demand for _, demand in self._arcs.graph.nodes(data="demand", default=0)]
+        numbers = [0] * len(self.edges), self._arcs.numbers("capacity", math.inf), self._arcs.numbers("weight", 0)
         return Given(MIN, len(self.nodes), *self._ends, *numbers, demands, **self._how)
 
     def graph(self) -> Given:
-        return Given(GRAPH, len(self.nodes), *self._ends, self._of_edges("weight", 1), **self._how)
+        return Given(GRAPH, len(self.nodes), *self._ends, self._arcs.numbers("weight", 1), **self._how)
 
     def paths(self, source: Any) -> Given:
         return self.graph().add_number("source", self.number(source))
@@ -108,7 +149,7 @@ class NumberedGraph(Names):
         return self.by_node(marks, False, "side")
 
     def flows(self, flow: Mapping[Any, Any]) -> list[Any]:
-        entries = _entries(flow, "flow[u][v][key]" if self._is_multigraph else "flow[u][v]")
+        entries = _entries(flow, "flow[u][v][key]" if self._arcs.graph.is_multigraph() else "flow[u][v]")
         flows = [entries.pop(edge, 0) for edge in self.edges]
         for edge, amount in entries.items():
             if amount != 0:
@@ -130,7 +171,7 @@ class NumberedGraph(Names):
 
     def formed(self, kind: Array, items: Any) -> Any:
         if kind is FLOWS:
-            return self._flow_dict(items)
+            return self._arcs.flow_dict(items)
         if kind is INSIDE:
             return {node for node, is_inside in zip(self.nodes, items) if is_inside}
         return dict(zip(self.nodes, items)) if kind is POTENTIALS else items
@@ -144,15 +185,6 @@ class NumberedGraph(Names):
         """The predecessor of each node that is reached; None of the source."""
         found = {node: self.nodes[it - 1] for node, it in zip(self.nodes, by_node) if it != 0}
         return {source: None, **found}
-
-    def _flow_dict(self, flows: Sequence[Any]) -> dict[Any, Any]:
-        made: dict[Any, Any] = {node: {} for node in self.nodes}
-        for (tail, head, *key), amount in zip(self.edges, flows):
-            if key:
-                made[tail].setdefault(head, {})[key[0]] = amount
-            else:
-                made[tail][head] = amount
-        return made
 
 
 def judge_networkx_max(graph: Any, source: Any, sink: Any, flow: Any, side: Any, *, scale: Any = None) -> Verdict:

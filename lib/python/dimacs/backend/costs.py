@@ -12,8 +12,9 @@ from ..answers import Infeasible, Refused, Unbounded
 from ..arrays import certify_min_arrays, solve_min_arrays
 from ..buffers import NUMBERS
 from ..distances import NegativeCycle, potentials_of
+from ..graphs import Arcs
 from .flows import solved as solved_max
-from .given import Arcs, Numbers, Unable, answered, edges_of, graph_of, of_edges, of_nodes, unable, whole_ones
+from .given import Numbers, Unable, answered, graph_of, of_edges, of_nodes, unable, whole_ones
 
 
 class Network(NamedTuple):
@@ -32,23 +33,24 @@ class Network(NamedTuple):
         return costs[0], self.arcs.flow_dict(answered(flows, self.are_amounts_floats))
 
 
-def read(graph: Any, capacity: Any, weight: Any) -> tuple[Numbers, Numbers]:
-    return of_edges(graph, capacity, math.inf, "capacity", True), of_edges(graph, weight, 0, "weight", True)
+def read(arcs: Arcs, capacity: Any, weight: Any) -> tuple[Numbers, Numbers]:
+    return of_edges(arcs, capacity, math.inf, "capacity", True), of_edges(arcs, weight, 0, "weight", True)
 
 
 def _network(given: Any, demand: Any, capacity: Any, weight: Any) -> Network:
     graph = graph_of(given)
     if not graph.is_directed():
         raise nx.NetworkXNotImplemented("not implemented for undirected type")
-    caps, weights = read(graph, capacity, weight)
+    arcs = Arcs(graph)
+    caps, weights = read(arcs, capacity, weight)
     demands = of_nodes(graph, demand, 0, "demand")
     are_floats = caps.are_floats or demands.are_floats
-    return Network(Arcs(graph), caps.values, weights.values, demands.values, are_floats, weights.are_floats)
+    return Network(arcs, caps.values, weights.values, demands.values, are_floats, weights.are_floats)
 
 
 def _loops_last(given: Network) -> list[tuple[Any, Any, Any]]:
     """The name, capacity and weight of each arc, in the order in which networkx tests them."""
-    every = zip(edges_of(given.arcs.graph), given.caps, given.weights)
+    every = zip(given.arcs.names(), given.caps, given.weights)
     return sorted(every, key=lambda it: bool(it[0][0] == it[0][1]))
 
 
@@ -147,7 +149,7 @@ def max_flow_min_cost(
         raise Unable("nodes have demands, which networkx would meet too")
     found = solved_max(graph, s, t, capacity)
     demands = {s: -found.value, t: found.value}
-    caps, weights = read(graph, capacity, weight)
+    caps, weights = read(found.arcs, capacity, weight)
     by_node = [demands.get(node, 0) for node in found.arcs.nodes]
     given = Network(found.arcs, caps.values, weights.values, by_node, caps.are_floats, weights.are_floats)
     return given.shown(*solved(given))[1]

@@ -9,7 +9,8 @@ import networkx as nx
 
 from ..answers import Unbounded
 from ..arrays import solve_max_arrays
-from .given import Arcs, Unable, answered, graph_of, of_edges, unable
+from ..graphs import Arcs
+from .given import Unable, answered, graph_of, of_edges, unable
 
 
 class Found(NamedTuple):
@@ -38,9 +39,9 @@ def _test_graph(graph: Any, source: Any, sink: Any) -> None:
 def solved(given: Any, source: Any, sink: Any, capacity: Any) -> Found:
     graph = graph_of(given)
     _test_graph(graph, source, sink)
-    capacities = of_edges(graph, capacity, math.inf, "capacity", True)
-    caps = [max(it, 0) for it in capacities.values]  # an edge without anything to carry is none to networkx
     arcs = Arcs(graph)
+    capacities = of_edges(arcs, capacity, math.inf, "capacity", True)
+    caps = [max(it, 0) for it in capacities.values]  # an edge without anything to carry is none to networkx
     ends = arcs.number[source], arcs.number[sink]
     try:
         with unable():

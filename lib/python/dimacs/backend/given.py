@@ -1,18 +1,15 @@
-"""Graphs of networkx as arrays: nodes by their numbers, from 1, and arcs in the order in which networkx has them.
-
-An undirected edge is two arcs, one in each direction; a loop is one.
-"""
+"""What the backend is given: graphs, and numbers that are whole, or that are left to networkx."""
 
 from __future__ import annotations
 
 import math
 import operator
 from contextlib import contextmanager
-from itertools import repeat
 from typing import Any, Callable, Iterable, Iterator, NamedTuple
 
 from ..answers import GaveUp, PastLimit
 from ..buffers import NUMBERS
+from ..graphs import Arcs
 
 #: Up to here each whole number is a float.
 MOST_FLOAT = 2**53
@@ -55,48 +52,6 @@ def unable() -> Iterator[None]:
         raise Unable(str(it)) from it
 
 
-class Arcs:
-    """The nodes of a graph, and the ends of its arcs."""
-
-    def __init__(self, graph: Any) -> None:
-        self.graph = graph
-        self.nodes = list(graph)
-        self.number = {node: number for number, node in enumerate(self.nodes, 1)}
-        self.tails: list[int] = []
-        self.heads: list[int] = []
-        is_multigraph = graph.is_multigraph()
-        for tail, heads in graph.adjacency():
-            ends = list(map(self.number.__getitem__, heads))
-            if is_multigraph:
-                ends = [head for head, keyed in zip(ends, heads.values()) for _ in keyed]
-            self.tails.extend(repeat(self.number[tail], len(ends)))
-            self.heads.extend(ends)
-
-    def some(self, arcs: list[int]) -> tuple[list[int], list[int]]:
-        """The tails and heads of some arcs, which count from 0."""
-        return [self.tails[arc] for arc in arcs], [self.heads[arc] for arc in arcs]
-
-    def flow_dict(self, flows: list[int]) -> dict[Any, Any]:
-        amounts = iter(flows)
-        if not self.graph.is_multigraph():
-            return {tail: dict(zip(heads, amounts)) for tail, heads in self.graph.adjacency()}
-        return {
-            tail: {head: dict(zip(keyed, amounts)) for head, keyed in heads.items()}
-            for tail, heads in self.graph.adjacency()
-        }
-
-
-def edges_of(graph: Any) -> Iterator[tuple[Any, ...]]:
-    """The name of each arc as networkx has it: (u, v), or (u, v, key) of a multigraph."""
-    is_multigraph = graph.is_multigraph()
-    for tail, heads in graph.adjacency():
-        for head, keyed in heads.items():
-            if is_multigraph:
-                yield from ((tail, head, key) for key in keyed)
-            else:
-                yield tail, head
-
-
 class Numbers(NamedTuple):
     """Numbers as ints, or infinite ones, and whether some of them came as floats: then what is answered is too."""
 
@@ -104,14 +59,9 @@ class Numbers(NamedTuple):
     are_floats: bool
 
 
-def of_edges(graph: Any, attribute: Any, missing: Any, name: str, infinite: bool = False) -> Numbers:
+def of_edges(arcs: Arcs, attribute: Any, missing: Any, name: str, infinite: bool = False) -> Numbers:
     """The number that each arc has. Raises Unable if one isn't whole, nor infinite if that is allowed."""
-    if graph.is_multigraph():
-        every = (keyed.values() for _, heads in graph.adjacency() for keyed in heads.values())
-    else:
-        every = (heads.values() for _, heads in graph.adjacency())
-    numbers = [data.get(attribute, missing) for some in every for data in some]
-    return whole_ones(numbers, lambda: edges_of(graph), f"the {name} of edge", infinite)
+    return whole_ones(arcs.numbers(attribute, missing), arcs.names, f"the {name} of edge", infinite)
 
 
 def of_nodes(graph: Any, attribute: Any, missing: int, name: str) -> Numbers:

@@ -8,7 +8,8 @@ import networkx as nx
 
 from ..answers import UNREACHED
 from ..distances import Distances, NegativeCycle, distances_from, potentials_of
-from .given import MOST_FLOAT, Arcs, Unable, answered, edges_of, graph_of, of_edges, unable
+from ..graphs import Arcs
+from .given import MOST_FLOAT, Unable, answered, graph_of, of_edges, unable
 
 Lengths = dict[Any, Any]
 Paths = dict[Any, list[Any]]
@@ -21,9 +22,10 @@ class _Paths:
         graph = graph_of(given)
         if callable(weight):
             raise Unable("the weight is a function")
-        self.weights, self.arcs = of_edges(graph, weight, 1, "weight"), Arcs(graph)
+        self.arcs = Arcs(graph)
+        self.weights = of_edges(self.arcs, weight, 1, "weight")
         if not signed and min(self.weights.values, default=0) < 0:
-            edge = next(edge for edge, it in zip(edges_of(graph), self.weights.values) if it < 0)
+            edge = next(edge for edge, it in zip(self.arcs.names(), self.weights.values) if it < 0)
             raise Unable(f"the weight of edge {edge!r} is negative")
 
     def distances(self, starts: list[int]) -> Distances:
