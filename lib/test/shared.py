@@ -1,10 +1,9 @@
 """What tests share: modules of others, each of which is None if it isn't there, numbers near the ends of types in any form, and
-how an exception is caught. DIMACS_CASES=20 has tests draw 20 times as many cases."""
+how an exception is caught."""
 
 import array
 import importlib
 import itertools
-import os
 import pickle
 import random
 import unittest
@@ -22,7 +21,6 @@ def found(name):
 networkx, numpy, pandas = map(found, ("networkx", "numpy", "pandas"))
 csgraph, optimize, sparse = map(found, ("scipy.sparse.csgraph", "scipy.optimize", "scipy.sparse"))
 
-TIMES = int(os.environ.get("DIMACS_CASES", "1"))
 ENDS = (0, 2**31, 2**32, 2**53, 2**62, 2**63, 2**64, 10**18)
 KINDS = [f"{sign}int{bits}" for bits in (8, 16, 32, 64) for sign in ("", "u")]
 
@@ -64,7 +62,7 @@ def solution_text(value, ends, flows):
 
 def draws(seed, count):
     """What draws random numbers, so many times: the same ones in each run."""
-    return itertools.repeat(random.Random(seed), count * TIMES)
+    return itertools.repeat(random.Random(seed), count)
 
 
 def raised(kind, call, *words, **more):

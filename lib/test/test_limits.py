@@ -11,7 +11,7 @@ import unittest
 
 import dimacs
 from instances import max_text, nets
-from shared import ENDS, KINDS, TIMES, csgraph, cut_text, fits, form, near
+from shared import ENDS, KINDS, csgraph, cut_text, fits, form, near
 from shared import networkx, numpy, numpy_of, solution_text, sparse
 
 if networkx:
@@ -121,12 +121,12 @@ def cases(count):
     def run_all(test):
         def run(self):
             wrong = []
-            for number in range(count * TIMES):
+            for number in range(count):
                 try:
                     test(self, random.Random(number))
                 except AssertionError as it:
                     wrong.append(f"case {number}: {it}")
-            self.assertEqual(wrong[:5], [], f"{len(wrong)} of {count * TIMES} cases failed")
+            self.assertEqual(wrong[:5], [], f"{len(wrong)} of {count} cases failed")
 
         return run
 
