@@ -105,6 +105,8 @@ class MaximumFlow(Scipy):
         found = ours.maximum_flow(wide, numpy.int64(0), 1)
         self.assertEqual((int(found.flow_value), found.flow.dtype, type(found.flow)), (2**40, "int64", type(wide)))
         self.assertEqual(repr(found), f"MaximumFlowResult with value of {2**40}")
+        mixed = sparse.csr_matrix(numpy.array([[0, 2**40, 0], [0, 0, 3], [0, 0, 0]]))
+        self.assertEqual(ours.maximum_flow(mixed, 0, 2).flow.dtype, "int64")
         widest = numpy.zeros((4, 4), "int64")
         widest[0, 1:3] = widest[1:3, 3] = 2**63 - 1
         self.assertEqual(ours.maximum_flow(sparse.csr_matrix(widest), 0, 3).flow_value, 2**64 - 2)
@@ -118,6 +120,8 @@ class MaximumFlow(Scipy):
         flow = sparse.coo_matrix(([last, 1, -(2**63)], ([0, 0, 1], [1, 1, 0])), shape=(2, 2))
         message = r"the flow at \(0, 1\) is 9223372036854775808, which has more than 64 bits"
         self.raises(ValueError, message, ours.certify_maximum_flow, nothing, 0, 1, flow)
+        both = sparse.coo_matrix(([-(2**63), -(2**63)], ([0, 1], [1, 0])), shape=(2, 2))
+        self.raises(ValueError, r"at \(0, 1\) isn't that at", ours.certify_maximum_flow, nothing, 0, 1, both)
         twice = stored([last, last], [1, 1], [0, 2, 2])
         message = r"the flow at \(0, 1\) is 18446744073709551614, which has more than 64 bits"
         self.raises(dimacs.GaveUp, message, ours.maximum_flow, twice, 0, 1)
