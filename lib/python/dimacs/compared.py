@@ -60,10 +60,9 @@ def _along(given: Given, arc: int) -> dict[str, Any]:
 def _claimed(given: Given, node: int) -> dict[str, Any]:
     found = given.column(DISTANCES)[node - 1]
     numbers = {"distance": math.inf if found == UNREACHED else given.amount("cost", found)}
-    try:
-        before = given.column(PREDECESSORS)[node - 1]
-    except KeyError:
+    if not given.has(PREDECESSORS):
         return numbers
+    before = given.column(PREDECESSORS)[node - 1]
     is_node = 0 < before <= given.number("nodes")
     return {**numbers, "predecessor": given.names.node(before - 1) if is_node else before - 1 + given.names.base}
 
