@@ -77,10 +77,6 @@ class Arcs:
             every = (keyed.values() for some in every for keyed in some)
         return [data.get(attribute, missing) for some in every for data in some]
 
-    def some(self, arcs: list[int]) -> tuple[list[int], list[int]]:
-        """The tails and heads of some arcs, which count from 0."""
-        return [self.tails[arc] for arc in arcs], [self.heads[arc] for arc in arcs]
-
     def flow_dict(self, flows: Iterable[Any]) -> dict[Any, Any]:
         amounts = iter(flows)
         if not self.graph.is_multigraph():

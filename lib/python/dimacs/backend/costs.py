@@ -115,7 +115,8 @@ def capacity_scaling(
     limitless = [arc for arc, cap in enumerate(given.caps) if cap == math.inf]
     try:
         with unable():
-            potentials_of(len(given.arcs.nodes), *given.arcs.some(limitless), [given.weights[arc] for arc in limitless])
+            every = given.arcs.tails, given.arcs.heads, given.weights
+            potentials_of(len(given.arcs.nodes), *([numbers[arc] for arc in limitless] for numbers in every))
     except NegativeCycle:
         raise nx.NetworkXUnbounded(unbounded) from None
     return given.shown(*_solved(given, [max(it, 0) for it in given.caps], "No flow satisfying all demands.", unbounded))
