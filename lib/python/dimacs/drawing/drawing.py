@@ -145,10 +145,13 @@ def _fails_in(
     """Whether this block alone is refused for the same arc or node. What isn't of an arc or a label is of each block."""
     if refusal.arc is None and refusal.reason != "NoTightArc":
         return True
-    texts = [canonical["gr"], reading.text_of("dist" if "dist" in canonical else "distances", network.node_count, block)]
-    if "dist" in canonical:
-        texts.insert(1, f"p aux sp p2p 1\nq {block.source} {block.source}\n".encode())
-    answer = judge.answer("judge-paths" if "dist" in canonical else "certify-paths", texts)
+    kind = "dist" if "dist" in canonical else "distances"
+    graph, claim = canonical["gr"], reading.text_of(kind, network.node_count, block)
+    if kind == "dist":
+        query = f"p aux sp p2p 1\nq {block.source} {block.source}\n"
+        answer = judge.answer("judge-paths", [graph, query.encode(), claim])
+    else:
+        answer = judge.answer("certify-paths", [graph, claim])
     return marks.refusal_of(answer.lines[0]) == refusal
 
 
