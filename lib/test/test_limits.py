@@ -4,14 +4,13 @@ numbers are printed here. agree.py compares arrays with texts, and graphs hand t
 A case is drawn by its number alone, which is named if it fails.
 """
 
-import itertools
 import math
 import random
 import unittest
 
 import dimacs
 from instances import max_text, nets
-from shared import ENDS, KINDS, csgraph, cut_text, fits, form, near
+from shared import ENDS, KINDS, csgraph, cut_text, fits, near
 from shared import networkx, numpy, numpy_of, solution_text, sparse
 
 if networkx:
@@ -234,47 +233,6 @@ class Scipy(Limits):
             net.caps = [min(it, LAST) for it in net.caps]  # no flow that fits carries more
             certified = dimacs.Certified(found[1].flow_value, found[1].inside)
             self.is_certified_max(net, self.amounts(net, found[1].flow), ("yes", certified), None)
-
-    @cases(1500)
-    def test_assignments(self, chance):
-        shape, maximize = (chance.randrange(1, 4), chance.randrange(1, 4)), chance.random() < 0.3
-        costs = [[self.wide(chance) for _ in range(shape[1])] for _ in range(shape[0])]
-        short, long = sorted(shape)
-        pairs = [list(enumerate(it)) for it in itertools.permutations(range(long), short)]
-        if shape[0] > shape[1]:
-            pairs = [[place[::-1] for place in it] for it in pairs]
-        sums = [sum(costs[row][column] for row, column in it) for it in pairs]
-        best = (max if maximize else min)(sums)
-        solved = self.outcome(ours.linear_sum_assignment, numpy.array(costs), maximize)
-        self.is_wanted(solved, "yes", "gave up")
-        if solved[0] == "yes":
-            self.assertEqual(self.cost(costs, solved[1]), best)
-        claim = chance.randrange(len(pairs))
-        ends = [form(chance, list(it)) for it in zip(*pairs[claim])]
-        found = self.outcome(ours.certify_assignment, numpy.array(costs), *ends, maximize)
-        self.is_wanted(found, *(("yes", "gave up") if sums[claim] == best else ("better",)))
-        if found[0] == "yes":
-            self.assertEqual(found[1].value, best)
-            sign = -1 if maximize else 1
-            self.is_dual([[sign * it for it in row] for row in costs], pairs[claim], found[1])
-        if found[0] == "better":
-            self.assertGreater((self.cost(costs, found[1]) - sums[claim]) * (1 if maximize else -1), 0)
-
-    def wide(self, chance):
-        """A cost of 64 bits, most of which are near the ends."""
-        return chance.choice([-1, 1]) * near(chance, (0, 2**62, LAST - 3, LAST - 3))
-
-    def cost(self, costs, assigned):
-        return sum(costs[row][column] for row, column in zip(*assigned))
-
-    def is_dual(self, costs, assigned, found):
-        u, v = found.u.tolist(), found.v.tolist()
-        for row, column in itertools.product(range(len(u)), range(len(v))):
-            self.assertGreaterEqual(costs[row][column], u[row] + v[column])
-        self.assertTrue(all(costs[row][column] == u[row] + v[column] for row, column in assigned))
-        longer, at = (u, 0) if len(u) > len(v) else (v, 1)
-        free = set(range(len(longer))) - {place[at] for place in assigned}
-        self.assertTrue(max(longer) <= 0 and not any(longer[it] for it in free))
 
     @cases(4000)
     def test_distances(self, chance):

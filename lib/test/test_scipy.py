@@ -423,6 +423,20 @@ class Assignments(Scipy):
             theirs = raised(ValueError, optimize.linear_sum_assignment, wrong)
             self.assertEqual(str(self.raises(ValueError, "", ours.linear_sum_assignment, wrong)), str(theirs))
 
+    def test_costs_at_the_ends_of_64_bits(self):
+        last, certify = 2**63 - 1, ours.certify_assignment
+        value, u, v = certify(numpy.full((3, 3), last), range(3), range(3))
+        self.assertEqual((value, u.tolist(), v.tolist()), (3 * last, [last] * 3, [0] * 3))
+        no = self.raises(dimacs.NotOptimal, "NotLeast", certify, [[last, 0], [-last - 1, last]], [0, 1], [0, 1])
+        self.assertEqual((no.value, no.better_value, no.better.col_ind.tolist()), (2 * last, -last - 1, [1, 0]))
+        # The second column is 2^64 - 1 dearer for both rows.
+        dear = [[-last - 1, last]] * 2
+        self.assertEqual(sorted(ours.linear_sum_assignment(dear).col_ind.tolist()), [0, 1])
+        self.raises(dimacs.GaveUp, "which would show it, has more than 64 bits", certify, dear, [0, 1], [0, 1])
+        self.raises(ValueError, "the cost -9223372036854775808 can't be negated", certify, dear, [0, 1], [0, 1], True)
+        past = numpy.array([[2**63]], "uint64")
+        self.raises(ValueError, rf"the entry at \(0, 0\) is {2**63}, not", ours.linear_sum_assignment, past)
+
     def test_nothing_to_assign(self):
         for shape in (0, 3), (3, 0), (0, 0):
             rows, columns = ours.linear_sum_assignment(numpy.zeros(shape))
