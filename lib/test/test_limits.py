@@ -1,5 +1,5 @@
-"""Calls over matrices and the backend near the ends of types: random cases, which get the answers that texts get, whose
-numbers are printed here. agree.py compares arrays with texts, and graphs hand their numbers on to these.
+"""Distances in matrices, and the backend, near the ends of types: random cases, next to what is true and to the calls over
+arrays, which agree.py compares with texts.
 
 A case is drawn by its number alone, which is named if it fails.
 """
@@ -9,16 +9,14 @@ import random
 import unittest
 
 import dimacs
-from instances import max_text, nets
-from shared import ENDS, KINDS, csgraph, cut_text, fits, near
-from shared import networkx, numpy, numpy_of, solution_text, sparse
+from shared import ENDS, KINDS, csgraph, fits, near, networkx, numpy, numpy_of, sparse
 
 if networkx:
     from dimacs import backend
 if csgraph:
     from dimacs import scipy as ours
 
-OFFSETS = (0, 0, 1, -1, 2**63, -(2**63), 2**64, -(2**64))
+OFFSETS = (1, -1, 2**63, -(2**63), 2**64, -(2**64))
 LAST = 2**63 - 1
 
 
@@ -41,36 +39,12 @@ class Net:
         ]
         self.caps = [amount(chance, past) for _ in self.ends]
 
-    def simple(self):
-        """The same without loops and parallel arcs."""
-        self.ends = list(dict.fromkeys(it for it in self.ends if it[0] != it[1]))
-        self.caps = self.caps[: len(self.ends)]
-        return self
-
     def arcs(self):
         return [(*ends, cap) for ends, cap in zip(self.ends, self.caps)]
 
     def max(self):
         """The arguments of calls over arrays about a maximum flow."""
         return self.nodes, 1, self.nodes, *map(list, zip(*self.ends)), self.caps
-
-    def sent(self, flows):
-        """What leaves each node less what enters it."""
-        return nets(self.nodes, self.ends, flows)[1:]
-
-    def texts(self, flows):
-        """An instance of maximum flow, and a flow with its value."""
-        arcs = [(*ends, 0, cap) for ends, cap in zip(self.ends, self.caps)]
-        return max_text(self.nodes, 1, self.nodes, arcs), solution_text(self.sent(flows)[0], self.ends, flows)
-
-
-def claimed(chance, net):
-    """The amounts of a maximum flow, or of none; one of them may be another."""
-    flows = [0] * len(net.caps)
-    if fits(net.caps) and min(net.caps) >= 0 and chance.random() < 0.8:
-        flows = list(dimacs.solve_max_arrays(*net.max()).flows)
-    flows[chance.randrange(len(flows))] += chance.choice((0, 0, 0, 0, *OFFSETS))
-    return flows
 
 
 def parts(chance, total, least, greatest):
@@ -137,8 +111,6 @@ class Limits(unittest.TestCase):
         """The kind of an answer, and what it shows."""
         try:
             return "yes", call(*words)
-        except dimacs.NotOptimal as it:
-            return "better", it.better
         except dimacs.Refused as it:
             return "no", it
         except gives_up as it:
@@ -149,37 +121,23 @@ class Limits(unittest.TestCase):
     def is_wanted(self, found, *wanted):
         self.assertIn(found[0], wanted, repr(found[1]))
 
-    def is_certified_max(self, net, flows, found, better):
-        """An answer about a flow is that about texts, and what it shows is accepted as a text; `better` lists amounts."""
-        if not fits(net.caps) or min(net.caps) < 0 or not fits(flows):
-            return self.is_wanted(found, "past")
-        wanted = self.outcome(dimacs.certify_max, *net.texts(flows))
-        self.is_wanted(found, wanted[0])
-        if found[0] == "yes":
-            self.assertEqual(found[1].value, wanted[1].value)
-            self.assertEqual(dimacs.judge_max(*net.texts(flows), cut_text(found[1].inside)).value, found[1].value)
-        if found[0] == "better":
-            again = better(found[1])
-            self.is_wanted(self.outcome(dimacs.certify_max, *net.texts(again)), "yes", "better")
-            self.assertGreater(net.sent(again)[0], net.sent(flows)[0])
-
 
 @unittest.skipUnless(csgraph, "no SciPy")
 class Scipy(Limits):
-    def matrix(self, chance, net, by_place, forms=("csr", "coo", "csc"), signed=True):
+    def matrix(self, chance, net, by_place):
         """A sparse matrix of any type that fits, with entries that add up to a number at each place; and the entries."""
-        kinds = [(numpy.iinfo(it), it) for it in KINDS] + [(range(-(2**53), 2**53), "float64")] * (len(forms) > 1)
+        kinds = [(numpy.iinfo(it), it) for it in KINDS] + [(range(-(2**53), 2**53), "float64")]
         chance.shuffle(kinds)
         for kind, name in kinds:
             least, most = (kind[0], kind[-1]) if isinstance(kind, range) else (kind.min, kind.max)
-            dealt = [parts(chance, it, least if signed else 0, most) for it in by_place.values()]
+            dealt = [parts(chance, it, least, most) for it in by_place.values()]
             if None not in dealt:
                 break
         entries = [(place, it) for place, some in zip(by_place, dealt) for it in some]
         chance.shuffle(entries)
         rows, columns = ([at[k] - 1 for at, _ in entries] for k in (0, 1))
         data = numpy.array([it for _, it in entries], name)
-        return self.formed(data, rows, columns, net.nodes, chance.choice(forms)), entries
+        return self.formed(data, rows, columns, net.nodes, chance.choice(["csr", "coo", "csc"])), entries
 
     def formed(self, data, rows, columns, count, kind):
         """Entries in a format, none of which are added up."""
@@ -196,43 +154,6 @@ class Scipy(Limits):
         for place, it in entries:
             found[place] = found.get(place, 0) + it
         return found
-
-    @cases(4000)
-    def test_certified_flows(self, chance):
-        net = Net(chance, 0).simple()
-        if not net.ends:
-            return
-        while chance.random() < 0.3:  # several capacities at a place, which may be more together than 64 bits have
-            net.caps[chance.randrange(len(net.caps))] += amount(chance, 0)
-        flows = claimed(chance, net)
-        flow = self.summed((pair, it) for ends, it in zip(net.ends, flows) for pair, it in ((ends, it), (ends[::-1], -it)))
-        graph, _ = self.matrix(chance, net, {ends: cap for ends, cap in zip(net.ends, net.caps)}, ("csr",), False)
-        shown, _ = self.matrix(chance, net, flow)
-        found = self.outcome(ours.certify_maximum_flow, graph, 0, net.nodes - 1, shown)
-        # Between two vertices a flow of SciPy has only what goes from one to the other in the end.
-        pairs = [ends for ends in dict.fromkeys((*net.ends, *flow)) if flow.get(ends, 0) > 0 or ends in net.ends]
-        caps = dict(zip(net.ends, net.caps))
-        net.ends, net.caps = pairs, [caps.get(ends, 0) for ends in pairs]
-        self.is_certified_max(net, [max(0, flow.get(ends, 0)) for ends in pairs], found, lambda it: self.amounts(net, it))
-
-    def amounts(self, net, matrix):
-        return [max(0, int(matrix[tail - 1, head - 1])) for tail, head in net.ends]
-
-    @cases(2500)
-    def test_solved_flows(self, chance):
-        net = Net(chance, 0).simple()
-        if not net.ends:
-            return
-        net.caps[0] += chance.choice([0, 2**31, 2**63])
-        graph, entries = self.matrix(chance, net, dict(zip(net.ends, net.caps)), ("csr",), False)
-        found = self.outcome(ours.maximum_flow, graph, 0, net.nodes - 1)
-        if not fits(it for _, it in entries):
-            return self.is_wanted(found, "past")
-        self.is_wanted(found, "yes", *(("gave up",) if not fits(net.caps) else ()))
-        if found[0] == "yes":
-            net.caps = [min(it, LAST) for it in net.caps]  # no flow that fits carries more
-            certified = dimacs.Certified(found[1].flow_value, found[1].inside)
-            self.is_certified_max(net, self.amounts(net, found[1].flow), ("yes", certified), None)
 
     @cases(4000)
     def test_distances(self, chance):
@@ -265,7 +186,7 @@ class Scipy(Limits):
         """The whole table is certified, and refused or past the limit once it is changed."""
         ours.certify_shortest_path(graph, numpy.array(table, object))
         row, column = chance.randrange(len(table)), chance.randrange(len(table))
-        true, offset = table[row][column], chance.choice(OFFSETS[2:])
+        true, offset = table[row][column], chance.choice(OFFSETS)
         table[row][column] = offset + (chance.choice([LAST, near(chance)]) if true == math.inf else true)
         found = self.outcome(ours.certify_shortest_path, graph, numpy.array(table, object))
         claim = table[row][column]

@@ -105,18 +105,21 @@ class MaximumFlow(Scipy):
         found = ours.maximum_flow(wide, numpy.int64(0), 1)
         self.assertEqual((int(found.flow_value), found.flow.dtype, type(found.flow)), (2**40, "int64", type(wide)))
         self.assertEqual(repr(found), f"MaximumFlowResult with value of {2**40}")
-        mixed = sparse.csr_matrix(numpy.array([[0, 2**40, 0], [0, 0, 3], [0, 0, 0]]))
-        self.assertEqual(ours.maximum_flow(mixed, 0, 2).flow.dtype, "int64")
+        for most, wanted in (2**31 - 1, "int32"), (2**31, "int64"):
+            mixed = sparse.csr_matrix(numpy.array([[0, most, 0], [0, 0, 3], [0, 0, 0]]))
+            self.assertEqual(ours.maximum_flow(mixed, 0, 2).flow.dtype, wanted)
+        past = sparse.csr_matrix(numpy.array([[0, 2**63], [0, 0]], "uint64"))
+        self.raises(ValueError, rf"the entry at \(0, 1\) is {2**63}, not", ours.maximum_flow, past, 0, 1)
         widest = numpy.zeros((4, 4), "int64")
         widest[0, 1:3] = widest[1:3, 3] = 2**63 - 1
         self.assertEqual(ours.maximum_flow(sparse.csr_matrix(widest), 0, 3).flow_value, 2**64 - 2)
 
     def test_sums_at_one_place_past_64_bits(self):
         ends, last = ([1] * 4, [0, 4, 4]), 2**63 - 1
-        wide = stored([2**63 - 1024, 511, 511, 511], *ends)
         nothing = sparse.csr_matrix((2, 2), dtype="int64")
-        message = r"the capacity at \(0, 1\) is 9223372036854776317, which has more than 64 bits"
-        self.raises(ValueError, message, ours.certify_maximum_flow, wide, 0, 1, nothing)
+        for caps in [2**63 - 1024, 511, 511, 511], [2**61] * 4:
+            message = rf"the capacity at \(0, 1\) is {sum(caps)}, which has more than 64 bits"
+            self.raises(ValueError, message, ours.certify_maximum_flow, stored(caps, *ends), 0, 1, nothing)
         flow = sparse.coo_matrix(([last, 1, -(2**63)], ([0, 0, 1], [1, 1, 0])), shape=(2, 2))
         message = r"the flow at \(0, 1\) is 9223372036854775808, which has more than 64 bits"
         self.raises(ValueError, message, ours.certify_maximum_flow, nothing, 0, 1, flow)
