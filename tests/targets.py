@@ -318,14 +318,12 @@ def test_aarch64(tests):
 
 
 def test_scripts(tests, program):
-    """Scripts that test the program, over that for aarch64. Each run of it begins qemu, which takes 50 ms."""
+    """The shown runs, by the program for aarch64. Each run of it begins qemu, which takes 50 ms."""
     by_qemu = f"{tests.room}/dimacs-by-qemu"
     with open(by_qemu, "w", encoding="utf-8") as it:
         it.write(f'#!/bin/sh\nexec {" ".join(QEMU)} {program} "$@"\n')
     os.chmod(by_qemu, 0o755)
     tests.counted("shown_runs.py on aarch64", run(f"{TOP}/tests/shown_runs.py", by_qemu, cwd=TOP))
-    words = [sys.executable, f"{TEST}/agree.py", "--instances", "150", "--runs", "150", "--program", by_qemu]
-    tests.counted("agree.py on aarch64", run(*words, env=package(tests.build)))
 
 
 def test_windows(tests):
