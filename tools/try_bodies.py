@@ -44,7 +44,7 @@ from texts import TOP, read, write
 JOBS = os.cpu_count()
 EDITS = 48
 
-REFUSED, PROVED, BAD = "refused", "proved", "bad"
+REFUSED, PROVED, BAD, LEFT = "refused", "proved", "bad", "left"
 
 NO_PROOF = re.compile(r"^fn (\S+): no proof: expected answers in", re.M)
 PROOF_ERROR = re.compile(r"^(?:note: )?(?:\./)?(proofs/\S+?):\d+:\d+: error(.*(?:\n  .*)*)", re.M)
@@ -389,16 +389,21 @@ def run(trials):
         return sum(pool.map(lambda it: it(), trials), collections.Counter())
 
 
-def try_all(edits):
-    """Tries edits, and answers the minutes by crate."""
+def try_all(edits, is_tenth):
+    """Tries edits, and answers the minutes by crate. A tenth's that take a check of the whole crate are left."""
     crates = dict.fromkeys(it.crate for it in edits)
     left = {crate: [it for it in edits if it.crate == crate and not it.result] for crate in crates}
     minutes = run(functools.partial(try_together, it) for crate in crates for it in groups_of(left[crate]))
-    return minutes + run(functools.partial(try_alone, it) for it in edits if not it.result)
+    rest = [it for it in edits if not it.result]
+    if not is_tenth:
+        return minutes + run(functools.partial(try_alone, it) for it in rest)
+    for it in rest:
+        it.settle(LEFT, "it takes a check of the whole crate")
+    return minutes
 
 
 def print_results(edits, minutes):
-    """Prints what became of the edits, and answers how many weren't refused."""
+    """Prints what became of the edits, and answers how many aren't refused though they were tried."""
     for it in edits:
         if it.result != REFUSED:
             print(f"{it.crate}: {it.name}: {it.result.upper()}{': ' + it.why if it.why else ''}")
@@ -407,8 +412,9 @@ def print_results(edits, minutes):
         count = collections.Counter(it.result for it in edits if it.crate == crate)
         counts = f"{count.total():5}  {count[REFUSED]:7}  {count[PROVED]:6}  {count[BAD]:3}"
         print(f"{crate:20} {counts}  {minutes[crate]:7.1f}")
-    failed = sum(it.result != REFUSED for it in edits)
-    print(f"{len(edits) - failed} passed, {failed} failed")
+    count = collections.Counter(it.result for it in edits)
+    failed = count[PROVED] + count[BAD]
+    print(f"{count[REFUSED]} passed, {failed} failed")
     return failed
 
 
@@ -438,7 +444,7 @@ def attempt(crates, seed, is_over_ci):
     for crate in [] if is_over_ci else crates:
         build(crate)
     edits = [it for edits in of_crates.values() for it in edits]
-    return print_results(edits, try_all(edits))
+    return print_results(edits, try_all(edits, bool(seed)))
 
 
 def main():
