@@ -9,12 +9,14 @@ from unittest import mock
 
 import dimacs
 from dimacs import library
-from refusals import TEXTS  # tests/refusals.py
+from rows import rows  # tests/rows.py
 from shared import Said, raised
 
-MAX, FLOW, SLOW, CUT = (TEXTS[it] for it in ("max", "flow", "slow", "cut"))
-MIN, LEAST, DEAR, POT, SURPLUS = (TEXTS[it] for it in ("min", "least", "dear", "pot", "surplus"))
-GRAPH, PAIRS, SOURCE, DIST, CLAIMED = (TEXTS[it] for it in ("cycle", "pairs", "source", "dist", "near"))
+FILES = dict(rows("files"))
+MAX, FLOW, CUT, MIN, LEAST, POT, SURPLUS = map(FILES.get, ("max", "flow", "cut", "min", "least", "pot", "unmet"))
+GRAPH, PAIRS, SOURCE, DIST, CLAIMED = map(FILES.get, ("cycle", "pairs", "source", "labels", "near"))
+SLOW = "s 5\nf 1 2 3\nf 1 3 2\nf 2 4 3\nf 3 4 2\n"
+DEAR = "s 15\nf 1 2 2\nf 1 3 2\nf 2 3 1\nf 2 4 1\nf 3 4 3\n"
 NEAR = "p dist 4 1\nt 1 0 3\n"
 
 
