@@ -17,8 +17,4 @@ shift 3
 # The statuses up to 3 say how the answers are, or that the words are wrong, and not that the part was ended.
 "$batch" --commands "$shards" --output "$table.{shard}" "$@" | sed 's/$/ || [ $? -le 3 ]/' |
     parallel --sshloginfile "$hosts" --workdir . --jobs 1 --retries 3 --joblog "$table.log" || :
-set --
-for shard in $(seq "$shards"); do
-    [ ! -e "$table.$shard" ] || set -- "$@" "$table.$shard"
-done
-exec "$batch" --join --output "$table" "$@"
+exec sh "$(dirname "$0")/join.sh" "$batch" "$shards" "$table"

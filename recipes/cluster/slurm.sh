@@ -21,5 +21,5 @@ array=$(sbatch --parsable --job-name=dimacs --array="1-$shards" ${SBATCH_OPTIONS
     "$here/slurm_task.sh" "$batch" "$shards" "$table" "$@")
 echo "array $array"
 last=$(sbatch --parsable --job-name=dimacs-join --dependency="afterany:${array%;*}" --output="$table.log" \
-    "$here/slurm_join.sh" "$batch" "$shards" "$table")
+    "$here/join.sh" "$batch" "$shards" "$table")
 echo "join $last"

@@ -1,5 +1,5 @@
 #!/bin/sh
-# The last job of slurm.sh: slurm_join.sh DIMACS_BATCH SHARDS TABLE
+# The end of slurm.sh and of parallel.sh, joins the tables that are there: join.sh DIMACS_BATCH SHARDS TABLE
 batch=$1 shards=$2 table=$3
 set --
 for shard in $(seq "$shards"); do
