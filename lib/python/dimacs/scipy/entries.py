@@ -3,7 +3,7 @@
 from __future__ import annotations
 
 import operator
-from typing import Any, Callable
+from typing import Any, Callable, NamedTuple
 
 import numpy as np
 from scipy import sparse
@@ -46,6 +46,37 @@ def whole_items(values: Any, name: Name) -> Any:
     return np.asarray(array_of(values, NUMBERS, name).kept)
 
 
+_LOW = 2**32 - 1
+
+
+class Sums(NamedTuple):
+    """Sums of the terms of terms_of: as they are, or multiples of 2^32 and what they are more."""
+
+    highs: Any
+    lows: Any = None
+
+    def are_zero(self) -> Any:
+        return self.highs == 0 if self.lows is None else (self.highs + (self.lows >> 32) == 0) & (self.lows & _LOW == 0)
+
+    def fitting(self, what: str, at: Callable[[int], Any], refuse: Callable[[str], Exception] = ValueError) -> Any:
+        """The sums as integers of 64 bits. Raises an exception that names the place of the first that has more."""
+        if self.lows is None:
+            return self.highs
+        highs = self.highs + (self.lows >> 32)
+        fit = (highs >= -(2**31)) & (highs < 2**31)
+        if not fit.all():
+            first = int(np.argmin(fit))
+            found = (int(self.highs[first]) << 32) + int(self.lows[first])
+            raise refuse(f"{what} at {at(first)} is {found}, which has more than 64 bits")
+        return (self.highs << 32) + self.lows
+
+
+def terms_of(amounts: Any) -> list[Any]:
+    """Integers of 64 bits as terms whose sums have 62: as they are, or as multiples of 2^32 and what they are more."""
+    is_small = np.abs(amounts.astype(np.float64)).sum() < 2**59
+    return [amounts] if is_small else [amounts >> 32, amounts & _LOW]
+
+
 class Places:
     """The places of some entries, each once, in the order of rows and columns."""
 
@@ -57,13 +88,11 @@ class Places:
         first = self._order[self._starts]
         self.rows, self.columns = rows[first], columns[first]
 
-    def sums(self, amounts: Any) -> Any:
-        """What the amounts of the entries, integers of 64 bits, add up to at each place: ints of Python if they may have
-        more."""
+    def sums(self, amounts: Any) -> Sums:
+        """What the amounts of the entries, integers of 64 bits, add up to at each place."""
         if not len(amounts):
-            return amounts
-        is_small = np.abs(amounts.astype(np.float64)).sum() < 2**62
-        return np.add.reduceat(amounts[self._order].astype(np.int64 if is_small else object), self._starts)
+            return Sums(amounts)
+        return Sums(*(np.add.reduceat(it, self._starts) for it in terms_of(amounts[self._order])))
 
     def share(self, marks: Any) -> Any:
         """Whether each entry is at the place of one with a mark."""
@@ -72,14 +101,9 @@ class Places:
     def at(self, number: int) -> tuple[int, int]:
         return int(self.rows[number]), int(self.columns[number])
 
-    def fitting(self, amounts: Any, what: str, refuse: Callable[[str], Exception] = ValueError) -> Any:
-        """The sums as integers of 64 bits. Raises an exception that names the place of the first that has more."""
-        sums = self.sums(amounts)
-        fit = (sums >= NUMBERS.least) & (sums <= NUMBERS.greatest)
-        if not fit.all():
-            first = int(np.argmin(fit))
-            raise refuse(f"{what} at {self.at(first)} is {sums[first]}, which has more than 64 bits")
-        return sums.astype(np.int64)
+    def fitting(self, amounts: Any, what: str) -> Any:
+        """The sums as integers of 64 bits. Raises ValueError that names the place of the first that has more."""
+        return self.sums(amounts).fitting(what, self.at)
 
 
 def entries_of(matrix: Any) -> tuple[Any, Any, Any]:
@@ -113,6 +137,17 @@ def matrix_of(rows: Any, columns: Any, amounts: Any, vertices: int) -> Any:
     """A matrix in CSR format with these entries, which stand in the order of rows."""
     starts = np.searchsorted(rows, np.arange(vertices + 1))
     return sparse.csr_matrix((amounts, columns, starts), shape=(vertices, vertices))
+
+
+def netted(entries: Any) -> Any:
+    """A matrix less its transpose, which has an entry where one of them has, also if that is 0. Sums have 62 bits."""
+    entries.sum_duplicates()
+    back = entries.T.tocsr()
+    # SciPy leaves sums out that are 0. None is: the last two bits say which of both have an entry.
+    entries.data, back.data = 4 * entries.data + 1, 2 - 4 * back.data
+    found = entries + back
+    found.data >>= 2
+    return found
 
 
 def numbers_of(vertices: Any) -> Any:

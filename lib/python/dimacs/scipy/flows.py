@@ -14,7 +14,7 @@ from .. import calls
 from ..answers import Certified, GaveUp
 from ..buffers import test_mask
 from ..given import FLOWS, MAX, Array, Given, Names
-from .entries import Places, entries_of, exact, matrix_of, numbers_of, whole
+from .entries import Places, Sums, entries_of, exact, matrix_of, netted, numbers_of, terms_of, whole
 
 
 @dataclass(repr=False)
@@ -77,11 +77,13 @@ class Network(Names):
         """A flow as SciPy has it: of 32 bits if all capacities and all of its sums fit those."""
         if kind is not FLOWS:
             return items
-        places = Places(np.append(self.tails, self.heads), np.append(self.heads, self.tails), self.vertices)
-        amounts = places.fitting(np.append(items, -items), "the flow", GaveUp)
+        parts = [netted(matrix_of(self.tails, self.heads, it, self.vertices)) for it in terms_of(items)]
+        matrix = parts[0]
+        sums = Sums(*(it.data for it in parts))
+        amounts = sums.fitting("the flow", lambda arc: tuple(int(it[arc]) for it in entries_of(matrix)[:2]), GaveUp)
         most = max(self.caps.max(initial=0), amounts.max(initial=0))
-        amounts = amounts.astype(np.int32 if most <= np.iinfo(np.int32).max else np.int64)
-        return self.form(matrix_of(places.rows, places.columns, amounts, self.vertices))
+        matrix.data = amounts.astype(np.int32 if most <= np.iinfo(np.int32).max else np.int64)
+        return self.form(matrix)
 
 
 def maximum_flow(csgraph: Any, source: int, sink: int, *, method: str = "dinic") -> MaximumFlowResult:
@@ -141,9 +143,11 @@ def _by_pair(given: Network, flow: Any) -> tuple[Any, Any, Any, Any]:
 def _test_negated(places: Places, flows: Any, vertices: int) -> None:
     """Raises ValueError if the flow at a place isn't that of its vertices the other way round, negated."""
     carries = np.flatnonzero(flows)
-    rows, columns, amounts = places.rows[carries], places.columns[carries], flows[carries]
-    found = Places(np.append(rows, columns), np.append(columns, rows), vertices)
-    wrong = np.flatnonzero(found.sums(np.append(amounts, amounts)))
-    if len(wrong):
-        place = found.at(int(wrong[0]))
+    one = matrix_of(places.rows[carries], places.columns[carries], flows[carries], vertices)
+    both = [entries_of(it) for it in (one, one.T.tocsr())]
+    rows, columns, amounts = (np.append(*it) for it in zip(*both))
+    found = Places(rows, columns, vertices)
+    are_zero = found.sums(amounts).are_zero()
+    if not are_zero.all():
+        place = found.at(int(np.argmin(are_zero)))
         raise ValueError(f"the flow at {place} isn't that at {place[::-1]} negated, as SciPy has it")
