@@ -422,6 +422,8 @@ def test_pages(counts, place):
     for name in names:
         is_same = filecmp.cmp(f"{TOP}/docs/pictures/{name}", f"{made}/{name}", shallow=False)
         counts.expect(f"docs/pictures/{name} is of these sources", is_same)
+        heads = re.findall(r'points="(\S+ \S+ \S+)"', scripts.read(f"docs/pictures/{name}"))
+        counts.expect(f"{name}: each head of an arc has three corners", heads and all(len(set(it.split())) == 3 for it in heads))
 
 
 # ---- the own layers

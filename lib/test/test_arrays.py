@@ -3,6 +3,7 @@
 import array
 import ctypes
 import functools
+import pickle
 import unittest
 from unittest import mock
 
@@ -96,6 +97,12 @@ class Forms(unittest.TestCase):
         """Judges arrays that `of` makes of items and a kind, by the kinds of numbers, of nodes and of marks."""
         for some in kinds:
             self.judged(*(functools.partial(of, it) for it in some))
+
+    def test_a_buffer_that_is_no_sequence(self):
+        def packed(items):
+            return pickle.PickleBuffer(bytes(items))
+
+        self.judged(packed, lambda items: array.array("I", items), packed)
 
     def test_lists_and_buffers(self):
         def read_only(code, items):

@@ -285,6 +285,10 @@ def gone_through(numbers: Any, name: Name) -> list[Any]:
 def _items_of(numbers: Any, view: memoryview, name: Name) -> list[Any]:
     """The items of an object with a buffer. A view can't read each format, but the object may."""
     try:
+        return view.tolist()
+    except NotImplementedError:
+        pass
+    try:
         return list(numbers)
     except NotImplementedError:
         raise TypeError(f"{_array(name)} has items of the format {view.format}, which Python doesn't read") from None

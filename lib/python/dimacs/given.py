@@ -350,4 +350,7 @@ def infinite(numbers: Any) -> list[int]:
     """The places of items that are inf."""
     if is_numpy(numbers):
         return list((numbers == math.inf).nonzero()[0].tolist())
+    kind = getattr(numbers, "typecode", None) or getattr(numbers, "format", None)
+    if isinstance(kind, str) and kind[-1] in "?bBhHiIlLqQ":
+        return []
     return [place for place, it in enumerate(numbers) if type(it) is not int and it == math.inf]

@@ -195,8 +195,9 @@ def _head(back: Point, tip: Point, half: float) -> str:
 
 def _split(curve: Sequence[Point], length: float) -> Tuple[List[Point], Point]:
     """The curve without its end, which is straight and so long, and the end's tip."""
-    before, tip = curve[-2:]
-    share = length / (math.hypot(tip.x - before.x, tip.y - before.y) or 1.0)
+    tip = curve[-1]
     while len(curve) > 4 and math.hypot(curve[-4].x - tip.x, curve[-4].y - tip.y) < length:
         curve = curve[:-3]
+    before = curve[-2]
+    share = length / (math.hypot(tip.x - before.x, tip.y - before.y) or 1.0)
     return [*curve[:-1], Point(tip.x + (before.x - tip.x) * share, tip.y + (before.y - tip.y) * share)], tip
