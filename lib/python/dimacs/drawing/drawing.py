@@ -152,7 +152,7 @@ def _fails_in(
         answer = judge.answer("judge-paths", [graph, query.encode(), claim])
     else:
         answer = judge.answer("certify-paths", [graph, claim])
-    return marks.refusal_of(answer.lines[0]) == refusal
+    return bool(answer.lines) and marks.refusal_of(answer.lines[0]) == refusal
 
 
 def _entry(text: bytes, line: int) -> Optional[Tuple[int, int, int]]:
