@@ -94,8 +94,6 @@ CASES = [
     ("NotMaximum", "certify-max I S B", {"S": "s 0\n"}, ["S:1: s 0", "B:1: s 6", "has 6 more than the 0"]),
     ("NotLeast", "certify-min MI S B", {"S": "s 15\nf 1 2 2\nf 1 3 2\nf 2 3 1\nf 2 4 1\nf 3 4 3\n"}, ["B:1: s 14", "costs 1 less than the 15"]),
     ("NotMaximum", "certify-max I S S", {"S": "s 0\n"}, ["the flow is feasible", "better one: S has it now\n"]),
-    ("NotMaximum", "certify-max I S /dev/null", {"S": "s 0\n"}, ["S:1: s 0", "better one: /dev/null has it now\n"]),
-    ("NotLeast", "certify-min I S B", {"I": f"p min 1 1\na 1 1 0 {HUGE} {-HUGE}\n", "S": "s 0\n"}, ["S:1: s 0", "better one: if its cost can be written, B has it now\n"]),
     ("NotLeast", "certify-min I S B", {"I": f"p min 1 1\na 1 1 0 {HUGE} {-HUGE}\n", "S": "s 0\n", "B": "c\n"}, ["better one, whose cost leaves -10^30 to 10^30\n"]),
     ("Feasible", "certify-infeasible MI", {}, ["has a feasible flow: name a file after the instance"]),
     ("Feasible", "certify-infeasible MI B", {}, ["has a feasible flow: B has one\n", "B:1: s "]),
@@ -145,6 +143,13 @@ CASES = [
     ("FieldCount", "convert gr T", {"T": "p sp 1 1\ra 1 1 0\r"}, ["lines end by a carriage return alone"]),
     ("BadWord", "convert gr T", {"T": MAX}, ["that of a maximum flow instance (max), and a graph (gr) is wanted"]),
     ("UnknownLine", "convert gr T", {"T": "p sp 1 1\nx" + "y" * 1000 + "\n"}, ["T:2: xyy", ".."]),
+]
+
+# The same of a better flow that isn't in a file which can be read again. The command of the package for Python says more
+# of these: it keeps what it makes.
+UNREAD = [
+    ("NotMaximum", "certify-max I S /dev/null", {"S": "s 0\n"}, ["S:1: s 0", "better one: /dev/null has it now\n"]),
+    ("NotLeast", "certify-min I S B", {"I": f"p min 1 1\na 1 1 0 {HUGE} {-HUGE}\n", "S": "s 0\n"}, ["S:1: s 0", "better one: if its cost can be written, B has it now\n"]),
 ]
 
 # Reasons that no case gives: one that no text is refused for, and one of 10^12 lines.
@@ -397,7 +402,7 @@ def reasons():
 def main():
     binary, count, seed = [*sys.argv[1:], *[BINARY, "150", "1"][len(sys.argv) - 1 :]]
     binary = os.path.abspath(binary)
-    faults = [(f"{case[0]}: explain {case[1]}", fault_of(binary, case)) for case in CASES]
+    faults = [(f"{case[0]}: explain {case[1]}", fault_of(binary, case)) for case in CASES + UNREAD]
     faults += [(f"explain {case[0]}", yes_fault(binary, *case)) for case in YES]
     faults += [(it[0], shell_fault(*it)) for it in shell_runs(binary)]
     faults += [("explain", fault) for fault in reader_faults(binary, int(count), int(seed))]
