@@ -104,8 +104,10 @@ impl<B: Builder> CountedReading<B> {
     /// As `finish`, for a reading behind a reference. It then is as before the first record.
     pub fn end(&mut self) -> Result<B::Value, TakeError>
         ensures given { IfOk result (λ value. (rs : List LineRecord) → StandsFor B.built_from self.old.builder (records_of rs) → B.gives rs value) }
-        ensures complete { OnOk result ((rs : List LineRecord) → StandsFor B.built_from self.old.builder (records_of rs) → IsComplete B.kind (records_of rs)) }
-        ensures refused { IfErr result (λ error. (rs : List LineRecord) → StandsFor B.built_from self.old.builder (records_of rs) → RefusesEnd B.kind (records_of rs) error) }
+        ensures complete { OnOk result ((rs : List LineRecord) → StandsFor B.built_from self.old.builder (records_of rs)
+            → IsComplete B.kind (records_of rs)) }
+        ensures refused { IfErr result (λ error. (rs : List LineRecord) → StandsFor B.built_from self.old.builder (records_of rs)
+            → RefusesEnd B.kind (records_of rs) error) }
         ensures new { self.new.builder ≡ None }
     {
         let Some(builder) = self.builder.take() else {

@@ -68,7 +68,8 @@ pub fn read_records<R: Reading, S: Source>(
 /// The value of a reading that took the records of a text with so many lines, or the fault at its end.
 pub fn end_text<R: Reading>(reading: R, count: u64) -> Result<R::Value, ReadError>
     requires { count ≤ most_lines }
-    ensures reads { (all : List (List ℕ)) → IsReadWhole (R.kind reading) all count (R.stands_for reading) → ReadsLines (R.kind reading) R.gives all result }
+    ensures reads { (all : List (List ℕ)) → IsReadWhole (R.kind reading) all count (R.stands_for reading)
+        → ReadsLines (R.kind reading) R.gives all result }
     ensures spelled { IfOk result (λ value. HasTaken (R.kind reading) (count + 1) (R.stands_for reading) → IsGivenByLines (R.kind reading) R.gives value) }
     ensures kept { IfOk result (λ value. R.keeps reading value) }
     ensures no_io_error { IfErr result (λ error. error ≢ Device) }
