@@ -24,6 +24,7 @@ MIN, LEAST, POT = (FILES[it] for it in ("min", "least", "pot"))
 CYCLE, ASKED = (FILES[it] for it in ("cycle", "source"))
 NEAR = "p sp 4 3\na 1 2 5\na 2 3 4\na 3 4 0\n"
 HUGE = 9 * 10**18
+DEAR = "s 15\nf 1 2 2\nf 1 3 2\nf 2 3 1\nf 2 4 1\nf 3 4 3\n"
 
 # Of a pipe that gives more MB nothing is kept.
 MOST_KEPT = 64
@@ -90,15 +91,16 @@ CASES = [
     ("FieldCount", "solve-paths G L Q", {"L": "p dist 4 1\nt 1 0\n"}, ["L:1: p dist 4 1", "that of distance labels (dist), and queries (query) are wanted", "\nQ is empty: a solve run", "before it reads"]),
     ("NegativeWeight", "solve-paths G Q L", {"G": "p sp 2 1\na 1 2 -4\n"}, ["the WEIGHT -4", "\nL is empty: "]),
     ("NodeRange", "solve-max I S C", {"I": "p max 1 1\nn 1 s\nn 2 t\n"}, ["\nS is empty: ", "\nC is empty: "]),
-    ("NotMaximum", "certify-max I S", {"S": "s 0\n"}, ["S:1: s 0", "name a file after the solution"]),
+    ("NotMaximum", "certify-max I S", {"S": "s 0\n"}, ["S:1: s 0", "a better one has the value 6: name a file after the solution to get it\n"]),
+    ("NotLeast", "certify-min MI S", {"S": DEAR}, ["S:1: s 15", "a better one costs 14: name a file after the solution to get it\n"]),
     ("NotMaximum", "certify-max I S B", {"S": "s 0\n"}, ["S:1: s 0", "B:1: s 6", "has 6 more than the 0"]),
-    ("NotLeast", "certify-min MI S B", {"S": "s 15\nf 1 2 2\nf 1 3 2\nf 2 3 1\nf 2 4 1\nf 3 4 3\n"}, ["B:1: s 14", "costs 1 less than the 15"]),
-    ("NotMaximum", "certify-max I S S", {"S": "s 0\n"}, ["the flow is feasible", "better one: S has it now\n"]),
-    ("NotLeast", "certify-min I S B", {"I": f"p min 1 1\na 1 1 0 {HUGE} {-HUGE}\n", "S": "s 0\n", "B": "c\n"}, ["better one, whose cost leaves -10^30 to 10^30\n"]),
-    ("Feasible", "certify-infeasible MI", {}, ["has a feasible flow: name a file after the instance"]),
-    ("Feasible", "certify-infeasible MI B", {}, ["has a feasible flow: B has one\n", "B:1: s "]),
-    ("Feasible", "certify-infeasible I B", {"I": f"p min 1 1\na 1 1 0 {HUGE} {HUGE}\n"}, ["if its cost can be written, B has one\n"]),
-    ("NotLeast", "certify-min MI S S", {"S": "s 15\nf 1 2 2\nf 1 3 2\nf 2 3 1\nf 2 4 1\nf 3 4 3\n"}, ["better one: S has it now\n"]),
+    ("NotLeast", "certify-min MI S B", {"S": DEAR}, ["B:1: s 14", "costs 1 less than the 15"]),
+    # It isn't written, with and without a solution in its file.
+    ("NotLeast", "certify-min I S B", {"I": f"p min 1 1\na 1 1 0 {HUGE} {-HUGE}\n", "S": "s 0\n"}, ["S:1: s 0", "better one, whose cost, added up arc by arc, leaves -10^30 to 10^30: it isn't written\n"]),
+    ("NotLeast", "certify-min I S B", {"I": f"p min 1 1\na 1 1 0 {HUGE} {-HUGE}\n", "S": "s 0\n", "B": "s -1\n"}, ["^\nthe flow is feasible, and there is a better one, whose cost, added up"]),
+    ("Feasible", "certify-infeasible MI", {}, ["feasible flow, which costs ", ": name a file after the instance to get it\n"]),
+    ("Feasible", "certify-infeasible MI B", {}, ["feasible flow, which costs ", ": it goes to B\n"]),
+    ("Feasible", "certify-infeasible I B", {"I": f"p min 1 1\na 1 1 {HUGE} {HUGE} {HUGE}\n", "B": "s 0\n"}, ["feasible flow, whose cost, added up arc by arc, leaves -10^30 to 10^30: it isn't written\n"]),
     # A cycle of -1 that the source reaches, one that it doesn't, and one through it.
     ("NotShortest", "certify-paths G D", {"G": "p sp 4 4\na 1 2 3\na 2 3 4\na 3 2 -5\na 3 4 1\n", "D": "p distances 4 1\nt 1 3\nd 2 3\nd 3 7\nd 4 8\n"}, ["G:4: a 3 2 -5", "a cycle that the source reaches weighs less than 0; its arcs: 2\n  arc 2: 2 -> 3, WEIGHT 4\n  arc 3: 3 -> 2, WEIGHT -5\n4 - 5 = -1: with each round a walk weighs less, so the nodes that it leads to have no distance\n"]),
     ("NotShortest", "judge-paths G Q L", {"G": "p sp 2 2\na 1 2 3\na 2 1 -4\n", "L": "p dist 2 1\nt 1 1\nd 2 3 1\n"}, ["G:3: a 2 1 -4", "its arcs: 2\n  arc 1: 1 -> 2, WEIGHT 3\n  arc 2: 2 -> 1, WEIGHT -4\n3 - 4 = -1: "]),
@@ -145,11 +147,13 @@ CASES = [
     ("UnknownLine", "convert gr T", {"T": "p sp 1 1\nx" + "y" * 1000 + "\n"}, ["T:2: xyy", ".."]),
 ]
 
-# The same of a better flow that isn't in a file which can be read again. The command of the package for Python says more
-# of these: it keeps what it makes.
+# The same of a better flow whose file can't be read again, or is the claim's. The command of the package for Python says
+# more of these: it keeps what it reads and makes.
 UNREAD = [
-    ("NotMaximum", "certify-max I S /dev/null", {"S": "s 0\n"}, ["S:1: s 0", "better one: /dev/null has it now\n"]),
-    ("NotLeast", "certify-min I S B", {"I": f"p min 1 1\na 1 1 0 {HUGE} {-HUGE}\n", "S": "s 0\n"}, ["S:1: s 0", "better one: if its cost can be written, B has it now\n"]),
+    ("NotMaximum", "certify-max I S S", {"S": "s 0\n"}, ["the flow is feasible, and a better one has the value 6: it goes to S\n"]),
+    ("NotMaximum", "certify-max I S ./S", {"S": "s 0\n"}, ["the flow is feasible, and a better one has the value 6: it goes to ./S\n"]),
+    ("NotLeast", "certify-min MI S S", {"S": DEAR}, ["the flow is feasible, and a better one costs 14: it goes to S\n"]),
+    ("NotMaximum", "certify-max I S /dev/null", {"S": "s 0\n"}, ["S:1: s 0", "a better one has the value 6: it goes to /dev/null\n"]),
 ]
 
 # Reasons that no case gives: one that no text is refused for, and one of 10^12 lines.
@@ -331,6 +335,10 @@ LEFT_OUT_NUMBERS = "the numbers are left out: a text has changed, can't be read 
 TWICE = "cat I | '{}' explain certify-max /dev/stdin /dev/stdin"
 LEFT_OUT_LINES = "/dev/stdin: is no file that can be read again, so its lines are left out\n"
 
+# A claim from a pipe that isn't kept, and a better flow.
+LONG = "(echo s 0; yes c | head -c {1}000000) | '{0}' explain certify-max I /dev/stdin B"
+OF_BETTER = "the flow is feasible, and a better one has the value 6: it goes to B\n"
+
 # A file whose name has a line feed.
 NAMED = "printf 'p sp 1 1\\n' >$'\u00e9\\nv max 6'; '{}' explain convert gr $'\u00e9\\nv max 6'"
 IN_NAME = "\u00e9\\x0av max 6: ends after line 1\n0 arc lines of the 1 that line 1 declares\n"
@@ -351,6 +359,7 @@ def shell_runs(binary):
         lines = LEFT_OUT_NUMBERS if size > MOST_KEPT else YES[0][2]
         yield PIPE.format(binary, size), 0, f"v max 6\n{lines}"
     yield TWICE.format(binary), 1, f"x solution 1 0 SolutionMissing\n{LEFT_OUT_LINES}"
+    yield LONG.format(binary, MOST_KEPT + 6), 1, f"x solution 1 2 NotMaximum\n{LEFT_OUT_LINES}{OF_BETTER}"
     yield GIVEN.format(binary), 1, OF_PIPE
     yield NAMED.format(binary), 1, f"x instance 2 0 TooFew\n{IN_NAME}"
 

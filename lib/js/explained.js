@@ -67,7 +67,8 @@ const RETOLD = [
     [/ \(line \d+\)/, ""],
     [/\bthe (cut|set) in \w+ /, "the $1 "],
     [/^this flow is feasible,/, "the flow in `better` is feasible,"],
-    [/: (if its cost can be written, )?\w+ has one$/, ": it is in `flow`"],
+    [/ feasible flow, (which|whose) cost.*$/, " feasible flow: it is in `flow`"],
+    [/ better one, whose cost.*$/, " better one: it is in `better`"],
     [/: to find out, run dimacs certify-.*$/, ": to find out, certify it"],
 ];
 const ofArrays = (line) => RETOLD.reduce((told, [words, mine]) => told.replace(words, mine), line);

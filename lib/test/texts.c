@@ -121,7 +121,7 @@ static void explains(void) {
               "x solution 1 2 NotMaximum\n"
               "S:1: s 0\n"
               "       ^\n"
-              "the flow is feasible, and there is a better one: C has it now\n");
+              "the flow is feasible, and a better one has the value 6: it goes to C\n");
     explained("spread-max I S O", flow, 0, "");
     explained("solve-max I S C --limit 0", flow, 5, "g limit\n");
     explained("solve-max I S C --limit", flow, 2, "");

@@ -44,8 +44,7 @@ pub(crate) fn failing_ends(labels: &Labels, arc: ArcView) -> Option<EndLabels> {
 pub(crate) struct Unreached {
     pub(crate) source: u32,
     pub(crate) label: Label,
-    /// The distance of PRED.
-    pub(crate) before: i128,
+    pub(crate) pred_dist: i128,
     /// The least distance by an arc.
     pub(crate) least: Option<i128>,
 }
@@ -61,9 +60,9 @@ pub(crate) fn first_unreached(
         let Some(label) = block.labels().into_iter().find(|label| label.id == node) else {
             continue;
         };
-        let before = labels.label(k, label.pred).unwrap_or(0);
+        let pred_dist = labels.label(k, label.pred).unwrap_or(0);
         let least = nearest(labels, k, arcs);
-        let weight = label.dist.saturating_sub(before);
+        let weight = label.dist.saturating_sub(pred_dist);
         let is_given = match kind {
             TextKind::Distances => least == Some(label.dist),
             _ => arcs.iter().any(|it| it.tail == label.pred && i128::from(it.cost) == weight),
@@ -72,7 +71,7 @@ pub(crate) fn first_unreached(
             return Some(Unreached {
                 source: block.source(),
                 label,
-                before,
+                pred_dist,
                 least,
             });
         }

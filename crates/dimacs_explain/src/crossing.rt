@@ -2,10 +2,10 @@
 
 use crate::explanation::Explanation;
 use crate::sums::Sum;
-use dimacs_claims::{Cut, read_cut};
+use dimacs_claims::Cut;
 use dimacs_instance::MinInstance;
 use dimacs_network::{ArcView, Network};
-use dimacs_quote::{Reopen, Said, Wanted, say};
+use dimacs_quote::{OrStop, Reopen, Said, TextFile, Wanted, say};
 use dimacs_records::End;
 use std::alloc::Global;
 
@@ -77,6 +77,13 @@ fn supply_of<N: Network>(alloc: Global, instance: &MinInstance<N>, set: &Cut) ->
     sum
 }
 
+/// The least and the most that arcs can carry out of a set.
+fn range_out_of<N: Network>(alloc: Global, network: &N, set: &Cut) -> (i128, i128) {
+    let least = Crossing::of(alloc, network, set, Limit::Least);
+    let most = Crossing::of(alloc, network, set, Limit::Most);
+    (least.net(), most.net())
+}
+
 impl<'a, A: Reopen> Explanation<'a, A> {
     /// Explains a maximum flow by a cut that is tight for it.
     pub(crate) fn explain_maximum<N: Network>(&mut self, network: &N, cut: &Cut) {
@@ -141,16 +148,18 @@ impl<'a, A: Reopen> Explanation<'a, A> {
         Ok(())
     }
 
+    /// What the set of a certificate supplies, and the least and the most that arcs can carry out of it.
+    fn supply_and_range(&self, certificate: TextFile<'a>) -> OrStop<'a, (i128, (i128, i128))> {
+        let set = self.set(&mut self.page.source(certificate)?)?;
+        let min = self.min_instance()?;
+        let supply = supply_of(self.page.alloc, &min, &set).sum();
+        Ok((supply, range_out_of(self.page.alloc, min.network(), &set)))
+    }
+
     /// Explains why a set isn't violated.
     pub(crate) fn explain_violation(&mut self) -> Said<'a> {
         let text = self.page.texts.certificate()?;
-        let set = read_cut(self.page.alloc, &mut self.page.source(text)?).map_err(
-            |_| text.unread(),
-        )?;
-        let min = self.min_instance()?;
-        let supply = supply_of(self.page.alloc, &min, &set).sum();
-        let least = Crossing::of(self.page.alloc, min.network(), &set, Limit::Least).net();
-        let most = Crossing::of(self.page.alloc, min.network(), &set, Limit::Most).net();
+        let (supply, (least, most)) = self.supply_and_range(text)?;
         say!(self; "the set in {} supplies {}, and its arcs can carry {} to {} out of it: it would show that no flow is feasible if it supplied less than {} or more than {}\n",
             text, supply, least, most, least, most);
         self.write_open()

@@ -2,10 +2,9 @@
 
 use crate::explanation::Explanation;
 use crate::sums::Sum;
-use dimacs_instance::read_plain_graph;
 use dimacs_lines::Memory;
 use dimacs_network::{ArcView, Network, NodeMap};
-use dimacs_quote::{Reopen, Said, say};
+use dimacs_quote::{OrStop, Reopen, Said, say};
 use std::alloc::Global;
 
 /// The most arcs that are looked at, again and again, to find a cycle.
@@ -124,13 +123,17 @@ fn negative_cycle<N: Network>(
 }
 
 impl<'a, A: Reopen> Explanation<'a, A> {
+    /// The arcs of a negative cycle that a source reaches, if one is found.
+    fn negative_cycle(&self, source: u32) -> OrStop<'a, Vec<IndexedArc>> {
+        let graph = self.graph()?;
+        Ok(negative_cycle(self.page.alloc, graph.network(), source)?)
+    }
+
     /// Writes a negative cycle that a source reaches, if one is found.
     pub(crate) fn write_cycle(&mut self, source: u32) -> Said<'a> {
-        let text = self.page.texts.instance()?;
-        let graph = read_plain_graph(self.page.alloc, &mut self.page.source(text)?);
-        let graph = graph.map_err(|_| text.unread())?;
+        let cycle = self.negative_cycle(source)?;
         let mut weights = Sum::new(self.page.alloc);
-        for IndexedArc { index, arc } in negative_cycle(self.page.alloc, graph.network(), source)? {
+        for IndexedArc { index, arc } in cycle {
             weights.add_arc(index, arc, ("WEIGHT", arc.cost));
         }
         if weights.count > 0 {

@@ -8,13 +8,22 @@ use std::alloc::Global;
 #[derive(Drop)]
 pub struct Explanation<'a, A> {
     pub(crate) page: Page<'a, A>,
+    /// The value or the cost of the solution that the run made in place of a certificate.
+    pub(crate) made: Option<i128>,
 }
 
 impl<'a, A: Reopen> Explanation<'a, A> {
-    /// An empty one, about the answer of a run over these texts, which are read again.
-    pub fn new(alloc: Global, again: &'a A, texts: Texts<'a>) -> Explanation<'a, A> {
+    /// An empty one, about the answer of a run over these texts, which are read again. `made` is the value or the cost of
+    /// the solution that the run made in place of a certificate; none without one.
+    pub fn new(
+        alloc: Global,
+        again: &'a A,
+        texts: Texts<'a>,
+        made: Option<i128>,
+    ) -> Explanation<'a, A> {
         Explanation {
             page: Page::new(alloc, again, texts),
+            made,
         }
     }
 

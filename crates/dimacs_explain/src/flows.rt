@@ -5,16 +5,40 @@ use crate::least_cost::{paid_bound, reduced_cost};
 use crate::sums::Sum;
 use dimacs_network::ArcView;
 use dimacs_quote::{
-    Read, Reopen, Said, Stop, TextFile, Wanted, arc_of, ending, entry_between, range_of, say,
+    OrStop, Reopen, Said, Stop, TextFile, Wanted, ending, entry_between, range_of, say,
 };
 use dimacs_records::{Reason, Record, TextKind};
+use std::alloc::Global;
+
+/// The arc of an arc line.
+pub(crate) fn arc_of(record: Record) -> Option<ArcView> {
+    let (tail, head, low, cap, cost) = match record {
+        Record::MaxArc { tail, head, cap } => (tail, head, 0, cap, 0),
+        Record::MinArc {
+            tail,
+            head,
+            low,
+            cap,
+            cost,
+        } => (tail, head, low, cap, cost),
+        Record::GraphArc { tail, head, weight } => (tail, head, 0, 0, weight),
+        _ => return None,
+    };
+    Some(ArcView {
+        tail,
+        head,
+        low,
+        cap,
+        cost,
+    })
+}
 
 /// The arcs from one node to another.
 #[derive(Clone, Copy, Default)]
 pub(crate) struct Parallel {
     /// How many they are, and how many of them come before the arc in question.
     pub(crate) all: u64,
-    before: u64,
+    earlier: u64,
     /// The number of the first.
     pub(crate) first: u32,
     /// The sums of their bounds.
@@ -23,12 +47,12 @@ pub(crate) struct Parallel {
 }
 
 impl Parallel {
-    fn add(&mut self, arc: ArcView, number: u32, is_before: bool) {
+    fn add(&mut self, arc: ArcView, number: u32, is_earlier: bool) {
         if self.all == 0 {
             self.first = number;
         }
         self.all = self.all.saturating_add(1);
-        self.before = self.before.saturating_add(u64::from(is_before));
+        self.earlier = self.earlier.saturating_add(u64::from(is_earlier));
         self.low = self.low.saturating_add(i128::from(arc.low));
         self.cap = self.cap.saturating_add(i128::from(arc.cap));
     }
@@ -41,9 +65,34 @@ pub(crate) struct NodeFlow {
     pub(crate) into: Sum,
 }
 
+impl NodeFlow {
+    fn new(alloc: Global) -> NodeFlow {
+        NodeFlow {
+            out_of: Sum::new(alloc),
+            into: Sum::new(alloc),
+        }
+    }
+
+    /// Adds the entry on a line of a solution, if it is one of the node.
+    fn add(&mut self, node: u32, text: TextFile<'_>, line: u64, record: Record) {
+        let Record::SolutionEntry { tail, head, flow } = record else {
+            return;
+        };
+        if tail != head && (tail == node || head == node) {
+            let sum = if tail == node {
+                &mut self.out_of
+            } else {
+                &mut self.into
+            };
+            say!(sum; "  {}:{}: f {} {} {}\n", text, line, tail, head, flow);
+            sum.add(Some(i128::from(flow)));
+        }
+    }
+}
+
 impl<'a, A: Reopen> Explanation<'a, A> {
     /// The arcs between two nodes, and how many come before the arc with this number, from 1.
-    pub(crate) fn parallel(&self, tail: u32, head: u32, number: u32) -> Read<'a, Parallel> {
+    pub(crate) fn parallel(&self, tail: u32, head: u32, number: u32) -> OrStop<'a, Parallel> {
         let mut parallel = Parallel::default();
         let mut seen = 0u32;
         for (_, record) in self.page.lines(self.page.texts.instance()?)? {
@@ -58,7 +107,7 @@ impl<'a, A: Reopen> Explanation<'a, A> {
     }
 
     /// The sum of the entries with these ends.
-    fn entry_sum(&self, tail: u32, head: u32) -> Read<'a, i128> {
+    fn entry_sum(&self, tail: u32, head: u32) -> OrStop<'a, i128> {
         let mut sum = 0i128;
         for (_, record) in self.page.lines(self.page.texts.claim()?)? {
             if let Some(flow) = record.and_then(|it| entry_between(it, tail, head)) {
@@ -69,37 +118,38 @@ impl<'a, A: Reopen> Explanation<'a, A> {
     }
 
     /// The claimed flow out of a node and into it.
-    pub(crate) fn node_flow(&self, node: u32) -> Read<'a, NodeFlow> {
-        let (mut out_of, mut into) = (Sum::new(self.page.alloc), Sum::new(self.page.alloc));
+    pub(crate) fn node_flow(&self, node: u32) -> OrStop<'a, NodeFlow> {
         let solution = self.page.texts.claim()?;
-        for (line, record) in self.page.lines(solution)? {
-            if let Some(Record::SolutionEntry { tail, head, flow }) = record
-                && tail != head
-                && (tail == node || head == node)
-            {
-                let sum = if tail == node { &mut out_of } else { &mut into };
-                say!(sum; "  {}:{}: f {} {} {}\n", solution, line, tail, head, flow);
-                sum.add(Some(i128::from(flow)));
+        let lines = self.page.lines(solution)?;
+        let mut flow = NodeFlow::new(self.page.alloc);
+        for (line, record) in lines {
+            if let Some(record) = record {
+                flow.add(node, solution, line, record);
             }
         }
-        Ok(NodeFlow { out_of, into })
+        Ok(flow)
     }
 
     /// Quotes the line of an arc.
-    pub(crate) fn quote_arc(&mut self, number: u32) -> Read<'a, ArcView> {
+    pub(crate) fn quote_arc(&mut self, number: u32) -> OrStop<'a, ArcView> {
         let instance = self.page.texts.instance()?;
         arc_of(self.page.quote_there(instance, Wanted::Arc(number))?).ok_or(instance.unread())
     }
 
     /// Quotes the entry of an arc after others with its ends, and returns its flow.
-    fn quote_entry(&mut self, arc: ArcView, before: u64) -> Read<'a, i64> {
+    fn quote_entry(&mut self, arc: ArcView, earlier: u64) -> OrStop<'a, i64> {
         let Ok(solution) = self.page.texts.claim() else {
             return Ok(0);
         };
         let (tail, head) = (arc.tail, arc.head);
-        let entry = self
-            .page
-            .quote(solution, Wanted::Entry { tail, head, before })?;
+        let entry = self.page.quote(
+            solution,
+            Wanted::Entry {
+                tail,
+                head,
+                earlier,
+            },
+        )?;
         if let Some(Record::SolutionEntry { flow, .. }) = entry {
             return Ok(flow);
         }
@@ -108,7 +158,7 @@ impl<'a, A: Reopen> Explanation<'a, A> {
     }
 
     /// Quotes the line of a node, and returns its potential or its supply; 0 without one.
-    fn quote_node(&mut self, text: TextFile<'a>, node: u32) -> Read<'a, i128> {
+    fn quote_node(&mut self, text: TextFile<'a>, node: u32) -> OrStop<'a, i128> {
         Ok(match self.page.quote(text, Wanted::Node(node))? {
             Some(Record::PotentialsNode { value, .. }) => value,
             Some(Record::MinNode { supply, .. }) => i128::from(supply),
@@ -123,7 +173,7 @@ impl<'a, A: Reopen> Explanation<'a, A> {
         if self.page.texts.is_spread() {
             return self.explain_spread(arc, parallel, reason);
         }
-        let flow = self.quote_entry(arc, parallel.before)?;
+        let flow = self.quote_entry(arc, parallel.earlier)?;
         say!(self; "arc {} carries {}", number, flow);
         if reason == Reason::AboveCap {
             say!(self; ", more than its CAP, {}\n", arc.cap);
@@ -171,7 +221,7 @@ impl<'a, A: Reopen> Explanation<'a, A> {
     pub(crate) fn explain_flow(&mut self, number: u32, reason: Reason) -> Said<'a> {
         let arc = self.quote_arc(number)?;
         let parallel = self.parallel(arc.tail, arc.head, number)?;
-        let flow = self.quote_entry(arc, parallel.before)?;
+        let flow = self.quote_entry(arc, parallel.earlier)?;
         match reason {
             Reason::NotSaturated =>
                 say!(self; "arc {} leaves the set, from {} inside to {} outside, and carries {} of its CAP, {}\n",

@@ -51,6 +51,15 @@ fn next_cost<N: Network>(network: &N, flow: &Flow, last: Option<ArcCost>) -> Opt
     next
 }
 
+/// What a flow costs.
+pub(crate) fn cost_of<N: Network>(network: &N, flow: &Flow) -> i128 {
+    let mut sum = 0i128;
+    for i in 0..network.arcs() {
+        sum = sum.saturating_add(ArcCost::of(network.arc(i), flow, i).cost);
+    }
+    sum
+}
+
 /// The sum of a potential times a supply, over the nodes.
 fn supply_sum<N: Network>(alloc: Global, min: &MinInstance<N>, potentials: &Potentials) -> Sum {
     let mut sum = Sum::new(alloc);
@@ -110,7 +119,7 @@ impl<'a, A: Reopen> Explanation<'a, A> {
     }
 
     /// Writes the cost as a sum, the arcs whose cost is greatest in size first.
-    pub(crate) fn write_cost<N: Network>(&mut self, network: &N, flow: &Flow, cost: i128) {
+    pub(crate) fn write_cost<N: Network>(&mut self, network: &N, flow: &Flow) {
         let mut sum = Sum::new(self.page.alloc);
         let mut next = next_cost(network, flow, None);
         if next.is_none() {
@@ -128,7 +137,7 @@ impl<'a, A: Reopen> Explanation<'a, A> {
             next = next_cost(network, flow, next);
         }
         if next.is_some() {
-            let rest = cost.saturating_sub(sum.sum());
+            let rest = cost_of(network, flow).saturating_sub(sum.sum());
             say!(self; "  all others: {}\n", rest);
             sum.add(Some(rest));
         }

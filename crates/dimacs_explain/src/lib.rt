@@ -4,6 +4,7 @@
 //! For `dimacs_runs`, which runs `dimacs explain COMMAND FILE...`.
 #![tactic(auto)]
 
+mod better;
 mod blocks;
 mod claims;
 mod crossing;
@@ -12,6 +13,7 @@ mod explanation;
 mod flows;
 mod least_cost;
 mod paths;
+mod readings;
 mod refusals;
 mod routes;
 mod sums;

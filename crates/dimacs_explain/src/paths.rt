@@ -2,34 +2,18 @@
 
 use crate::blocks::{Unreached, failing_ends, first_unreached, lightest};
 use crate::explanation::Explanation;
-use dimacs_claims::{Labels, read_distances, read_labels};
+use crate::flows::arc_of;
 use dimacs_lines::Memory;
 use dimacs_network::ArcView;
-use dimacs_quote::{Read, Reopen, Said, Stop, TextFile, Wanted, arc_of, say};
+use dimacs_quote::{OrStop, Reopen, Said, Stop, TextFile, Wanted, say};
 use dimacs_records::TextKind;
 
 /// The most sources of blocks that are listed.
 const SHOWN_SOURCES: usize = 5;
 
 impl<'a, A: Reopen> Explanation<'a, A> {
-    /// The labels or distances that a graph is tested against.
-    fn read_tested(&self, text: TextFile<'a>) -> Read<'a, Labels> {
-        let mut source = self.page.source(text)?;
-        let labels = match text.kind {
-            TextKind::Distances => match read_distances(self.page.alloc, &mut source) {
-                Ok(distances) => Ok(distances.into_labels()),
-                Err(error) => Err(error),
-            },
-            _ => read_labels(self.page.alloc, &mut source),
-        };
-        match labels {
-            Ok(labels) => Ok(labels),
-            Err(_) => Err(Stop::Memory),
-        }
-    }
-
     /// The line of the block from this source.
-    fn block_line(&self, text: TextFile<'a>, source: u32) -> Read<'a, u64> {
+    fn block_line(&self, text: TextFile<'a>, source: u32) -> OrStop<'a, u64> {
         let found = self.page.find(text, Wanted::Node(source))?;
         Ok(found.ok_or(text.unread())?.line)
     }
@@ -46,7 +30,7 @@ impl<'a, A: Reopen> Explanation<'a, A> {
     pub(crate) fn explain_farther(&mut self, number: u32) -> Said<'a> {
         let arc = self.quote_arc(number)?;
         let text = self.page.texts.tested()?;
-        let tested = self.read_tested(text)?;
+        let tested = self.labels(text)?;
         let ends = failing_ends(&tested, arc).ok_or(text.unread())?;
         let (source, line) = (ends.source, self.block_line(text, ends.source)?);
         say!(self; "{}:{}: the block from source {}\n", text, line, source);
@@ -66,7 +50,7 @@ impl<'a, A: Reopen> Explanation<'a, A> {
     }
 
     /// The arcs into a node.
-    fn arcs_into(&self, node: u32) -> Read<'a, Vec<ArcView>> {
+    fn arcs_into(&self, node: u32) -> OrStop<'a, Vec<ArcView>> {
         let mut arcs = Vec::new(self.page.alloc);
         for (_, record) in self.page.lines(self.page.texts.instance()?)? {
             if let Some(arc) = record.and_then(arc_of)
@@ -82,7 +66,7 @@ impl<'a, A: Reopen> Explanation<'a, A> {
     pub(crate) fn explain_unreached(&mut self, node: u32) -> Said<'a> {
         let text = self.page.texts.tested()?;
         let arcs = self.arcs_into(node)?;
-        let mut tested = self.read_tested(text)?;
+        let mut tested = self.labels(text)?;
         tested.index()?;
         let is_distance = text.kind == TextKind::Distances;
         let Some(it) = first_unreached(&tested, text.kind, node, &arcs) else {
@@ -118,8 +102,8 @@ impl<'a, A: Reopen> Explanation<'a, A> {
     fn write_label(&mut self, it: Unreached, lightest: Option<i64>) {
         let (node, pred, dist) = (it.label.id, it.label.pred, it.label.dist);
         say!(self; " node {} is at distance {}, and its PRED, node {}, at distance {}: ",
-            node, dist, pred, it.before);
-        let weight = dist.saturating_sub(it.before);
+            node, dist, pred, it.pred_dist);
+        let weight = dist.saturating_sub(it.pred_dist);
         say!(self; "no arc from {} to {} has the WEIGHT {}\n", pred, node, weight);
         match lightest {
             Some(weight) =>
@@ -141,7 +125,7 @@ impl<'a, A: Reopen> Explanation<'a, A> {
     pub(crate) fn explain_query(&mut self, node: u32) -> Said<'a> {
         let (queries, text) = (self.page.texts.claim()?, self.page.texts.certificate()?);
         self.page.quote_there(queries, Wanted::Query(node))?;
-        let tested = self.read_tested(text)?;
+        let tested = self.labels(text)?;
         let blocks = tested.blocks();
         if blocks.is_empty() {
             say!(self; "{} has no block\n", text);

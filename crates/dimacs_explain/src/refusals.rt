@@ -19,18 +19,23 @@ impl<'a, A: Reopen> Explanation<'a, A> {
     /// Explains the fault of a text of this kind.
     pub fn explain_fault(&mut self, kind: TextKind, at: At, reason: Reason) {
         let said = match reason {
-            Reason::Feasible => self.explain_feasible(),
+            Reason::Feasible => {
+                self.explain_feasible();
+                Ok(())
+            }
             Reason::NodesDiffer => self.explain_nodes(),
-            _ => self.page.explain_line(kind, at, reason),
+            _ => self.page.explain_text(kind, at, reason),
         };
         self.end_refusal(said);
     }
 
     /// Explains why a test failed.
     pub fn explain_failure(&mut self, place: Where, reason: Reason) {
-        let said = match self.test_readable() {
-            Ok(()) => self.explain_test(place, reason),
-            unread => unread,
+        let said = match (self.test_readable(), reason) {
+            (Ok(()), _) | (_, Reason::NotMaximum | Reason::NotLeast) => {
+                self.explain_test(place, reason)
+            }
+            (unread, _) => unread,
         };
         self.end_refusal(said);
     }
@@ -40,7 +45,7 @@ impl<'a, A: Reopen> Explanation<'a, A> {
         match said {
             Err(Stop::Memory) => self.page.out.is_lost = true,
             Err(Stop::Unread(file)) => self.page.write_unread(file),
-            Err(Stop::Said) | Ok(()) => (),
+            Err(Stop::Done) | Ok(()) => (),
         }
         for file in self.page.texts.emptied() {
             say!(self; "{} is empty: a solve run creates the files that it writes, or empties them, before it reads the others\n",
@@ -54,7 +59,7 @@ impl<'a, A: Reopen> Explanation<'a, A> {
         for file in self.page.texts.files_read() {
             if self.page.again.open(file.as_str()).is_none() {
                 self.page.write_unread(file.as_str());
-                all = Err(Stop::Said);
+                all = Err(Stop::Done);
             }
         }
         all
@@ -74,7 +79,6 @@ impl<'a, A: Reopen> Explanation<'a, A> {
             Reason::SourceOutside => self.explain_end(number, End::Source),
             Reason::SinkInside => self.explain_end(number, End::Sink),
             Reason::NotViolated => self.explain_violation(),
-            Reason::Feasible => self.explain_feasible(),
             Reason::NodesDiffer => self.explain_nodes(),
             Reason::QueryNode => self.explain_query_node(number),
             Reason::BlockMissing => self.explain_query(number),

@@ -6,7 +6,7 @@ use dimacs_claims::{Block, Label, Labels};
 use dimacs_instance::Queries;
 use dimacs_lines::Memory;
 use dimacs_network::NodeMap;
-use dimacs_quote::{Read, Reopen, Said, say};
+use dimacs_quote::{OrStop, Reopen, Said, say};
 use std::alloc::Global;
 
 /// The most routes that are shown.
@@ -93,7 +93,7 @@ impl<'a, A: Reopen> Explanation<'a, A> {
     }
 
     /// Writes the route to a node, or why there is none. Returns whether there is one.
-    fn write_pair(&mut self, block: &Block, to: u32) -> Read<'a, bool> {
+    fn write_pair(&mut self, block: &Block, to: u32) -> OrStop<'a, bool> {
         let source = block.source();
         if to == source {
             say!(self; "{} to itself, without an arc: 0\n", to);
@@ -126,7 +126,7 @@ impl<'a, A: Reopen> Explanation<'a, A> {
     }
 
     /// Writes the route to the node with the greatest label. Returns whether there is one.
-    fn write_farthest(&mut self, block: &Block, nodes: u32) -> Read<'a, bool> {
+    fn write_farthest(&mut self, block: &Block, nodes: u32) -> OrStop<'a, bool> {
         let Some(farthest) = farthest(block) else {
             self.write_alone(block);
             return Ok(false);

@@ -1,19 +1,28 @@
 //! Explains a yes: reads the texts again, judges them again, and writes the numbers that show it.
 
-ghost use Rattle.std.specs.Prelude.{IfSome};
+ghost use Rattle.std.specs.Prelude.{IfOk};
 ghost use Rattle.dimacs_instance.specs.QueryTexts.{AreLawful, asked};
 
 use crate::explanation::Explanation;
-use dimacs_claims::{read_cut, read_labels, read_potentials, read_solution};
-use dimacs_instance::{Queries, read_plain_graph, read_plain_max, read_plain_min, read_queries};
+use dimacs_claims::{Cut, Labels, Potentials, read_labels, read_potentials};
+use dimacs_instance::{MaxInstance, MinInstance, Queries, read_queries};
 use dimacs_judging::{
-    Verdict, flow_of, index_for, judge_infeasible, judge_max, judge_min, judge_paths,
+    JudgeError, Verdict, index_for, judge_infeasible, judge_max, judge_min, judge_paths,
 };
 use dimacs_lines::Source;
-use dimacs_quote::{Prose, Reopen, say};
+use dimacs_network::Network;
+use dimacs_quote::{OrStop, Prose, Reopen, Said, Stop, say};
 
 const LEFT_OUT: &str =
     "the numbers are left out: a text has changed, can't be read twice, or memory ran out\n";
+
+/// The verdict on texts that are read again.
+fn judged<'a>(answer: Result<Verdict, JudgeError>) -> OrStop<'a, Verdict> {
+    match answer {
+        Ok(verdict) => Ok(verdict),
+        Err(_) => Err(Stop::Done),
+    }
+}
 
 impl<'a, A: Reopen> Explanation<'a, A> {
     /// Explains a yes by its certificate. Without a verdict it is that of a run that certifies distances.
@@ -22,19 +31,19 @@ impl<'a, A: Reopen> Explanation<'a, A> {
         verdict: Option<&Verdict>,
         certificate: Option<R>,
     ) {
-        if self.show(verdict, certificate).is_none() || self.page.out.is_lost {
+        if self.show(verdict, certificate).is_err() || self.page.out.is_lost {
             self.page.out = Prose::new(self.page.alloc);
             say!(self; LEFT_OUT);
         }
     }
 
-    /// Writes what shows the yes; none if the texts, read again, don't give it.
+    /// Writes what shows the yes, if the texts, read again, give it.
     fn show<R: Source + Drop>(
         &mut self,
         verdict: Option<&Verdict>,
         certificate: Option<R>,
-    ) -> Option<()> {
-        let mut certificate = certificate?;
+    ) -> Said<'a> {
+        let mut certificate = certificate.ok_or(Stop::Done)?;
         let shown = match verdict {
             Some(Verdict::Max(_)) => self.maximum(&mut certificate)?,
             Some(Verdict::Min(_)) => self.least(&mut certificate)?,
@@ -45,65 +54,96 @@ impl<'a, A: Reopen> Explanation<'a, A> {
             }
         };
         match verdict {
-            Some(verdict) if *verdict != shown => None,
-            _ => Some(()),
+            Some(verdict) if *verdict != shown => Err(Stop::Done),
+            _ => Ok(()),
         }
     }
 
-    /// A file of the run, from 0.
-    fn input(&self, place: usize) -> Option<A::Input> {
-        self.page.again.open(self.page.texts.file(place)?)
+    fn maximum<R: Source>(&mut self, certificate: &mut R) -> OrStop<'a, Verdict> {
+        let cut = self.set(certificate)?;
+        self.show_maximum(&self.max_instance()?, &cut)
     }
 
-    fn maximum<R: Source>(&mut self, certificate: &mut R) -> Option<Verdict> {
-        let max = read_plain_max(self.page.alloc, &mut self.input(0)?).ok()?;
-        let solution = read_solution(self.page.alloc, &mut self.input(1)?).ok()?;
-        let cut = read_cut(self.page.alloc, certificate).ok()?;
-        let verdict = judge_max(self.page.alloc, &max, &solution, &cut).ok()?;
-        self.explain_maximum(max.network(), &cut);
-        Some(verdict)
+    fn show_maximum<N: Network>(&mut self, max: &MaxInstance<N>, cut: &Cut) -> OrStop<'a, Verdict> {
+        let verdict = judged(judge_max(self.page.alloc, max, &self.solution()?, cut))?;
+        self.explain_maximum(max.network(), cut);
+        Ok(verdict)
     }
 
-    fn least<R: Source>(&mut self, certificate: &mut R) -> Option<Verdict> {
-        let min = read_plain_min(self.page.alloc, &mut self.input(0)?).ok()?;
-        let solution = read_solution(self.page.alloc, &mut self.input(1)?).ok()?;
-        let potentials = read_potentials(self.page.alloc, certificate).ok()?;
-        let verdict = judge_min(self.page.alloc, &min, &solution, &potentials).ok()?;
-        let flow = flow_of(self.page.alloc, min.network(), &solution).ok()?;
-        if let Verdict::Min(cost) = verdict {
-            self.write_cost(min.network(), &flow, cost);
-            self.explain_least(&min, &potentials);
-        }
-        Some(verdict)
+    fn least<R: Source>(&mut self, certificate: &mut R) -> OrStop<'a, Verdict> {
+        let potentials = self.potentials(certificate)?;
+        self.show_least(&self.min_instance()?, &potentials)
     }
 
-    fn infeasible<R: Source>(&mut self, certificate: &mut R) -> Option<Verdict> {
-        let min = read_plain_min(self.page.alloc, &mut self.input(0)?).ok()?;
-        let set = read_cut(self.page.alloc, certificate).ok()?;
-        let verdict = judge_infeasible(&min, &set).ok()?;
-        self.explain_infeasible(&min, &set);
-        Some(verdict)
+    fn show_least<N: Network>(
+        &mut self,
+        min: &MinInstance<N>,
+        potentials: &Potentials,
+    ) -> OrStop<'a, Verdict> {
+        let verdict = judged(judge_min(self.page.alloc, min, &self.solution()?, potentials))?;
+        self.write_claimed_cost(min.network())?;
+        self.explain_least(min, potentials);
+        Ok(verdict)
     }
 
-    fn distances<R: Source>(&mut self, queries: &Queries, certificate: &mut R) -> Option<Verdict>
+    fn potentials<R: Source>(&self, certificate: &mut R) -> OrStop<'a, Potentials> {
+        let Ok(potentials) = read_potentials(self.page.alloc, certificate) else {
+            return Err(Stop::Done);
+        };
+        Ok(potentials)
+    }
+
+    fn write_claimed_cost<N: Network>(&mut self, network: &N) -> Said<'a> {
+        let flow = self.flow(network)?;
+        self.write_cost(network, &flow);
+        Ok(())
+    }
+
+    fn infeasible<R: Source>(&mut self, certificate: &mut R) -> OrStop<'a, Verdict> {
+        let set = self.set(certificate)?;
+        self.show_infeasible(&self.min_instance()?, &set)
+    }
+
+    fn show_infeasible<N: Network>(
+        &mut self,
+        min: &MinInstance<N>,
+        set: &Cut,
+    ) -> OrStop<'a, Verdict> {
+        let verdict = judged(judge_infeasible(min, set))?;
+        self.explain_infeasible(min, set);
+        Ok(verdict)
+    }
+
+    fn distances<R: Source>(
+        &mut self,
+        queries: &Queries,
+        certificate: &mut R,
+    ) -> OrStop<'a, Verdict>
         requires lawful { AreLawful (asked queries.now) }
     {
-        let graph = read_plain_graph(self.page.alloc, &mut self.input(0)?).ok()?;
-        let mut labels = read_labels(self.page.alloc, certificate).ok()?;
-        index_for(queries, &mut labels).ok()?;
-        let verdict = judge_paths(self.page.alloc, &graph, queries, &labels).ok()?;
-        self.explain_distances(queries, &labels).ok()?;
-        Some(verdict)
+        let labels = self.labels_for(queries, certificate)?;
+        let verdict = judged(judge_paths(self.page.alloc, &self.graph()?, queries, &labels))?;
+        self.explain_distances(queries, &labels)?;
+        Ok(verdict)
+    }
+
+    /// Labels to look queries up in.
+    fn labels_for<R: Source>(&self, queries: &Queries, certificate: &mut R) -> OrStop<'a, Labels> {
+        let Ok(mut labels) = read_labels(self.page.alloc, certificate) else {
+            return Err(Stop::Done);
+        };
+        index_for(queries, &mut labels)?;
+        Ok(labels)
     }
 
     /// The queries that labels have to answer: none if distances were certified.
-    fn queries(&self, is_asked: bool) -> Option<Queries>
-        ensures lawful { IfSome result (λ queries. AreLawful (asked queries)) }
+    fn queries(&self, is_asked: bool) -> OrStop<'a, Queries>
+        ensures lawful { IfOk result (λ queries. AreLawful (asked queries)) }
     {
-        let mut claim = self.input(1)?;
-        if is_asked {
-            return read_queries(self.page.alloc, &mut claim).ok();
+        if !is_asked {
+            return Ok(Queries::Sources(Vec::new(self.page.alloc)));
         }
-        Some(Queries::Sources(Vec::new(self.page.alloc)))
+        let text = self.page.texts.claim()?;
+        read_queries(self.page.alloc, &mut self.page.source(text)?).map_err(|_| text.unread())
     }
 }

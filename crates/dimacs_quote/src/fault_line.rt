@@ -3,7 +3,7 @@
 use crate::forms::{field_name, form_of};
 use crate::lookups::{Wanted, declared, labelled_node, node_of};
 use crate::oddities::{has_lone_return, oddity, other_kind};
-use crate::page::{Page, Read, Reopen};
+use crate::page::{OrStop, Page, Reopen};
 use crate::quote::{escape, field_at, quote};
 use crate::say;
 use crate::sentence::Prose;
@@ -160,7 +160,7 @@ impl<'a, A: Reopen> Page<'a, A> {
         text: TextFile<'a>,
         at: At,
         reason: Reason,
-    ) -> Read<'a, FaultLine<'a>> {
+    ) -> OrStop<'a, FaultLine<'a>> {
         let mut lines = self.lines(text)?;
         let mut fault = FaultLine::new(self.alloc, text, at.line, reason);
         for _ in 0..MAX_LINES {

@@ -4,7 +4,7 @@ use crate::fault_line::{FaultLine, count_fields};
 use crate::forms::{form_of, forms, kind_words, range_of};
 use crate::lookups::{Wanted, declared};
 use crate::numbers::{is_no_distance, meant_number};
-use crate::page::{Page, Read, Reopen, Said, Stop};
+use crate::page::{OrStop, Page, Reopen, Said, Stop};
 use crate::say;
 use crate::sentence::ending;
 use crate::texts::TextFile;
@@ -34,7 +34,7 @@ fn order_of(kind: TextKind) -> &'static str {
 
 impl<'a, A: Reopen> Page<'a, A> {
     /// Explains the fault of a line, or of the end of a text.
-    pub fn explain_line(&mut self, kind: TextKind, at: At, reason: Reason) -> Said<'a> {
+    pub fn explain_text(&mut self, kind: TextKind, at: At, reason: Reason) -> Said<'a> {
         let text = self.texts.of_kind(kind)?;
         let fault = self.quote_fault(text, at, reason)?;
         if let Some(odd) = fault.odd {
@@ -102,7 +102,7 @@ impl<'a, A: Reopen> Page<'a, A> {
     }
 
     /// The first line that is wanted, if it stands before the fault.
-    fn line_before(&self, fault: &FaultLine<'a>, wanted: Wanted) -> Read<'a, Option<u64>> {
+    fn line_before(&self, fault: &FaultLine<'a>, wanted: Wanted) -> OrStop<'a, Option<u64>> {
         match self.find(fault.text, wanted)? {
             Some(found) if found.line < fault.line => Ok(Some(found.line)),
             _ => Ok(None),
@@ -110,7 +110,7 @@ impl<'a, A: Reopen> Page<'a, A> {
     }
 
     /// The problem line, and what it declares.
-    fn problem(&self, text: TextFile<'a>) -> Read<'a, (u64, Declared)> {
+    fn problem(&self, text: TextFile<'a>) -> OrStop<'a, (u64, Declared)> {
         let stop = text.unread();
         let found = self.find(text, Wanted::Problem)?.ok_or(stop)?;
         Ok((found.line, declared(found.record).ok_or(stop)?))
@@ -136,11 +136,8 @@ impl<'a, A: Reopen> Page<'a, A> {
     }
 
     fn list_forms(&mut self, kind: TextKind, word: &str) {
-        say!(self; "no line of {} begins with `{}`\nits lines are", kind_words(kind), word);
-        for form in forms(kind) {
-            say!(self; " `{}`,", *form);
-        }
-        say!(self; " and comments, which begin with c\n");
+        say!(self; "no line of {} begins with `{}`\nits lines are `{}`, and comments, which begin with c\n",
+            kind_words(kind), word, forms(kind));
     }
 
     fn write_field_count(&mut self, fault: &FaultLine<'a>) {

@@ -17,29 +17,28 @@ pub(crate) fn kind_words(kind: TextKind) -> &'static str {
     }
 }
 
-pub(crate) fn forms(kind: TextKind) -> &'static [&'static str] {
+/// What stands between two forms.
+const BETWEEN: &str = "`, `";
+
+/// The forms of a kind's lines, with `BETWEEN` between them.
+pub(crate) fn forms(kind: TextKind) -> &'static str {
     match kind {
-        TextKind::Max => &["p max NODES ARCS", "n ID s|t", "a TAIL HEAD CAP"],
-        TextKind::Min => &[
-            "p min NODES ARCS",
-            "n ID SUPPLY",
-            "a TAIL HEAD LOW CAP COST",
-        ],
-        TextKind::Graph => &["p sp NODES ARCS", "a TAIL HEAD WEIGHT"],
-        TextKind::Queries => &["p aux sp ss|p2p K", "s ID", "q FROM TO"],
-        TextKind::Solution => &["s VALUE", "f TAIL HEAD FLOW"],
-        TextKind::Cut => &["p cut NODES K", "u ID"],
-        TextKind::Potentials => &["p pot NODES K", "y ID VALUE"],
-        TextKind::Labels => &["p dist NODES B", "t SOURCE K", "d ID DIST PRED"],
-        TextKind::Distances => &["p distances NODES B", "t SOURCE K", "d ID DIST"],
+        TextKind::Max => "p max NODES ARCS`, `n ID s|t`, `a TAIL HEAD CAP",
+        TextKind::Min => "p min NODES ARCS`, `n ID SUPPLY`, `a TAIL HEAD LOW CAP COST",
+        TextKind::Graph => "p sp NODES ARCS`, `a TAIL HEAD WEIGHT",
+        TextKind::Queries => "p aux sp ss|p2p K`, `s ID`, `q FROM TO",
+        TextKind::Solution => "s VALUE`, `f TAIL HEAD FLOW",
+        TextKind::Cut => "p cut NODES K`, `u ID",
+        TextKind::Potentials => "p pot NODES K`, `y ID VALUE",
+        TextKind::Labels => "p dist NODES B`, `t SOURCE K`, `d ID DIST PRED",
+        TextKind::Distances => "p distances NODES B`, `t SOURCE K`, `d ID DIST",
     }
 }
 
 /// The form of lines that begin with this letter.
 pub(crate) fn form_of(kind: TextKind, letter: &[u8]) -> Option<&'static str> {
     forms(kind)
-        .iter()
-        .copied()
+        .split(BETWEEN)
         .find(|form| field_name(form, 1).as_bytes() == letter)
 }
 

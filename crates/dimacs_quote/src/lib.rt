@@ -1,4 +1,5 @@
-//! Quotes lines of texts, and explains what is wrong with a text by itself. Nothing is proved about what is written.
+//! Quotes lines of texts, and explains what is wrong with a text by itself, for `dimacs_explain`. Nothing is proved about
+//! what is written.
 #![tactic(auto)]
 
 mod fault_line;
@@ -15,7 +16,7 @@ mod texts;
 
 pub use forms::range_of;
 pub use lines::TextLines;
-pub use lookups::{Wanted, arc_of, entry_between};
-pub use page::{FoundLine, Page, Read, Reopen, Said, Stop};
+pub use lookups::{Wanted, entry_between};
+pub use page::{FoundLine, OrStop, Page, Reopen, Said, Stop};
 pub use sentence::{Prose, Value, ending};
 pub use texts::{Purpose, TextFile, Texts};

@@ -1,6 +1,5 @@
 //! What is looked for in texts, and what records name and declare.
 
-use dimacs_network::ArcView;
 use dimacs_records::{At, Declared, End, Record};
 
 /// The line to look for.
@@ -20,8 +19,8 @@ pub enum Wanted {
     End(End),
     /// The arc with this number, from 1.
     Arc(u32),
-    /// The entry with these ends after others with them.
-    Entry { tail: u32, head: u32, before: u64 },
+    /// The entry with these ends after as many earlier ones.
+    Entry { tail: u32, head: u32, earlier: u64 },
     /// A query from this node.
     Query(u32),
     /// A query that names this node.
@@ -38,7 +37,10 @@ impl Wanted {
             Wanted::Node(id) => node_of(record) == Some(id),
             Wanted::Label { id, from } => line >= from && has_label(record, id),
             Wanted::End(wanted) => matches!(record, Record::MaxNode { end, .. } if end == wanted),
-            Wanted::Arc(_) => arc_of(record).is_some(),
+            Wanted::Arc(_) => matches!(
+                record,
+                Record::MaxArc { .. } | Record::MinArc { .. } | Record::GraphArc { .. }
+            ),
             Wanted::Entry { tail, head, .. } => entry_between(record, tail, head).is_some(),
             Wanted::Query(node) => query_from(record) == Some(node),
             Wanted::QueryNaming(node) => {
@@ -49,10 +51,10 @@ impl Wanted {
     }
 
     /// How many such lines come before it.
-    pub(crate) fn before(self) -> u64 {
+    pub(crate) fn earlier(self) -> u64 {
         match self {
             Wanted::Arc(number) => u64::from(number).saturating_sub(1),
-            Wanted::Entry { before, .. } => before,
+            Wanted::Entry { earlier, .. } => earlier,
             _ => 0,
         }
     }
@@ -108,29 +110,6 @@ pub(crate) fn declared(record: Record) -> Option<Declared> {
         _ => return None,
     };
     Some(Declared { nodes, count })
-}
-
-/// The arc of an arc line.
-pub fn arc_of(record: Record) -> Option<ArcView> {
-    let (tail, head, low, cap, cost) = match record {
-        Record::MaxArc { tail, head, cap } => (tail, head, 0, cap, 0),
-        Record::MinArc {
-            tail,
-            head,
-            low,
-            cap,
-            cost,
-        } => (tail, head, low, cap, cost),
-        Record::GraphArc { tail, head, weight } => (tail, head, 0, 0, weight),
-        _ => return None,
-    };
-    Some(ArcView {
-        tail,
-        head,
-        low,
-        cap,
-        cost,
-    })
 }
 
 /// The flow of an entry with these ends.

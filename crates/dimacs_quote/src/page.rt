@@ -27,14 +27,14 @@ pub enum Stop<'a> {
     /// This file can't be read again.
     Unread(&'a str),
     /// There is no more to say.
-    Said,
+    Done,
 }
 
-/// What was read of a text.
-pub type Read<'a, T> = Result<T, Stop<'a>>;
+/// A value, or why the explanation ends before it.
+pub type OrStop<'a, T> = Result<T, Stop<'a>>;
 
-/// Whether there is more to say.
-pub type Said<'a> = Read<'a, ()>;
+/// Nothing, or why the explanation ends.
+pub type Said<'a> = OrStop<'a, ()>;
 
 impl<'a> From<Memory> for Stop<'a> {
     fn from(_: Memory) -> Stop<'a> {
@@ -92,19 +92,19 @@ impl<'a, A: Reopen> Page<'a, A> {
     }
 
     /// A text, to be read again.
-    pub fn source(&self, text: TextFile<'a>) -> Read<'a, A::Input> {
+    pub fn source(&self, text: TextFile<'a>) -> OrStop<'a, A::Input> {
         self.again.open(text.file).ok_or(text.unread())
     }
 
     /// The lines of a text.
-    pub fn lines(&self, text: TextFile<'a>) -> Read<'a, TextLines<A::Input>> {
+    pub fn lines(&self, text: TextFile<'a>) -> OrStop<'a, TextLines<A::Input>> {
         Ok(TextLines::new(self.alloc, self.source(text)?, text.kind)?)
     }
 
     /// The line of a text that is wanted; none if there is none.
-    pub fn find(&self, text: TextFile<'a>, wanted: Wanted) -> Read<'a, Option<FoundLine>> {
+    pub fn find(&self, text: TextFile<'a>, wanted: Wanted) -> OrStop<'a, Option<FoundLine>> {
         let mut lines = self.lines(text)?;
-        let mut before = wanted.before();
+        let mut earlier = wanted.earlier();
         for _ in 0..MAX_LINES {
             let Some((line, record)) = lines.next() else {
                 break;
@@ -112,7 +112,7 @@ impl<'a, A: Reopen> Page<'a, A> {
             let Some(record) = record.filter(|record| wanted.is(line, *record)) else {
                 continue;
             };
-            if before == 0 {
+            if earlier == 0 {
                 let field = wanted.field();
                 let quote = quote(self.alloc, text.file, At { line, field }, lines.bytes());
                 return Ok(Some(FoundLine {
@@ -121,13 +121,13 @@ impl<'a, A: Reopen> Page<'a, A> {
                     quote,
                 }));
             }
-            before = before.saturating_sub(1);
+            earlier = earlier.saturating_sub(1);
         }
         Ok(None)
     }
 
     /// Quotes the line of a text that is wanted, and returns its record; none if there is none.
-    pub fn quote(&mut self, text: TextFile<'a>, wanted: Wanted) -> Read<'a, Option<Record>> {
+    pub fn quote(&mut self, text: TextFile<'a>, wanted: Wanted) -> OrStop<'a, Option<Record>> {
         let Some(found) = self.find(text, wanted)? else {
             return Ok(None);
         };
@@ -136,7 +136,7 @@ impl<'a, A: Reopen> Page<'a, A> {
     }
 
     /// The same for a line that has to be there.
-    pub fn quote_there(&mut self, text: TextFile<'a>, wanted: Wanted) -> Read<'a, Record> {
+    pub fn quote_there(&mut self, text: TextFile<'a>, wanted: Wanted) -> OrStop<'a, Record> {
         self.quote(text, wanted)?.ok_or(text.unread())
     }
 }

@@ -1,6 +1,6 @@
 //! The texts of a run, by their files.
 
-use crate::page::{Read, Stop};
+use crate::page::{OrStop, Stop};
 use dimacs_records::TextKind;
 
 /// A text of a run: its kind and its file.
@@ -36,19 +36,26 @@ pub struct Texts<'a> {
     purpose: Purpose,
     /// The only text of a run that has no other, and no files then.
     only: Option<TextFile<'a>>,
-    /// The kinds of the first files: those that the run reads.
     kinds: &'static [TextKind],
     files: &'a [String],
+    /// How many files, the first ones, the run reads. It writes the others.
+    read: usize,
 }
 
 impl<'a> Texts<'a> {
-    /// Those of a run over these files, which reads the first ones, of these kinds, and writes the others.
-    pub fn new(purpose: Purpose, kinds: &'static [TextKind], files: &'a [String]) -> Texts<'a> {
+    /// Those of a run over these files, of these kinds, of which it reads as many first ones, and writes the others.
+    pub fn new(
+        purpose: Purpose,
+        kinds: &'static [TextKind],
+        files: &'a [String],
+        read: usize,
+    ) -> Texts<'a> {
         Texts {
             purpose,
             only: None,
             kinds,
             files,
+            read,
         }
     }
 
@@ -56,12 +63,12 @@ impl<'a> Texts<'a> {
     pub fn one(kind: TextKind, file: &'a str) -> Texts<'a> {
         Texts {
             only: Some(TextFile { kind, file }),
-            ..Texts::new(Purpose::Decide, &[], &[])
+            ..Texts::new(Purpose::Decide, &[], &[], 0)
         }
     }
 
     /// The text in which a fault of this kind is.
-    pub fn of_kind(&self, kind: TextKind) -> Read<'a, TextFile<'a>> {
+    pub fn of_kind(&self, kind: TextKind) -> OrStop<'a, TextFile<'a>> {
         match self.only {
             Some(text) => Ok(text),
             None => self.one_of(&[kind]),
@@ -69,56 +76,43 @@ impl<'a> Texts<'a> {
     }
 
     /// The instance.
-    pub fn instance(&self) -> Read<'a, TextFile<'a>> {
+    pub fn instance(&self) -> OrStop<'a, TextFile<'a>> {
         self.one_of(&[TextKind::Max, TextKind::Min, TextKind::Graph])
     }
 
-    /// Queries, a solution or distances.
-    pub fn claim(&self) -> Read<'a, TextFile<'a>> {
+    /// Queries, a solution or distances; of a solver, what it writes.
+    pub fn claim(&self) -> OrStop<'a, TextFile<'a>> {
         self.one_of(&[TextKind::Queries, TextKind::Solution, TextKind::Distances])
     }
 
-    /// The certificate.
-    pub fn certificate(&self) -> Read<'a, TextFile<'a>> {
+    /// The certificate, given or written.
+    pub fn certificate(&self) -> OrStop<'a, TextFile<'a>> {
         self.one_of(&[TextKind::Cut, TextKind::Potentials, TextKind::Labels])
     }
 
     /// The text that is tested against the instance: the certificate, or distances.
-    pub fn tested(&self) -> Read<'a, TextFile<'a>> {
+    pub fn tested(&self) -> OrStop<'a, TextFile<'a>> {
         self.one_of(&[TextKind::Distances]).or(self.certificate())
     }
 
     /// The text of one of these kinds.
-    fn one_of(&self, kinds: &[TextKind]) -> Read<'a, TextFile<'a>> {
+    fn one_of(&self, kinds: &[TextKind]) -> OrStop<'a, TextFile<'a>> {
         for (kind, file) in self.kinds.iter().zip(self.files) {
             if kinds.contains(kind) {
                 let (kind, file) = (*kind, file.as_str());
                 return Ok(TextFile { kind, file });
             }
         }
-        Err(Stop::Said)
+        Err(Stop::Done)
     }
 
-    /// A file of the run, from 0.
-    pub fn file(&self, place: usize) -> Option<&'a str> {
-        self.files.get(place).map(String::as_str)
-    }
-
-    /// The file of the certificate, given or written; none if a certifier drops it.
-    pub fn certificate_file(&self) -> Option<&'a str> {
-        match self.certificate() {
-            Ok(text) => Some(text.file),
-            Err(_) => self.files_written().last().map(String::as_str),
-        }
-    }
-
-    /// The files of all texts but one that is alone.
+    /// The files that the run reads, but for one that is alone.
     pub fn files_read(&self) -> &'a [String] {
-        self.files.get(..self.kinds.len()).unwrap_or_default()
+        self.files.get(..self.read).unwrap_or_default()
     }
 
     fn files_written(&self) -> &'a [String] {
-        self.files.get(self.kinds.len()..).unwrap_or_default()
+        self.files.get(self.read..).unwrap_or_default()
     }
 
     /// The file that the run may write once it has read the others.

@@ -51,7 +51,7 @@ fn write_explanation<A: Reopen, K: Sink>(
     if let Ok(status) = ended
         && is_explained(job, *status)
         && let Some(report) = output.report()
-        && let Ok(text) = explanation(alloc, job, report, again)
+        && let Ok(text) = explanation(alloc, job, report, output.made(), again)
     {
         let _ = put_all(output, text.as_bytes());
     }
@@ -73,9 +73,10 @@ fn explanation<A: Reopen>(
     alloc: Global,
     job: Job<'_>,
     report: &Report,
+    made: Option<i128>,
     again: &A,
 ) -> Result<String, Memory> {
-    let mut text = Explanation::new(alloc, again, texts_of(job));
+    let mut text = Explanation::new(alloc, again, texts_of(job), made);
     match report {
         Report::Yes(verdict) => explain_yes(alloc, job, Some(verdict), again, &mut text),
         Report::Distances(_) => explain_yes(alloc, job, None, again, &mut text),
@@ -94,9 +95,9 @@ fn explain_yes<A: Reopen>(
     again: &A,
     text: &mut Explanation<'_, A>,
 ) {
-    match texts_of(job).certificate_file() {
-        Some(file) => text.explain_yes(verdict, again.open(file)),
-        None => {
+    match texts_of(job).certificate() {
+        Ok(written) => text.explain_yes(verdict, again.open(written.file)),
+        Err(_) => {
             let made = dropped_certificate(alloc, job, again);
             let certificate = made.as_ref().map(|made| MemorySource::new(made.bytes()));
             text.explain_yes(verdict, certificate);

@@ -48,6 +48,14 @@ impl OutputText {
         }
     }
 
+    /// The value or the cost of a solution.
+    fn value(&self) -> Option<i128> {
+        match self {
+            OutputText::Solution(solution) => Some(solution.value),
+            _ => None,
+        }
+    }
+
     fn write<K: Sink>(&self, sink: &mut K) -> Result<(), DeviceFault>
         ensures puts { Puts result (K.seen sink.old) (text_bytes self.now) (K.seen sink.new) }
         ensures nothing_written { self.now ≡ Nothing → sink.new ≡ sink.old }
@@ -123,6 +131,6 @@ pub(crate) fn write_outcome<C: Sink, D: Sink, K: ReportSink>(
     outcome.certificate.write(certificate)?;
     outcome.report.write(report)?;
     let status = outcome.report.status();
-    report.keep(outcome.report);
+    report.keep(outcome.report, outcome.certificate.value());
     Ok(status)
 }

@@ -58,17 +58,18 @@ impl Report {
 
 /// An output for the lines of a report, which is also handed the report itself.
 pub trait ReportSink: Sink {
-    /// Takes a report whose lines were written.
-    fn keep(&mut self, report: Report)
+    /// Takes a report whose lines were written. `made` is the value or the cost of the solution that was made in place of
+    /// a certificate; none without one.
+    fn keep(&mut self, report: Report, made: Option<i128>)
         ensures { Self.seen self.new ≡ Self.seen self.old };
 }
 
 /// It drops the report.
 impl ReportSink for MemorySink {
-    fn keep(&mut self, _report: Report) {}
+    fn keep(&mut self, _report: Report, _made: Option<i128>) {}
 }
 
 /// It drops the report.
 impl<W: Write> ReportSink for FileSink<W> {
-    fn keep(&mut self, _report: Report) {}
+    fn keep(&mut self, _report: Report, _made: Option<i128>) {}
 }

@@ -10,6 +10,7 @@ use dimacs_lines::{DeviceFault, Sink};
 pub struct ReportKeeper<K> {
     sink: K,
     report: Option<Report>,
+    made: Option<i128>,
 }
 
 impl<K> ReportKeeper<K> {
@@ -17,7 +18,11 @@ impl<K> ReportKeeper<K> {
     pub fn new(sink: K) -> ReportKeeper<K>
         ensures { result.sink ≡ sink }
     {
-        ReportKeeper { sink, report: None }
+        ReportKeeper {
+            sink,
+            report: None,
+            made: None,
+        }
     }
 
     /// The sink inside.
@@ -31,6 +36,11 @@ impl<K> ReportKeeper<K> {
     pub(crate) fn report(&self) -> Option<&Report> {
         self.report.as_ref()
     }
+
+    /// The value or the cost of the solution that was made in place of a certificate.
+    pub(crate) fn made(&self) -> Option<i128> {
+        self.made
+    }
 }
 
 impl<K: Sink> Sink for ReportKeeper<K> {
@@ -42,7 +52,8 @@ impl<K: Sink> Sink for ReportKeeper<K> {
 }
 
 impl<K: Sink> ReportSink for ReportKeeper<K> {
-    fn keep(&mut self, report: Report) {
+    fn keep(&mut self, report: Report, made: Option<i128>) {
         self.report = Some(report);
+        self.made = made;
     }
 }

@@ -122,7 +122,8 @@ _RETOLD = [
     (r" \(line \d+\)", ""),
     (r"\bthe (cut|set) in \w+ ", r"the \1 "),
     (r"^this flow is feasible,", "the flow in `better` is feasible,"),
-    (r": (if its cost can be written, )?\w+ has one$", ": it is in `flow`"),
+    (r" feasible flow, (which|whose) cost.*$", " feasible flow: it is in `flow`"),
+    (r" better one, whose cost.*$", " better one: it is in `better`"),
     (r": to find out, run dimacs certify-.*$", ": to find out, certify it"),
 ]
 

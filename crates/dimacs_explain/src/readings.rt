@@ -1,0 +1,71 @@
+//! The values of a run's texts, read again.
+
+use crate::explanation::Explanation;
+use dimacs_claims::{Cut, Labels, Solution, read_cut, read_distances, read_labels, read_solution};
+use dimacs_instance::{
+    Graph, MaxInstance, MinInstance, read_plain_graph, read_plain_max, read_plain_min,
+};
+use dimacs_judging::{Flow, flow_of};
+use dimacs_lines::Source;
+use dimacs_network::{ArcView, CapacityArc, Network, PlainArcs, WeightArc};
+use dimacs_quote::{OrStop, Reopen, Stop, TextFile};
+use dimacs_records::TextKind;
+
+impl<'a, A: Reopen> Explanation<'a, A> {
+    /// The instance of a maximum flow.
+    pub(crate) fn max_instance(&self) -> OrStop<'a, MaxInstance<PlainArcs<CapacityArc>>> {
+        let text = self.page.texts.instance()?;
+        read_plain_max(self.page.alloc, &mut self.page.source(text)?).map_err(|_| text.unread())
+    }
+
+    /// The instance of a minimum cost flow.
+    pub(crate) fn min_instance(&self) -> OrStop<'a, MinInstance<PlainArcs<ArcView>>> {
+        let text = self.page.texts.instance()?;
+        read_plain_min(self.page.alloc, &mut self.page.source(text)?).map_err(|_| text.unread())
+    }
+
+    /// The graph.
+    pub(crate) fn graph(&self) -> OrStop<'a, Graph<PlainArcs<WeightArc>>> {
+        let text = self.page.texts.instance()?;
+        read_plain_graph(self.page.alloc, &mut self.page.source(text)?).map_err(|_| text.unread())
+    }
+
+    /// The claimed solution.
+    pub(crate) fn solution(&self) -> OrStop<'a, Solution> {
+        let text = self.page.texts.claim()?;
+        read_solution(self.page.alloc, &mut self.page.source(text)?).map_err(|_| text.unread())
+    }
+
+    /// The flow of the claimed solution.
+    pub(crate) fn flow<N: Network>(&self, network: &N) -> OrStop<'a, Flow> {
+        let solution = self.solution()?;
+        let Ok(flow) = flow_of(self.page.alloc, network, &solution) else {
+            return Err(Stop::Done);
+        };
+        Ok(flow)
+    }
+
+    /// A set of nodes.
+    pub(crate) fn set<R: Source>(&self, certificate: &mut R) -> OrStop<'a, Cut> {
+        let Ok(set) = read_cut(self.page.alloc, certificate) else {
+            return Err(Stop::Done);
+        };
+        Ok(set)
+    }
+
+    /// Labels, or distances as labels.
+    pub(crate) fn labels(&self, text: TextFile<'a>) -> OrStop<'a, Labels> {
+        let mut source = self.page.source(text)?;
+        let labels = match text.kind {
+            TextKind::Distances => match read_distances(self.page.alloc, &mut source) {
+                Ok(distances) => Ok(distances.into_labels()),
+                Err(error) => Err(error),
+            },
+            _ => read_labels(self.page.alloc, &mut source),
+        };
+        match labels {
+            Ok(labels) => Ok(labels),
+            Err(_) => Err(Stop::Memory),
+        }
+    }
+}
