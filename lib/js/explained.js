@@ -51,8 +51,9 @@ export function explanationOf(answer) {
 export function explanation(command, given, shown) {
     const words = bytesOf(commandOf(command, given.length, shown));
     const {handed: [lines]} = texts.explain(words, given.map(bytesOf));
-    // Nothing was written here: a run of the command empties its files.
-    return inFormOf("", lines).replace(/^.* is empty: a solve run creates.*\n/gm, "");
+    // Nothing was written here: a run of the command empties its files, and writes a flow to one.
+    const told = inFormOf("", lines).replace(/^.* is empty: a solve run creates.*\n/gm, "");
+    return told.replace(/: it goes to (\w+)$/gm, ": it is in `$1`");
 }
 
 // ---- arrays

@@ -90,7 +90,7 @@ class Texts(Explained):
         flow = self.refused(dimacs.certify_infeasible, MIN).splitlines()
         costs = "the instance has a feasible flow, which costs "
         self.assertEqual(flow[0], "x instance 0 0 Feasible")
-        self.assertRegex(flow[1], f"^{costs}[0-9]+: it goes to flow$")
+        self.assertRegex(flow[1], f"^{costs}[0-9]+: it is in `flow`$")
         self.assertEqual(self.refused(dimacs.solve_min, SURPLUS), dimacs.certify_infeasible(SURPLUS).explain())
         unknown = self.refused(dimacs.spread_max, MAX, "s 0\nf 4 3 2\n").splitlines()
         self.assertEqual(unknown[2:], ["instance has no arc from 4 to 3", "arc 5 leads from 3 to 4"])

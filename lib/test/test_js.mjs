@@ -258,7 +258,7 @@ const CASES = {
         assert.match(thrown(() => dimacs.judgeMax(MAX, "s 4\nf 1 2 4\n", CUT)).explain(), balance);
         const better = thrown(() => dimacs.certifyMax(MAX, "s 0\n")).explain();
         assert.match(better, /\nbetter:1: s 6\nthis flow is feasible, and has 6 more than the 0 that is claimed\n$/);
-        const feasible = /^x instance 0 0 Feasible\n.*, which costs \d+: it goes to flow\n$/;
+        const feasible = /^x instance 0 0 Feasible\n.*, which costs \d+: it is in `flow`\n$/;
         assert.match(thrown(() => dimacs.certifyInfeasible(MIN)).explain(), feasible);
         const unmet = /: no flow is feasible\n$/;
         assert.match(thrown(() => dimacs.solveMin(SHORT)).explain(), unmet);

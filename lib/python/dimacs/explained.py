@@ -73,8 +73,9 @@ class Asked:
 
     def lines(self) -> list[str]:
         lines = _explanation(self.command(), self._texts)
-        # Nothing was written here: a run of the command empties its files.
-        return [it for it in lines if " is empty: a solve run creates" not in it]
+        # Nothing was written here: a run of the command empties its files, and writes a flow to one.
+        lines = [it for it in lines if " is empty: a solve run creates" not in it]
+        return [re.sub(r": it goes to (\w+)$", r": it is in `\1`", it) for it in lines]
 
     def explain(self) -> str:
         return "".join(f"{it}\n" for it in self.lines())
