@@ -55,7 +55,7 @@ impl<'a, A: Reopen> Explanation<'a, A> {
     /// The cost of the solution's flow.
     fn claimed_cost(&self) -> OrStop<'a, i128> {
         let min = self.min_instance()?;
-        let flow = self.flow(min.network())?;
+        let flow = self.flow(min.network(), &self.solution()?)?;
         Ok(cost_of(min.network(), &flow))
     }
 

@@ -36,10 +36,9 @@ impl<'a, A: Reopen> Explanation<'a, A> {
         read_solution(self.page.alloc, &mut self.page.source(text)?).map_err(|_| text.unread())
     }
 
-    /// The flow of the claimed solution.
-    pub(crate) fn flow<N: Network>(&self, network: &N) -> OrStop<'a, Flow> {
-        let solution = self.solution()?;
-        let Ok(flow) = flow_of(self.page.alloc, network, &solution) else {
+    /// The flow of a solution.
+    pub(crate) fn flow<N: Network>(&self, network: &N, solution: &Solution) -> OrStop<'a, Flow> {
+        let Ok(flow) = flow_of(self.page.alloc, network, solution) else {
             return Err(Stop::Done);
         };
         Ok(flow)

@@ -7,7 +7,7 @@ use crate::explanation::Explanation;
 use dimacs_claims::{Cut, Labels, Potentials, read_labels, read_potentials};
 use dimacs_instance::{MaxInstance, MinInstance, Queries, read_queries};
 use dimacs_judging::{
-    JudgeError, Verdict, index_for, judge_infeasible, judge_max, judge_min, judge_paths,
+    Flow, JudgeError, Verdict, index_for, judge_infeasible, judge_max, judge_min, judge_paths,
 };
 use dimacs_lines::Source;
 use dimacs_network::Network;
@@ -80,10 +80,21 @@ impl<'a, A: Reopen> Explanation<'a, A> {
         min: &MinInstance<N>,
         potentials: &Potentials,
     ) -> OrStop<'a, Verdict> {
-        let verdict = judged(judge_min(self.page.alloc, min, &self.solution()?, potentials))?;
-        self.write_claimed_cost(min.network())?;
+        let (verdict, flow) = self.judged_flow(min, potentials)?;
+        self.write_cost(min.network(), &flow);
         self.explain_least(min, potentials);
         Ok(verdict)
+    }
+
+    /// The verdict on the solution, and its flow.
+    fn judged_flow<N: Network>(
+        &self,
+        min: &MinInstance<N>,
+        potentials: &Potentials,
+    ) -> OrStop<'a, (Verdict, Flow)> {
+        let solution = self.solution()?;
+        let verdict = judged(judge_min(self.page.alloc, min, &solution, potentials))?;
+        Ok((verdict, self.flow(min.network(), &solution)?))
     }
 
     fn potentials<R: Source>(&self, certificate: &mut R) -> OrStop<'a, Potentials> {
@@ -91,12 +102,6 @@ impl<'a, A: Reopen> Explanation<'a, A> {
             return Err(Stop::Done);
         };
         Ok(potentials)
-    }
-
-    fn write_claimed_cost<N: Network>(&mut self, network: &N) -> Said<'a> {
-        let flow = self.flow(network)?;
-        self.write_cost(network, &flow);
-        Ok(())
     }
 
     fn infeasible<R: Source>(&mut self, certificate: &mut R) -> OrStop<'a, Verdict> {
