@@ -38,12 +38,12 @@ pub struct Texts<'a> {
     only: Option<TextFile<'a>>,
     kinds: &'static [TextKind],
     files: &'a [String],
-    /// How many files, the first ones, the run reads. It writes the others.
+    /// How many of the files, from the first one on, the run reads. It writes the others.
     read: usize,
 }
 
 impl<'a> Texts<'a> {
-    /// Those of a run over these files, of these kinds, of which it reads as many first ones, and writes the others.
+    /// Those of a run over these files, of these kinds. It reads the first ones, as many as `read`, and writes the others.
     pub fn new(
         purpose: Purpose,
         kinds: &'static [TextKind],
