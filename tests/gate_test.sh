@@ -199,7 +199,7 @@ printf '#!/bin/sh\necho installed\n' >"$room/debian/dpkg-query"
 printf '#!/bin/sh\nexit 1\n' >"$room/debian/apt-get"
 prints OK env PATH="$room/debian:$PATH" "$one/.ci/run"
 
-# How a check names the function of an impl, and a tenth of 31 wrong bodies, which is the same for a seed.
+# How a check names the function of an impl, and a tenth of 400 wrong bodies, which is the same for a seed.
 python '
 import types, try_bodies as it
 owners = {
@@ -213,9 +213,9 @@ owners = {
     "pub trait Network {": "Network",
 }
 assert {block: it.owner_of(block) for block in owners} == owners
-every = [types.SimpleNamespace(name=str(n), functions=[n], result=None) for n in range(31)]
-first, again, other = (it.tenth_of(list(every), seed) for seed in ("a", "a", "b"))
-print("OK" if len(first) == 4 and first == again != other else [first, again, other])'
+every = [types.SimpleNamespace(crate=n % 5, name=n, functions=[n], result=None, may_have_twin=lambda: True) for n in range(400)]
+first, again, other = (it.tenth_of(every, seed) for seed in ("a", "a", "b"))
+print("OK" if 40 <= len(first) < 40 + it.EDITS and first == again != other else [first, again, other])'
 
 # What was built is that of the sources only as long as none of them changes, whatever its time.
 kit=$room/kit

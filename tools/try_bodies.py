@@ -2,7 +2,7 @@
 """Has wrong bodies refused: tools/try_bodies.py [--apply] [--tenth SEED] [--over-ci] [CRATE..]
 
 They are mistakes made on purpose, and a contract has to refuse each. Without a crate's name those of all are tried. With
---tenth it is a tenth of each crate's, which SEED picks, without those that take a proof of the whole crate.
+--tenth it is a tenth of them, which SEED picks by whole checks, without those that take a proof of the whole crate.
 
 One check of a copy of a crate tries many. Most are tried on a twin: the function stays as it is, and after it, under
 another name, comes one with its contract, its proof files and the wrong body. A method of a trait can have no twin, nor
@@ -42,7 +42,7 @@ from texts import TOP, read, write
 
 # The checks that run at once, and the edits in one of them.
 JOBS = os.cpu_count()
-EDITS = 48
+EDITS = 24
 
 REFUSED, PROVED, BAD, LEFT = "refused", "proved", "bad", "left"
 
@@ -429,21 +429,24 @@ def apply(crates):
 
 
 def tenth_of(edits, seed):
-    """A tenth of a crate's edits, and one at least: those whose names come first in an order that the seed gives."""
-    quick = [it for it in edits if it.functions or it.result]
-    quick.sort(key=lambda it: hashlib.sha256(f"{seed} {it.name}".encode()).digest())
-    return quick[: -(-len(edits) // 10)]
+    """A tenth of the edits, and what is bad: the groups that come first in an order that the seed gives."""
+    crates = dict.fromkeys(it.crate for it in edits)
+    groups = [group for crate in crates for group in groups_of([it for it in edits if it.crate == crate])]
+    groups.sort(key=lambda it: hashlib.sha256(f"{seed} {it[0].crate} {it[0].name}".encode()).digest())
+    found = [it for it in edits if it.result]
+    for group in groups:
+        found += group if len(found) < len(edits) / 10 else []
+    return found
 
 
 def attempt(crates, seed, is_over_ci):
     """Tries the edits of these crates, and answers how many aren't refused."""
-    of_crates = {crate: list(map(Edit, bodies.edits_of(crate))) for crate in crates}
+    edits = [Edit(it) for crate in crates for it in bodies.edits_of(crate)]
     if seed:
         print(f"--tenth {seed} tries these again")
-        of_crates = {crate: tenth_of(edits, seed) for crate, edits in of_crates.items()}
-    for crate in [] if is_over_ci else crates:
+        edits = tenth_of(edits, seed)
+    for crate in [] if is_over_ci else dict.fromkeys(it.crate for it in edits):
         build(crate)
-    edits = [it for edits in of_crates.values() for it in edits]
     return print_results(edits, try_all(edits, bool(seed)))
 
 
