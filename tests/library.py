@@ -1,13 +1,13 @@
 #!/usr/bin/env python3
-"""Tests the library for C, C++, Python and Rust: tests/library.py [--build FOLDER] [--instances N]
+"""Tests the library for C, C++, Python and Rust: tests/library.py [--build FOLDER] [--instances N] [LAYER..]
 
 FOLDER is where `make` built the library and the program: build, or build/quick for those that aren't proved. It runs
 what stands in lib/test: in C, under sanitizers if they fit and by valgrind, the calls over texts and arrays with room and
 without, in eight threads, and with each growth of memory refused in turn; in C++, by `c++`, or `clang++` and its
 sanitizers, dimacs.hpp, and over it what LEMON and Boost answer; the crate for Cargo; and in Python, by each of `python3`
 and /usr/bin/python3, also arrays of a million items, texts of 100 MB, and networkx' own tests of what the backend of it
-answers. N random small instances in arrays are compared with the texts that are printed from them. Then it installs the
-wheel and calls it, and builds and runs what docs/LIBRARY.md shows.
+answers. It installs the wheel and calls it, and builds and runs what docs/LIBRARY.md shows. Then N random small instances
+in arrays are compared with the texts that are printed from them. LAYERs are some of these.
 
 What needs a tool that isn't there is left out, and named; what Debian doesn't have apart. Each layer has a least number
 that has to pass in it if nothing of it is left out. The last line counts what passed and what failed.
@@ -331,14 +331,14 @@ def wanted_status(lines):
     return int(lines.startswith("x ") and "\nv " not in lines)
 
 
-# The layers: what tests each, and the least that passes in it.
+# The layers but for that of the arrays: what tests each, and the least that passes in it.
 LAYERS = {
     "C": (test_c, 2260),
     "C++": (test_cpp, 1100),
     "Rust": (test_cargo, 37),
     "Python": (test_python, 120),
     "wheel": (test_wheel, 1),
-    "docs/LIBRARY.md": (test_page, 16),
+    "page": (test_page, 16),
 }
 
 
@@ -346,11 +346,15 @@ def main():
     words = argparse.ArgumentParser(description="Tests the library for C, C++, Python and Rust.")
     words.add_argument("--build", default=f"{TOP}/build", help="the folder of the library and the program")
     words.add_argument("--instances", type=int, default=8_000, help="how many are compared in arrays and as texts")
+    words.add_argument("layers", nargs="*", metavar="LAYER", help=f"{', '.join(LAYERS)} or arrays; all, if none is named")
     asked = words.parse_args()
     agree = functools.partial(test_agreement, instances=asked.instances)
-    layers = {**LAYERS, "arrays and texts": (agree, asked.instances)}
+    layers = {**LAYERS, "arrays": (agree, asked.instances)}
+    if not set(asked.layers) <= set(layers):
+        words.error(f"a LAYER is one of {', '.join(layers)}")
     passed = failed = 0
-    for layer, (test, least) in layers.items():
+    for layer in asked.layers or layers:
+        test, least = layers[layer]
         with tempfile.TemporaryDirectory() as place:
             counts = Counts()
             test(counts, os.path.abspath(asked.build), place)

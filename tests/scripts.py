@@ -28,8 +28,10 @@ nothing | 400    | tests/links.py
 nothing | 13     | tests/theorem.py
 nothing | 40     | tests/completion.py
 nothing | 110    | tests/man_pages.py
-build   | 10000  | tests/library.py --build {build} --instances 5000
+build   | 120    | tests/library.py --build {build} Python wheel
+build   | 1100   | tests/library.py --build {build} C++
 build   | 11400  | tests/referee.py {build}/dimacs
+build   | 7300   | tests/library.py --build {build} --instances 5000 C Rust page arrays
 build   | 51     | tests/batch.py {build}/dimacs
 build   | 150    | tests/large_runs.py {build}/dimacs
 build   | 40     | tests/malicious.py {build}/dimacs 50000
