@@ -14,8 +14,8 @@ import time
 
 TOP = os.path.dirname(os.path.dirname(os.path.abspath(__file__)))
 
-# What runs side by side: what it needs, how much has to pass in it, and its commands, one after the other. What needs
-# nothing that is built comes first, and of each kind what takes longest.
+# What runs side by side: what it needs, how much has to pass in it, and its commands, one after the other. First comes
+# what needs nothing that is built, then what needs the program alone, and of the rest what takes longest.
 TABLE = """
 nothing | 28     | tests/second_proof.py
 nothing | 420    | tests/lower_addresses.py
@@ -28,24 +28,24 @@ nothing | 400    | tests/links.py
 nothing | 13     | tests/theorem.py
 nothing | 40     | tests/completion.py
 nothing | 110    | tests/man_pages.py
-build   | 120    | tests/library.py --build {build} Python wheel
-build   | 1100   | tests/library.py --build {build} C++
-build   | 11400  | tests/referee.py {build}/dimacs
-build   | 7300   | tests/library.py --build {build} --instances 5000 C Rust page arrays
-build   | 51     | tests/batch.py {build}/dimacs
-build   | 150    | tests/large_runs.py {build}/dimacs
-build   | 40     | tests/malicious.py {build}/dimacs 50000
-build   | 101    | tests/refusals.py {build}/dimacs {tests}
-build   | 650    | tests/draw.py {build}/dimacs
-build   | 1050   | tests/rows.py {build}/dimacs
-build   | 1050   | tests/explain.py {build}/dimacs 80
-build   | 43     | tests/install.py {build}
-build   | 50     | tests/usage.py {build}/dimacs
-build   | 50     | tests/shown_runs.py {build}/dimacs
-build   | 28     | tests/abi.py {build}
-build   | 13     | tests/version.py {build}
+program | 11400  | tests/referee.py {program}
+program | 51     | tests/batch.py {program}
+program | 150    | tests/large_runs.py {program}
+program | 40     | tests/malicious.py {program} 50000
+program | 101    | tests/refusals.py {program} {tests}
+program | 650    | tests/draw.py {program}
+program | 1050   | tests/rows.py {program}
+program | 1050   | tests/explain.py {program} 80
+program | 50     | tests/usage.py {program}
+program | 50     | tests/shown_runs.py {program}
 proved  | 6000   | tests/targets.py --build {build}
 proved  | 60     | tools/dist.py ; tests/packages.py dist
+build   | 120    | tests/library.py --build {build} Python wheel
+build   | 1100   | tests/library.py --build {build} C++
+build   | 7300   | tests/library.py --build {build} --instances 5000 C Rust page arrays
+build   | 43     | tests/install.py {build}
+build   | 28     | tests/abi.py {build}
+build   | 13     | tests/version.py {build}
 """
 
 COUNTED = re.compile(r"^(\d+) passed, (\d+) failed\b[^\n]*\n?\Z", re.MULTILINE)
