@@ -21,6 +21,7 @@ nothing | 28     | tests/second_proof.py
 nothing | 420    | tests/lower_addresses.py
 nothing | 42     | tests/gate_test.sh
 nothing | 0      | tools/try_bodies.py --apply
+nothing | 0      | tools/group_imports.py --check
 nothing | 0      | tools/believed.py
 nothing | 0      | tools/crate_tables.py --check
 nothing | 750    | tests/promises.py

@@ -24,6 +24,8 @@ from texts import TOP as ROOT, read
 
 # the limits all stand in one file
 KEPT = ["Limits.antt"]
+# a member of an import's braces, which may have braces of its own, two levels deep
+MEMBER = re.compile(r"(?:[^{},]|\{(?:[^{}]|\{[^{}]*\})*\})+")
 WORD = re.compile(r"[^\s(){}\[\],.;:]+")
 STARTS = re.compile(r"(?:  )?(?:(?:abbrev|unfoldable|opaque|inductive|data|record|def) pub|pub (?:record|data|abbrev|inductive)|record|data) (\S+)")
 
@@ -40,15 +42,25 @@ SEEN = re.compile(
 INVARIANT = re.compile(r"^ *ghost invariant = .*?};$", re.M | re.S)
 
 
+def imported(path, before=""):
+    """What `A.{B.{c as d}, e}` names: (A.B, c, d) and (A, e, None)."""
+    module, braces, names = path.partition(".{")
+    if not braces:
+        name, _, alias = module.partition(" as ")
+        yield before, name, alias or None
+        return
+    for it in map(str.strip, MEMBER.findall(names[:-1])):
+        yield from imported(it, f"{before}.{module}" if before else module)
+
+
 def imports(text):
     """What each name of a file stands for: (module, name) for a name, (module, None) for a module."""
     named = {}
-    for module, names, alias in re.findall(r"^ *(?:ghost )?use ([\w.+«»]+?)(?:\.\{([^}]*)\})?(?: as (\w+))?;?$", text, re.M):
-        if names:
-            for name, renamed in re.findall(r"([^\s,]+)(?:\s+as\s+([^\s,]+))?", names):
-                named[renamed or name] = (module, name)
+    for path, alias in re.findall(r"^ *(?:ghost )?use ([\w.+«»]+(?:\.\{.*\})?)(?: as (\w+))?;?$", text, re.M):
+        if path.endswith("}"):
+            named.update({renamed or name: (module, name) for module, name, renamed in imported(path)})
         else:
-            named[alias or module.rpartition(".")[2]] = (module, None)
+            named[alias or path.rpartition(".")[2]] = (path, None)
     return named
 
 

@@ -1,18 +1,14 @@
 -- The answer of a call over arrays, by the part that fails.
 use Rattle.std.proofs.Common.{◌≡◌, ◌==◌, Bool, true, false, List, [], ◌∷◌, ◌++◌, Option, None, Some, Result, Ok, Err, cond, refl, subst, ◌∙◌}
+use Rattle.std.proofs.{lemmas.Bool.{eqb-true}, lemmas.Result.{err_from_is_err_and}}
 use Rattle.std.specs.Prelude.{IsErrAnd}
-use Rattle.std.proofs.lemmas.Bool.{eqb-true}
-use Rattle.std.proofs.lemmas.Result.{err_from_is_err_and}
-use Rattle.dimacs_judging.specs.declared.verdict.JudgeError.{JudgeError}
-use Rattle.dimacs_judging.specs.declared.verdict.JudgeError.TheVariants as judged
-use Rattle.dimacs_judging.specs.Tests.{Row, AllClear}
+use Rattle.dimacs_judging.specs.{declared.verdict.JudgeError.{JudgeError}, Tests.{Row, AllClear}}
 use Rattle.dimacs_judging.proofs.Firsts.{AllOneWay, none_first, one_first}
-use Rattle.dimacs_arrays.specs.declared.error.Array.{Array}
-use Rattle.dimacs_arrays.specs.declared.error.ArrayError.{ArrayError}
-use Rattle.dimacs_arrays.specs.declared.error.ArrayError.TheVariants as errors
-use Rattle.dimacs_arrays.specs.declared.lengths.ArrayLength.{ArrayLength}
+use Rattle.dimacs_arrays.specs.{declared.error.Array.{Array}, declared.error.ArrayError.{ArrayError}}
+use Rattle.dimacs_arrays.specs.{declared.lengths.ArrayLength.{ArrayLength}, inside.Answers.{Spells, TestsLengths}}
 use Rattle.dimacs_arrays.specs.Answers.{AnswersArrays, first_misfit, of_judge}
-use Rattle.dimacs_arrays.specs.inside.Answers.{Spells, TestsLengths}
+use Rattle.dimacs_judging.specs.declared.verdict.JudgeError.TheVariants as judged
+use Rattle.dimacs_arrays.specs.declared.error.ArrayError.TheVariants as errors
 
 -- each array has the right length
 abbrev pub AllFit : List ArrayLength → Type 0

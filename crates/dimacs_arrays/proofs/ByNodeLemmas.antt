@@ -3,24 +3,19 @@ use Rattle.std.proofs.Common.{◌≡◌, inl, inr, ℕ, zero, suc, ◌+◌, ◌<
 use Rattle.std.proofs.Math.Path.{fun_ext}
 use mir.Val.{bool_byte}
 use Rattle.std.specs.Prelude.{ℤ, pos, neg_ℤ, ◌+ℤ◌, ◌≤ℤ◌, nat_lt, if◌then◌else◌, unwrap_or, IfNone, IfOk}
-use Rattle.std.specs.List.{range_with_len}
-use Rattle.std.specs.Ordering.{int_eq, nat_cmp}
-use Rattle.std.specs.Cmp.{signed_Decides}
+use Rattle.std.specs.{List.{range_with_len}, Ordering.{int_eq, nat_cmp}, Cmp.{signed_Decides}}
 use Rattle.std.specs.FinMap.{empty, get, insert, remove}
 use Rattle.std.proofs.lemmas.Bool.{cases_Bool, cases_lt, cases_order, eq-eqb, le-ltb, lt-ltb, ne_eqb}
-use Rattle.std.proofs.lemmas.List.{get_or_past}
-use Rattle.std.proofs.lemmas.List.Elements.{All-cons, All-nil}
+use Rattle.std.proofs.{lemmas.List.{get_or_past}, lemmas.List.Elements.{All-cons, All-nil}, lemmas.Int.{by_lt_z, ints}}
 use Rattle.std.proofs.lemmas.List.FromFn.{get_or-map-range_with_len, length-map-range_with_len}
 use Rattle.dimacs_network.proofs.Nodes.{contains-empty, contains-insert, get-empty, get-insert}
-use Rattle.std.proofs.lemmas.Int.{by_lt_z, ints}
 use Rattle.dimacs_records.specs.Ranges.{IsWide}
 use Rattle.dimacs_lines.specs.Limits.{IsNode}
 use Rattle.dimacs_records.proofs.ZeroLemmas.{get-removed}
 use Rattle.dimacs_claims.specs.Cuts.{CutValue, IsCut, empty_cut, with_node}
 use Rattle.dimacs_claims.specs.Potentials.{PotentialsValue, potential_of, with_potential, zero_potentials}
 use Rattle.dimacs_judging.specs.Cuts.{members}
-use Rattle.dimacs_arrays.specs.inside.MinCertified.{AreShifted, IsLeastOf, IsWiderBy}
-use Rattle.dimacs_arrays.specs.MinArrays.{IsWider}
+use Rattle.dimacs_arrays.specs.{inside.MinCertified.{AreShifted, IsLeastOf, IsWiderBy}, MinArrays.{IsWider}}
 use Rattle.dimacs_arrays.specs.ByNode.{AreBits, marked, number_of}
 
 -- the items of the first n nodes, and none for the others

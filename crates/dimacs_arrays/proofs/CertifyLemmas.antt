@@ -1,44 +1,31 @@
 -- Certifying flows over arrays.
 use Rattle.std.proofs.Common.{◌≡◌, ℕ, List, [], ◌∷◌, All, length, ℤ, pos, ◌+ℤ◌, ◌<ℤ◌, arith, inl, sym, subst, ◌∙◌, Result}
-use Rattle.std.specs.Prelude.{IsErrAnd}
-use Rattle.std.specs.List.{AllZip}
-use Rattle.std.proofs.lemmas.List.Elements.{All-head, All-tail}
+use Rattle.std.proofs.{lemmas.List.Elements.{All-head, All-tail}, lemmas.Int.{ints}}
+use Rattle.std.specs.{Prelude.{IsErrAnd}, List.{AllZip}}
 use Rattle.dimacs_lines.specs.Limits.{IsNode}
 use Rattle.dimacs_records.specs.declared.reasons.Reason.{Reason}
-use Rattle.dimacs_claims.specs.Cuts.{CutValue}
-use Rattle.dimacs_claims.specs.Potentials.{PotentialsValue, potential_of}
-use Rattle.dimacs_network.specs.declared.network.ArcView.{ArcView}
-use Rattle.dimacs_network.specs.Arcs.{JoinsNodes}
-use Rattle.dimacs_instance.specs.MaxFlows.{MaxValue}
-use Rattle.dimacs_instance.specs.MinFlows.{MinValue}
-use Rattle.dimacs_judging.specs.declared.verdict.JudgeError.{JudgeError}
-use Rattle.dimacs_judging.specs.declared.verdict.JudgeError.TheVariants.{Refused}
-use Rattle.dimacs_judging.specs.declared.verdict.Where.{Where}
-use Rattle.dimacs_judging.specs.Cuts.{CutTight, members}
-use Rattle.dimacs_judging.specs.Feasible.{FeasibleMax, FeasibleMin, value}
-use Rattle.dimacs_judging.specs.Flows.{cost}
+use Rattle.dimacs_claims.specs.{Cuts.{CutValue}, Potentials.{PotentialsValue, potential_of}}
+use Rattle.dimacs_network.specs.{declared.network.ArcView.{ArcView}, Arcs.{JoinsNodes}}
+use Rattle.dimacs_instance.specs.{MaxFlows.{MaxValue}, MinFlows.{MinValue}}
+use Rattle.dimacs_judging.specs.{declared.verdict.JudgeError.{JudgeError}, declared.verdict.Where.{Where}, Flows.{cost}}
+use Rattle.dimacs_judging.specs.{declared.verdict.JudgeError.TheVariants.{Refused}, Cuts.{CutTight, members}}
+use Rattle.dimacs_judging.specs.{Feasible.{FeasibleMax, FeasibleMin, value}, Optimum.{Least, Maximum}}
 use Rattle.dimacs_judging.specs.FlowTests.{cost_row, feasible_min_rows, min_demand}
-use Rattle.dimacs_judging.specs.Optimum.{Least, Maximum}
 use Rattle.dimacs_judging.specs.Potentials.{IsSlackAt, Slack, reduced_cost}
-use Rattle.std.proofs.lemmas.Int.{ints}
-use Rattle.dimacs_arrays.specs.ByNode.{AreBits, marked, number_of}
 use Rattle.dimacs_judging.specs.Tests.{AllClear, Clear, First, FirstOfRow, Refutes, Settles, Refuses}
-use Rattle.dimacs_judging.proofs.Firsts.{AllOneWay}
-use Rattle.dimacs_judging.proofs.Passing.{costs_clear, costs_wide, feasible_min_clear}
+use Rattle.dimacs_arrays.specs.{ByNode.{AreBits, marked, number_of}, declared.certify_max.MaxCertified.{MaxCertified}}
+use Rattle.dimacs_arrays.specs.{declared.certify_min.MinCertified.{MinCertified}, MaxArrays.{CertifiesMaxFlow, IsMaxBy}}
+use Rattle.dimacs_arrays.specs.MinArrays.{CertifiesMinFlow, IsMinBy, IsMinByWider, IsWider, min_claimed_rows}
+use Rattle.dimacs_arrays.specs.inside.MinCertified.{AreShifted, IsLeastBy}
+use Rattle.dimacs_judging.proofs.{Firsts.{AllOneWay}, Passing.{costs_clear, costs_wide, feasible_min_clear}}
 use Rattle.dimacs_judging.proofs.Reasons.{balance_one_way, bound_one_way, cost_one_way}
 use Rattle.dimacs_judging.proofs.RowLists.{all_clear-append, first_after}
 use Rattle.dimacs_judging.proofs.Settling.{error_settles, refused_in_front, refuted_refuses}
+use Rattle.dimacs_decide.specs.{MaxDecision.{DecidesMax}, MinDecision.{DecidesMin}}
 use Rattle.dimacs_decide.specs.declared.maximum.MaxDecision.TheVariants as of_max
 use Rattle.dimacs_decide.specs.declared.least.MinDecision.TheVariants as of_min
-use Rattle.dimacs_decide.specs.MaxDecision.{DecidesMax}
-use Rattle.dimacs_decide.specs.MinDecision.{DecidesMin}
-use Rattle.dimacs_arrays.specs.declared.certify_max.MaxCertified.{MaxCertified}
 use Rattle.dimacs_arrays.specs.declared.certify_max.MaxCertified.TheVariants as max_told
-use Rattle.dimacs_arrays.specs.declared.certify_min.MinCertified.{MinCertified}
 use Rattle.dimacs_arrays.specs.declared.certify_min.MinCertified.TheVariants as min_told
-use Rattle.dimacs_arrays.specs.MaxArrays.{CertifiesMaxFlow, IsMaxBy}
-use Rattle.dimacs_arrays.specs.MinArrays.{CertifiesMinFlow, IsMinBy, IsMinByWider, IsWider, min_claimed_rows}
-use Rattle.dimacs_arrays.specs.inside.MinCertified.{AreShifted, IsLeastBy}
 
 -- ---- maximum
 -- a tight cut, as bytes

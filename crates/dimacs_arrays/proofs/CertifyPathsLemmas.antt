@@ -1,19 +1,15 @@
 -- The predecessors of labels that were shown to be right.
 use Rattle.std.proofs.Common.{◌≡◌, ◌≢◌, inl, inr, ℕ, List, [], ◌∷◌, All, length, get_or, Option, Some, None, IsSome, ℤ, refl, sym, ap, subst, ◌∙◌, arith}
-use Rattle.std.proofs.lemmas.Bool.Decides.{eqb_tells}
-use Rattle.std.proofs.lemmas.Bool.{cases_eq, ne_eqb}
+use Rattle.std.proofs.{lemmas.Bool.Decides.{eqb_tells}, lemmas.Bool.{cases_eq, ne_eqb}}
 use Rattle.std.proofs.lemmas.List.Elements.{All-head, All-tail}
 use Rattle.dimacs_claims.specs.declared.block.Label.{Label}
+use Rattle.dimacs_claims.specs.Labels.{BlockValue, IsBlock, LabelsValue, distance_in, label, label_in}
 use Rattle.dimacs_lines.specs.Limits.{IsNode}
 use Rattle.dimacs_network.specs.Arcs.{NetworkValue}
-use Rattle.dimacs_claims.specs.Labels.{BlockValue, IsBlock, LabelsValue, distance_in, label, label_in}
-use Rattle.dimacs_judging.specs.Answers.{block_of}
-use Rattle.dimacs_judging.specs.QueryTests.{HasFullBlock}
-use Rattle.dimacs_decide.specs.Distances.{AreLabelsOf}
-use Rattle.dimacs_decide.specs.Predecessors.{NeedsPredecessor, pred_by_node}
+use Rattle.dimacs_judging.specs.{Answers.{block_of}, QueryTests.{HasFullBlock}}
+use Rattle.dimacs_decide.specs.{Distances.{AreLabelsOf}, Predecessors.{NeedsPredecessor, pred_by_node}}
 use Rattle.dimacs_decide.proofs.TightTailLemmas.{not_source}
-use Rattle.dimacs_arrays.specs.Paths.{AreLabelsBy}
-use Rattle.dimacs_arrays.specs.inside.PredecessorsOf.{ArePredsOf}
+use Rattle.dimacs_arrays.specs.{Paths.{AreLabelsBy}, inside.PredecessorsOf.{ArePredsOf}}
 
 not_among : (labels : List Label) (v : ℕ) → All (λ (l : Label). l.id ≢ v) labels → distance_in labels v ≡ None
 not_among [] v all = refl

@@ -1,13 +1,10 @@
 -- Only nodes have distances.
 use Rattle.std.proofs.Common.{◌≡◌, inl, inr, ℕ, zero, suc, ◌<◌, List, length, Option, Some, None, IsSome, is_some, true, false, ℤ, refl, sym, ap, ◌∙◌, arith}
+use Rattle.std.proofs.{lemmas.Bool.{cases_lt}, lemmas.List.{get_or_past}, lemmas.Option.{slice_get_within}}
 use Rattle.std.specs.Prelude.{slice_get}
-use Rattle.std.proofs.lemmas.Bool.{cases_lt}
-use Rattle.std.proofs.lemmas.List.{get_or_past}
-use Rattle.std.proofs.lemmas.Option.{slice_get_within}
 use Rattle.dimacs_lines.specs.Limits.{IsNode}
-use Rattle.dimacs_decide.specs.Claims.{claimed_by_node, unless_greatest}
+use Rattle.dimacs_decide.specs.{Claims.{claimed_by_node, unless_greatest}, Predecessors.{pred_by_node}}
 use Rattle.dimacs_judging.specs.Tests.{Clear}
-use Rattle.dimacs_decide.specs.Predecessors.{pred_by_node}
 use Rattle.dimacs_arrays.specs.Paths.{pred_row}
 use Rattle.dimacs_arrays.proofs.LabelLemmas.{zero_pred}
 

@@ -1,18 +1,14 @@
 -- The arrays of a graph.
-use Rattle.std.proofs.Common.{ℕ, ◌≤◌, ◌++◌, List, [], ◌∷◌, All, length, refl, arith}
-use Rattle.std.proofs.lemmas.Int.{ints}
+use Rattle.std.proofs.{Common.{ℕ, ◌≤◌, ◌++◌, List, [], ◌∷◌, All, length, refl, arith}, lemmas.Int.{ints}}
 use Rattle.std.proofs.lemmas.List.Elements.{All-weaker}
 use Rattle.dimacs_lines.specs.Limits.{most_count, most_nodes}
 use Rattle.dimacs_records.specs.declared.reasons.Reason.TheVariants.{NodeRange}
-use Rattle.dimacs_network.specs.Arcs.{JoinsNodes}
-use Rattle.dimacs_network.specs.declared.network.ArcView.{ArcView}
+use Rattle.dimacs_network.specs.{Arcs.{JoinsNodes}, declared.network.ArcView.{ArcView}}
 use Rattle.dimacs_instance.specs.Graph.{HasWeightAlone, IsGraph}
-use Rattle.dimacs_judging.specs.declared.verdict.Where.TheVariants.{Node}
-use Rattle.dimacs_judging.specs.Tests.{AllClear, Row}
+use Rattle.dimacs_judging.specs.{declared.verdict.Where.TheVariants.{Node}, Tests.{AllClear, Row}}
 use Rattle.dimacs_judging.proofs.Firsts.{AllOneWay, one_test_one_way}
-use Rattle.dimacs_arrays.specs.declared.graph.GraphArrays.{GraphArrays}
+use Rattle.dimacs_arrays.specs.{declared.graph.GraphArrays.{GraphArrays}, Limits.{count_rows, limit_row}}
 use Rattle.dimacs_arrays.specs.GraphArrays.{IsGraphFrom, graph_limits, graph_spelled, source_rows, weighted_arc}
-use Rattle.dimacs_arrays.specs.Limits.{count_rows, limit_row}
 use Rattle.dimacs_arrays.specs.inside.Lent.{IsInRange}
 use Rattle.dimacs_arrays.proofs.LentLemmas.{lent_all, lent_many}
 use Rattle.dimacs_arrays.proofs.LimitLemmas.{HasLawfulBounds, all_limits_clear, limits_one_way, one_clear}

@@ -3,16 +3,11 @@ use Rattle.std.proofs.Common.{◌≡◌, inl, inr, [], ◌∷◌, Result, Ok, Er
 use Rattle.dimacs_claims.specs.Cuts.{CutValue}
 use Rattle.dimacs_instance.specs.MinFlows.{MinValue}
 use Rattle.dimacs_records.specs.declared.reasons.Reason.{Reason}
-use Rattle.dimacs_judging.specs.declared.verdict.JudgeError.{JudgeError}
-use Rattle.dimacs_judging.specs.declared.verdict.JudgeError.TheVariants.{Refused, Memory}
-use Rattle.dimacs_judging.specs.declared.verdict.Verdict.{Verdict}
-use Rattle.dimacs_judging.specs.declared.verdict.Verdict.TheVariants.{Infeasible}
-use Rattle.dimacs_judging.specs.declared.verdict.Where.{Where}
-use Rattle.dimacs_judging.specs.Agreement.{nodes_row}
-use Rattle.dimacs_judging.specs.CertificateTests.{violated_row}
-use Rattle.dimacs_judging.specs.Cuts.{members}
+use Rattle.dimacs_judging.specs.{declared.verdict.JudgeError.{JudgeError}, declared.verdict.Verdict.{Verdict}}
+use Rattle.dimacs_judging.specs.{declared.verdict.JudgeError.TheVariants.{Refused, Memory}, Agreement.{nodes_row}}
+use Rattle.dimacs_judging.specs.{declared.verdict.Verdict.TheVariants.{Infeasible}, declared.verdict.Where.{Where}}
+use Rattle.dimacs_judging.specs.{CertificateTests.{violated_row}, Cuts.{members}, Tests.{Clear, First, Judges}}
 use Rattle.dimacs_judging.specs.InfeasibleJudge.{ShowsNoFlow, infeasible_rows}
-use Rattle.dimacs_judging.specs.Tests.{Clear, First, Judges}
 use Rattle.dimacs_judging.proofs.Passing.{nodes_clear}
 use Rattle.dimacs_arrays.specs.MinArrays.{JudgesInfeasible}
 

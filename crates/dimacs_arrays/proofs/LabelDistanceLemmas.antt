@@ -1,14 +1,11 @@
 -- Distances by node, from labels.
 use Rattle.std.proofs.Common.{◌≡◌, ◌≢◌, inl, inr, ℕ, suc, zero, ◌+◌, ◌-◌, ◌^◌, ◌<◌, List, [], ◌∷◌, length, replicate, Option, None, Some, true, ℤ, pos, ◌<ℤ◌, refl, sym, ap, ◌∙◌, arith}
-use Rattle.std.specs.Prelude.{int_lt, slice_set}
-use Rattle.std.proofs.lemmas.Bool.{cases_lt, cases_order}
-use Rattle.std.proofs.lemmas.Bool.Decides.{eqb_tells}
-use Rattle.std.proofs.lemmas.Int.{by_lt_z, ints}
+use Rattle.std.proofs.{lemmas.Bool.{cases_lt, cases_order}, lemmas.Bool.Decides.{eqb_tells}, lemmas.Int.{by_lt_z, ints}}
 use Rattle.std.proofs.lemmas.List.{get_or-replicate, get_or-set_other, get_or-set_same, length-replicate, length-set}
 use Rattle.std.proofs.lemmas.Option.{slice_get-get_or, slice_get_past}
+use Rattle.std.specs.Prelude.{int_lt, slice_set}
 use Rattle.dimacs_lines.specs.Limits.{IsNode}
-use Rattle.dimacs_claims.specs.inside.ById.{NodesAreDistinct}
-use Rattle.dimacs_claims.specs.declared.block.Label.{Label}
+use Rattle.dimacs_claims.specs.{inside.ById.{NodesAreDistinct}, declared.block.Label.{Label}}
 use Rattle.dimacs_claims.specs.Labels.{BlockValue, IsItem, distance_in, label}
 use Rattle.dimacs_claims.proofs.ByIdLemmas.{distance_in-at}
 use Rattle.dimacs_decide.specs.Claims.{claimed_by_node, unless_greatest}

@@ -1,28 +1,24 @@
 -- Whether distances and predecessors spell labels.
 use Rattle.std.proofs.Common.{◌≡◌, inl, inr, ℕ, suc, ◌==◌, Bool, true, false, List, [], ◌∷◌, ◌++◌, All, Contains, Option, None, IsSome, is_some, Result, Ok, Err, ℤ, refl, sym, ap, subst, ◌∙◌, arith}
-use Rattle.std.specs.Result.{IsErrAnd}
-use Rattle.std.proofs.lemmas.Bool.{cases_Bool, cases_eq, ne_eqb}
-use Rattle.std.proofs.lemmas.Bool.Decides.{eqb_tells}
+use Rattle.std.proofs.{lemmas.Bool.{cases_Bool, cases_eq, ne_eqb}, lemmas.Bool.Decides.{eqb_tells}}
 use Rattle.std.proofs.lemmas.List.{append_assoc, append-nil}
 use Rattle.std.proofs.lemmas.List.Elements.{All-cons, All-nil, All-push, All-head, All-tail, All-contains, Contains-append_right}
+use Rattle.std.specs.Result.{IsErrAnd}
 use Rattle.dimacs_lines.specs.Limits.{IsNode}
 use Rattle.dimacs_records.specs.declared.reasons.Reason.{Reason}
 use Rattle.dimacs_records.specs.declared.reasons.Reason.TheVariants.{NodeRange, NotShortest}
 use Rattle.dimacs_claims.specs.declared.block.Label.{Label}
 use Rattle.dimacs_claims.specs.Labels.{BlockValue, EachAfter, HasPred, IsBlock, IsLabel, LabelsValue, distance_in, label}
-use Rattle.dimacs_judging.specs.declared.verdict.Verdict.{Verdict}
-use Rattle.dimacs_network.specs.Arcs.{NetworkValue}
-use Rattle.dimacs_judging.specs.declared.verdict.Where.{Where}
-use Rattle.dimacs_judging.specs.declared.verdict.Where.TheVariants.{Node}
-use Rattle.dimacs_judging.specs.declared.verdict.JudgeError.{JudgeError}
+use Rattle.dimacs_judging.specs.{declared.verdict.Verdict.{Verdict}, declared.verdict.Where.{Where}}
+use Rattle.dimacs_judging.specs.{declared.verdict.Where.TheVariants.{Node}, declared.verdict.JudgeError.{JudgeError}}
 use Rattle.dimacs_judging.specs.declared.verdict.JudgeError.TheVariants.{Refused, Memory}
 use Rattle.dimacs_judging.specs.Tests.{Clear, First, FirstOfRow, FirstAlone, Refutes, Settles, Refuses}
+use Rattle.dimacs_network.specs.Arcs.{NetworkValue}
 use Rattle.dimacs_judging.proofs.Firsts.{AllOneWay, node_one_way, one_first, one_test_one_way}
-use Rattle.dimacs_decide.specs.Distances.{source_row}
+use Rattle.dimacs_decide.specs.{Distances.{source_row}, inside.LabelTrees.{AreLabelled, IsLabelTree}}
 use Rattle.dimacs_decide.specs.Predecessors.{NeedsPredecessor, IsNext, LeadsBack, back, back_row}
 use Rattle.dimacs_decide.proofs.LabelTreeLemmas.{all_agree}
 use Rattle.dimacs_arrays.specs.Paths.{AreInOrder, AreLabelsBy, JudgesByNode, IsPred, label_rows, pred_row}
-use Rattle.dimacs_decide.specs.inside.LabelTrees.{AreLabelled, IsLabelTree}
 
 -- ---- nodes of labels lead back
 module _ (s : ℕ) (pred : ℕ → ℕ) where

@@ -1,10 +1,8 @@
 -- Arcs that arrays hold.
 use Rattle.std.proofs.Common.{◌≡◌, ℕ, ◌<◌, All, Some, length, slice_get, subst, sym, ap, ◌∙◌, arith}
-use Rattle.std.proofs.lemmas.List.Elements.{All-from_get_or, All-get_or}
+use Rattle.std.proofs.{lemmas.List.Elements.{All-from_get_or, All-get_or}, lemmas.Option.{slice_get-get_or}}
 use Rattle.std.proofs.lemmas.List.FromFn.{get_or-map-range_with_len, length-map-range_with_len}
-use Rattle.std.proofs.lemmas.Option.{slice_get-get_or}
-use Rattle.dimacs_network.specs.declared.network.ArcView.{ArcView}
-use Rattle.dimacs_network.specs.Arcs.{arc_at, no_arc}
+use Rattle.dimacs_network.specs.{declared.network.ArcView.{ArcView}, Arcs.{arc_at, no_arc}}
 use Rattle.dimacs_arrays.specs.Lent.{lent_arcs}
 
 module _ (arc_of : ℕ → ArcView) (n : ℕ) where

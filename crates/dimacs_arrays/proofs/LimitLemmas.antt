@@ -1,22 +1,15 @@
 -- The limits of arcs and counts.
 use Rattle.std.proofs.Common.{◌≡◌, inl, inr, ℕ, ◌+◌, ◌<◌, ◌≤◌, List, [], ◌∷◌, ◌++◌, length, All, refl, sym, ◌∙◌, below_more, arith}
+use Rattle.std.proofs.{lemmas.Int.{ints}, lemmas.List.Elements.{All-from_get_or, All-get_or}}
 use Rattle.std.specs.Prelude.{pos, ◌≤ℤ◌}
-use Rattle.std.proofs.lemmas.Int.{ints}
-use Rattle.std.proofs.lemmas.List.Elements.{All-from_get_or, All-get_or}
 use Rattle.dimacs_lines.specs.Limits.{most_count, most_nodes}
-use Rattle.dimacs_records.specs.declared.reasons.Reason.{Reason}
-use Rattle.dimacs_records.specs.declared.reasons.Reason.TheVariants.{NumberRange}
-use Rattle.dimacs_network.specs.declared.network.ArcView.{ArcView}
-use Rattle.dimacs_network.specs.Arcs.{JoinsNodes, arc_at, no_arc}
-use Rattle.dimacs_judging.specs.declared.verdict.Where.{Where}
-use Rattle.dimacs_judging.specs.declared.verdict.Where.TheVariants.{Arc, Node}
-use Rattle.dimacs_judging.specs.Rows.{one_test}
-use Rattle.dimacs_judging.specs.Tests.{AllClear, Clear, FirstOfRow, Row}
-use Rattle.dimacs_judging.proofs.Firsts.{AllOneWay, OneWay, arc_one_way, one_test_one_way}
-use Rattle.dimacs_judging.proofs.RowLemmas.{arc_first}
+use Rattle.dimacs_records.specs.{declared.reasons.Reason.{Reason}, declared.reasons.Reason.TheVariants.{NumberRange}}
+use Rattle.dimacs_network.specs.{declared.network.ArcView.{ArcView}, Arcs.{JoinsNodes, arc_at, no_arc}}
+use Rattle.dimacs_judging.specs.{declared.verdict.Where.{Where}, declared.verdict.Where.TheVariants.{Arc, Node}}
+use Rattle.dimacs_judging.specs.{Rows.{one_test}, Tests.{AllClear, Clear, FirstOfRow, Row}}
+use Rattle.dimacs_judging.proofs.{Firsts.{AllOneWay, OneWay, arc_one_way, one_test_one_way}, RowLemmas.{arc_first}}
 use Rattle.dimacs_judging.proofs.RowLists.{all_clear-append, all_one_way-append}
-use Rattle.dimacs_arrays.specs.Limits.{ArcFails, count_rows, limit_row}
-use Rattle.dimacs_arrays.specs.inside.Lent.{IsInRange}
+use Rattle.dimacs_arrays.specs.{Limits.{ArcFails, count_rows, limit_row}, inside.Lent.{IsInRange}}
 
 -- a single test fails, or passes
 pub one_first : (place : Where) (why : Reason) (fails : Type 0) → fails → FirstOfRow (one_test place why fails) place why

@@ -1,18 +1,14 @@
 -- The arrays of a maximum flow instance.
-use Rattle.std.proofs.Common.{◌≡◌, ◌≢◌, ℕ, ◌≤◌, All, length, refl, arith}
-use Rattle.std.proofs.lemmas.Int.{ints}
+use Rattle.std.proofs.{Common.{◌≡◌, ◌≢◌, ℕ, ◌≤◌, All, length, refl, arith}, lemmas.Int.{ints}}
 use Rattle.std.proofs.lemmas.List.Elements.{All-weaker}
 use Rattle.dimacs_lines.specs.Limits.{IsNode, most_count, most_nodes}
 use Rattle.dimacs_records.specs.declared.reasons.Reason.TheVariants.{NodeRange, NodeTwice}
-use Rattle.dimacs_network.specs.Arcs.{JoinsNodes}
-use Rattle.dimacs_network.specs.declared.network.ArcView.{ArcView}
+use Rattle.dimacs_network.specs.{Arcs.{JoinsNodes}, declared.network.ArcView.{ArcView}}
 use Rattle.dimacs_instance.specs.MaxFlows.{IsMax, HasCapacityAlone}
-use Rattle.dimacs_judging.specs.declared.verdict.Where.TheVariants.{Node}
-use Rattle.dimacs_judging.specs.Tests.{AllClear}
+use Rattle.dimacs_judging.specs.{declared.verdict.Where.TheVariants.{Node}, Tests.{AllClear}}
 use Rattle.dimacs_judging.proofs.Firsts.{AllOneWay, one_test_one_way}
-use Rattle.dimacs_arrays.specs.declared.max.MaxArrays.{MaxArrays}
+use Rattle.dimacs_arrays.specs.{declared.max.MaxArrays.{MaxArrays}, inside.Lent.{IsInRange}}
 use Rattle.dimacs_arrays.specs.MaxArrays.{end_rows, max_arc, max_limits, max_spelled}
-use Rattle.dimacs_arrays.specs.inside.Lent.{IsInRange}
 use Rattle.dimacs_arrays.proofs.LentLemmas.{lent_all, lent_many}
 use Rattle.dimacs_arrays.proofs.LimitLemmas.{HasLawfulBounds, all_limits_clear, limits_one_way, one_clear}
 

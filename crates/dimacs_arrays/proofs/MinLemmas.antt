@@ -1,14 +1,10 @@
 -- The arrays of a minimum cost flow instance, supply by supply.
 use Rattle.std.proofs.Common.{◌≡◌, ℕ, suc, ◌+◌, ◌<◌, ◌≤◌, ◌==◌, List, [], ◌∷◌, ◌++◌, length, take, get_or, false, refl, sym, ap, ◌∙◌, arith}
-use Rattle.std.specs.Prelude.{ℤ, pos}
-use Rattle.std.specs.List.{list_any, range_with_len, zip}
-use Rattle.std.specs.FinMap.{empty, from_entries, insert}
-use Rattle.std.proofs.lemmas.Bool.{ne_eqb}
-use Rattle.std.proofs.lemmas.List.{length-take-le, take_all, take_more}
+use Rattle.std.proofs.{lemmas.Bool.{ne_eqb}, lemmas.List.{length-take-le, take_all, take_more}}
 use Rattle.std.proofs.lemmas.List.Elements.{All-weaker}
+use Rattle.std.specs.{Prelude.{ℤ, pos}, List.{list_any, range_with_len, zip}, FinMap.{empty, from_entries, insert}}
 use Rattle.dimacs_records.specs.NodeValues.{is_of, without_zeros}
-use Rattle.dimacs_records.proofs.NameLemmas.{map_more, without_zeros-empty}
-use Rattle.dimacs_records.proofs.ZeroLemmas.{without_zeros-insert}
+use Rattle.dimacs_records.proofs.{NameLemmas.{map_more, without_zeros-empty}, ZeroLemmas.{without_zeros-insert}}
 use Rattle.dimacs_network.specs.declared.network.ArcView.{ArcView}
 use Rattle.dimacs_instance.specs.MinFlows.{MinValue, IsMin, HasBounds, with_supply}
 use Rattle.dimacs_judging.specs.Tests.{AllClear}

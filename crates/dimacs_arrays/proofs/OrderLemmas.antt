@@ -1,21 +1,16 @@
 -- Labels with the same distances and predecessors pass together, in any order.
 use Rattle.std.proofs.Common.{◌≡◌, ◌≢◌, inl, inr, ℕ, suc, ◌<◌, List, [], ◌∷◌, All, Contains, length, get_or, Option, Some, ℤ, ◌+ℤ◌, refl, sym, ap, subst, ◌∙◌, arith}
-use Rattle.std.proofs.lemmas.Bool.{ne_eqb}
-use Rattle.std.proofs.lemmas.Bool.Decides.{eqb_tells}
+use Rattle.std.proofs.{lemmas.Bool.{ne_eqb}, lemmas.Bool.Decides.{eqb_tells}}
 use Rattle.std.proofs.lemmas.List.Elements.{All-cons, All-contains, All-from_get_or, All-get_or, All-head, All-nil}
 use Rattle.dimacs_lines.specs.Limits.{IsNode}
 use Rattle.dimacs_network.specs.Arcs.{JoinsNodes, NetworkValue, arc_at, no_arc}
 use Rattle.dimacs_instance.specs.QueryTexts.{Sources}
 use Rattle.dimacs_claims.specs.declared.block.Label.{Label}
 use Rattle.dimacs_claims.specs.Labels.{BlockValue, IsBlock, IsLabel, IsWithinRadius, LabelsValue, distance_in, label, no_label}
-use Rattle.dimacs_judging.specs.Answers.{block_of}
-use Rattle.dimacs_judging.specs.Labels.{HasTightArc, IsReached, IsRelaxed, LabelsOk}
-use Rattle.dimacs_judging.specs.PathsJudge.{PassesPaths}
-use Rattle.dimacs_judging.specs.QueryTests.{HasFullBlock}
-use Rattle.dimacs_decide.specs.Distances.{AreLabelsOf}
-use Rattle.dimacs_decide.specs.Predecessors.{pred_by_node}
-use Rattle.dimacs_arrays.specs.Paths.{AreLabelsBy, ArePredecessors}
-use Rattle.dimacs_arrays.specs.inside.PredecessorsOf.{ArePredsOf}
+use Rattle.dimacs_judging.specs.{Answers.{block_of}, Labels.{HasTightArc, IsReached, IsRelaxed, LabelsOk}}
+use Rattle.dimacs_judging.specs.{PathsJudge.{PassesPaths}, QueryTests.{HasFullBlock}}
+use Rattle.dimacs_decide.specs.{Distances.{AreLabelsOf}, Predecessors.{pred_by_node}}
+use Rattle.dimacs_arrays.specs.{Paths.{AreLabelsBy, ArePredecessors}, inside.PredecessorsOf.{ArePredsOf}}
 use Rattle.dimacs_decide.proofs.TightTailLemmas.{not_source, own_label}
 use Rattle.dimacs_arrays.proofs.CertifyPathsLemmas.{labels_by}
 

@@ -1,31 +1,22 @@
 -- Queries and distances from arrays.
 use Rattle.std.proofs.Common.{◌≡◌, ◌≢◌, ◌∙◌, inl, inr, ℕ, ◌+◌, ◌-◌, ◌<◌, ◌≤◌, ◌==◌, ◌++◌, Bool, true, false, List, [], ◌∷◌, All, get_or, length, min, take, Option, None, Some, IfSome, IsSome, refl, sym, ap, subst, ℤ, arith}
-use Rattle.std.specs.Prelude.{slice_get}
-use Rattle.std.specs.List.{cons_option, filter_map, range_with_len, zip}
-use Rattle.std.proofs.lemmas.Bool.{ne_eqb}
-use Rattle.std.proofs.lemmas.Bool.Decides.{eqb_tells}
+use Rattle.std.proofs.{lemmas.Bool.{ne_eqb}, lemmas.Bool.Decides.{eqb_tells}, lemmas.Slice.Zip.{get_or-zip, length-zip}}
 use Rattle.std.proofs.lemmas.List.{append-nil, length-map, map-id, take_more}
 use Rattle.std.proofs.lemmas.List.Elements.{All-cons, All-from_get_or, All-get_or, All-head, All-nil, All-tail, filter_map-append}
 use Rattle.std.proofs.lemmas.List.FromFn.{get_or-range_with_len, length-range_with_len, map-range_with_len_more}
 use Rattle.std.proofs.lemmas.Option.{slice_get-get_or, slice_get_past}
-use Rattle.std.proofs.lemmas.Slice.Zip.{get_or-zip, length-zip}
+use Rattle.std.specs.{Prelude.{slice_get}, List.{cons_option, filter_map, range_with_len, zip}}
 use Rattle.dimacs_lines.specs.Limits.{IsNode, most_count, most_nodes}
-use Rattle.dimacs_records.specs.declared.reasons.Reason.{Reason}
-use Rattle.dimacs_records.specs.declared.reasons.Reason.TheVariants.{NumberRange}
-use Rattle.dimacs_records.specs.Ranges.{IsId, IsWide}
-use Rattle.dimacs_records.specs.declared.records.Record.TheVariants.{SourceQuery}
+use Rattle.dimacs_records.specs.{declared.reasons.Reason.{Reason}, declared.reasons.Reason.TheVariants.{NumberRange}}
+use Rattle.dimacs_records.specs.{Ranges.{IsId, IsWide}, declared.records.Record.TheVariants.{SourceQuery}}
 use Rattle.dimacs_instance.specs.QueryTexts.{AreIds, AreLawful, pair_query}
-use Rattle.dimacs_claims.specs.declared.block.Label.{Label}
+use Rattle.dimacs_claims.specs.{declared.block.Label.{Label}, DistanceTexts.{IsBare}}
 use Rattle.dimacs_claims.specs.Labels.{BlockValue, IsLabel, IsWithinRadius, distance_in, label, with_label}
-use Rattle.dimacs_claims.specs.DistanceTexts.{IsBare}
-use Rattle.dimacs_judging.specs.declared.verdict.Where.{Where}
-use Rattle.dimacs_judging.specs.declared.verdict.Where.TheVariants.{Node}
-use Rattle.dimacs_judging.specs.declared.verdict.JudgeError.{JudgeError}
+use Rattle.dimacs_judging.specs.{declared.verdict.Where.{Where}, declared.verdict.Where.TheVariants.{Node}}
+use Rattle.dimacs_judging.specs.{declared.verdict.JudgeError.{JudgeError}, Tests.{AllClear, FirstOfRow, Refutes, Row}}
 use Rattle.dimacs_judging.specs.declared.verdict.JudgeError.TheVariants.{Refused, Memory}
-use Rattle.dimacs_judging.specs.Tests.{AllClear, FirstOfRow, Refutes, Row}
 use Rattle.dimacs_judging.proofs.Firsts.{AllOneWay, OneWay}
-use Rattle.dimacs_arrays.specs.Answers.{first_misfit}
-use Rattle.dimacs_arrays.specs.Paths.{AreLabelsBy}
+use Rattle.dimacs_arrays.specs.{Answers.{first_misfit}, Paths.{AreLabelsBy}}
 use Rattle.dimacs_arrays.specs.PathsSpelled.{AreOrderedLabels, IsPastId, label_with, queries_spelled, query_lengths, query_row}
 use Rattle.dimacs_arrays.specs.inside.PathsSpelled.{AreInRange, AreInRangeBelow}
 use Rattle.dimacs_arrays.proofs.AnswerLemmas.{all_fit}

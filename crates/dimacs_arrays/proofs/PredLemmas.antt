@@ -1,11 +1,9 @@
 -- Predecessors by node, from labels.
 use Rattle.std.proofs.Common.{◌≡◌, ◌≢◌, inl, inr, ℕ, ◌+◌, ◌-◌, ◌<◌, List, length, get_or, None, Some, sym, ap, subst, ◌∙◌, arith}
+use Rattle.std.proofs.{lemmas.Bool.{cases_order}, lemmas.List.Elements.{All-from_get_or}}
 use Rattle.std.specs.Prelude.{slice_set}
-use Rattle.std.proofs.lemmas.Bool.{cases_order}
-use Rattle.std.proofs.lemmas.List.Elements.{All-from_get_or}
 use Rattle.dimacs_lines.specs.Limits.{IsNode}
-use Rattle.dimacs_claims.specs.inside.ById.{NodesAreDistinct}
-use Rattle.dimacs_claims.specs.declared.block.Label.{Label}
+use Rattle.dimacs_claims.specs.{inside.ById.{NodesAreDistinct}, declared.block.Label.{Label}}
 use Rattle.dimacs_claims.specs.Labels.{distance_in, no_label}
 use Rattle.dimacs_claims.proofs.ByIdLemmas.{distance_in-at}
 use Rattle.dimacs_decide.specs.Predecessors.{pred_by_node}

@@ -1,7 +1,6 @@
 -- Labels, if each predecessor is nearer than its node.
 use Rattle.std.proofs.Common.{◌≡◌, ◌≢◌, ◌⊎◌, inl, inr, ℕ, suc, zero, ◌+◌, ◌^◌, ◌≤◌, ◌==◌, Bool, true, false, cond, [], ◌∷◌, Option, Some, None, IsSome, is_some, ℤ, pos, negsuc, ◌+ℤ◌, ◌≤ℤ◌, ◌<ℤ◌, refl, sym, ap, subst, ◌∙◌, arith}
-use Rattle.std.proofs.lemmas.Bool.{cases_Bool, cases_eq, cases_order, ne_eqb}
-use Rattle.std.proofs.lemmas.Bool.Decides.{eqb_tells}
+use Rattle.std.proofs.{lemmas.Bool.{cases_Bool, cases_eq, cases_order, ne_eqb}, lemmas.Bool.Decides.{eqb_tells}}
 use Rattle.std.proofs.lemmas.Int.{ints}
 use Rattle.dimacs_lines.specs.Limits.{most_nodes, IsNode}
 use Rattle.dimacs_records.specs.Ranges.{IsWide}
@@ -10,8 +9,8 @@ use Rattle.dimacs_claims.specs.Labels.{BlockValue, IsBlock, IsWithinRadius, Labe
 use Rattle.dimacs_claims.proofs.BlockLemmas.{block_empty, block_push, label-with_label}
 use Rattle.dimacs_judging.specs.Tests.{Clear}
 use Rattle.dimacs_decide.specs.Predecessors.{NeedsPredecessor, IsNext, LeadsBack, back}
-use Rattle.dimacs_arrays.specs.Paths.{AreInOrder, AreLabelsBy, IsPred, pred_row}
 use Rattle.dimacs_decide.specs.inside.LabelTrees.{AreLabelled, AreLabelledBelow, IsLabelTree, Keeps}
+use Rattle.dimacs_arrays.specs.Paths.{AreInOrder, AreLabelsBy, IsPred, pred_row}
 use Rattle.dimacs_arrays.proofs.LabelLemmas.{in_order, spelled}
 use Rattle.dimacs_decide.proofs.LabelTreeLemmas.{begun, few, grown, next_label, pred_labelled, source_labelled, unlabelled}
 

@@ -1,39 +1,26 @@
 -- Solutions over arcs in arrays.
 use Rattle.std.proofs.Common.{◌≡◌, ◌≤◌, ℕ, ℤ, All, List, [], ◌∷◌, length, inl, inr, refl, sym, ap, arith, ◌∙◌}
+use Rattle.std.proofs.{lemmas.List.Elements.{All-weaker}, lemmas.Result.{err_from_is_err_and}, lemmas.Int.{ints}}
 use Rattle.std.specs.Prelude.{Result, Ok, Err, IsErrAnd}
-use Rattle.std.proofs.lemmas.List.Elements.{All-weaker}
-use Rattle.std.proofs.lemmas.Result.{err_from_is_err_and}
-use Rattle.std.proofs.lemmas.Int.{ints}
-use Rattle.dimacs_lines.specs.Limits.{most_count, most_nodes}
-use Rattle.dimacs_lines.specs.Lines.{lines}
-use Rattle.dimacs_records.specs.declared.faults.ReadError.{ReadError}
-use Rattle.dimacs_records.specs.declared.faults.ReadError.TheVariants as read_errors
-use Rattle.dimacs_records.specs.declared.kinds.TextKind.TheVariants as kinds
-use Rattle.dimacs_records.specs.declared.reasons.Reason.{Reason}
-use Rattle.dimacs_records.specs.declared.reasons.Reason.TheVariants.{NumberRange}
-use Rattle.dimacs_records.specs.Faults.{Fault}
-use Rattle.dimacs_records.specs.Ranges.{IsWhole}
-use Rattle.dimacs_records.specs.Texts.{Reads}
-use Rattle.dimacs_network.specs.declared.network.ArcView.{ArcView}
-use Rattle.dimacs_network.specs.Arcs.{JoinsNodes}
+use Rattle.dimacs_lines.specs.{Limits.{most_count, most_nodes}, Lines.{lines}}
+use Rattle.dimacs_records.specs.{declared.faults.ReadError.{ReadError}, declared.reasons.Reason.{Reason}, Texts.{Reads}}
+use Rattle.dimacs_records.specs.{declared.reasons.Reason.TheVariants.{NumberRange}, Faults.{Fault}, Ranges.{IsWhole}}
+use Rattle.dimacs_network.specs.{declared.network.ArcView.{ArcView}, Arcs.{JoinsNodes}}
 use Rattle.dimacs_instance.specs.Graph.{HasWeightAlone, IsGraph}
 use Rattle.dimacs_claims.specs.SolutionReading.{AnswersAlike, ReadsLike}
 use Rattle.dimacs_claims.specs.SolutionTexts.{SolutionValue, SpellsSolution}
-use Rattle.dimacs_judging.specs.declared.verdict.JudgeError.{JudgeError}
-use Rattle.dimacs_judging.specs.declared.verdict.JudgeError.TheVariants.{Refused, Memory}
-use Rattle.dimacs_judging.specs.declared.verdict.Where.{Where}
-use Rattle.dimacs_judging.specs.declared.verdict.Where.TheVariants.{Solution}
-use Rattle.dimacs_judging.specs.Claims.{Carries, entry_row}
-use Rattle.dimacs_judging.specs.Tests.{AllClear, FirstOfRow, Row}
-use Rattle.dimacs_judging.proofs.Claims.{carries_clear, entry_one_way}
-use Rattle.dimacs_judging.proofs.Firsts.{AllOneWay, one_test_one_way}
+use Rattle.dimacs_judging.specs.{declared.verdict.JudgeError.{JudgeError}, declared.verdict.Where.{Where}}
+use Rattle.dimacs_judging.specs.{declared.verdict.JudgeError.TheVariants.{Refused, Memory}, Claims.{Carries, entry_row}}
+use Rattle.dimacs_judging.specs.{declared.verdict.Where.TheVariants.{Solution}, Tests.{AllClear, FirstOfRow, Row}}
+use Rattle.dimacs_judging.proofs.{Claims.{carries_clear, entry_one_way}, Firsts.{AllOneWay, one_test_one_way}}
 use Rattle.dimacs_judging.proofs.Settling.{error_settles, refusal_refutes}
-use Rattle.dimacs_arrays.specs.declared.solution.ClaimedFlow.{ClaimedFlow}
-use Rattle.dimacs_arrays.specs.declared.solution.EndArrays.{EndArrays}
+use Rattle.dimacs_arrays.specs.{declared.solution.ClaimedFlow.{ClaimedFlow}, declared.solution.EndArrays.{EndArrays}}
 use Rattle.dimacs_arrays.specs.SolutionArrays.{ClaimsOver, IsClaimedBy, ReadsSolutionOver, end_arc, ends_limits, ends_spelled, not_read, value_row}
 use Rattle.dimacs_arrays.specs.inside.Lent.{IsInRange}
 use Rattle.dimacs_arrays.proofs.LentLemmas.{lent_all, lent_many}
 use Rattle.dimacs_arrays.proofs.LimitLemmas.{HasLawfulBounds, all_limits_clear, limits_one_way, one_clear}
+use Rattle.dimacs_records.specs.declared.faults.ReadError.TheVariants as read_errors
+use Rattle.dimacs_records.specs.declared.kinds.TextKind.TheVariants as kinds
 
 -- ---- the arcs
 module _ (a : EndArrays) where

@@ -1,27 +1,17 @@
 -- Solving over arrays.
 use Rattle.std.proofs.Common.{◌≡◌, inl, inr, ℕ, ◌≤◌, List, [], ◌∷◌, All, length, map, get_or, None, Some, ℤ, refl, sym, ap, subst, ◌∙◌, arith}
-use Rattle.std.proofs.lemmas.Bool.Decides.{eqb_tells}
-use Rattle.std.proofs.lemmas.List.Elements.{All-cons, All-head, All-nil}
+use Rattle.std.proofs.{lemmas.Bool.Decides.{eqb_tells}, lemmas.List.Elements.{All-cons, All-head, All-nil}}
 use Rattle.dimacs_lines.specs.Limits.{most_nodes, IsNode}
 use Rattle.dimacs_network.specs.Arcs.{JoinsNodes, NetworkValue}
 use Rattle.dimacs_records.specs.Ranges.{IsId}
-use Rattle.dimacs_claims.specs.Cuts.{CutValue}
-use Rattle.dimacs_claims.specs.Labels.{BlockValue, IsBlock, LabelsValue, label, label_in}
-use Rattle.dimacs_instance.specs.MinFlows.{MinValue}
-use Rattle.dimacs_instance.specs.QueryTexts.{AreLawful, Sources}
-use Rattle.dimacs_judging.specs.Answers.{block_of}
-use Rattle.dimacs_judging.specs.Cuts.{members}
-use Rattle.dimacs_judging.specs.InfeasibleJudge.{ShowsNoFlow}
+use Rattle.dimacs_claims.specs.{Cuts.{CutValue}, Labels.{BlockValue, IsBlock, LabelsValue, label, label_in}}
+use Rattle.dimacs_instance.specs.{MinFlows.{MinValue}, QueryTexts.{AreLawful, Sources}}
+use Rattle.dimacs_judging.specs.{Answers.{block_of}, Cuts.{members}, InfeasibleJudge.{ShowsNoFlow}, Walks.{IsDistance}}
 use Rattle.dimacs_judging.specs.ViolatedSets.{Violated}
-use Rattle.dimacs_judging.specs.Walks.{IsDistance}
-use Rattle.dimacs_decide.specs.Claims.{claimed_by_node}
-use Rattle.dimacs_decide.specs.Distances.{AreDistancesFrom, AreLabelsOf}
+use Rattle.dimacs_decide.specs.{Claims.{claimed_by_node}, Distances.{AreDistancesFrom, AreLabelsOf}}
 use Rattle.dimacs_solve.specs.Paths.{AreProduced, block_source, distinct_after}
-use Rattle.dimacs_arrays.specs.ByNode.{AreBits, marked}
-use Rattle.dimacs_arrays.specs.MinArrays.{IsInfeasibleBy}
-use Rattle.dimacs_arrays.specs.Paths.{ArePredecessors}
-use Rattle.dimacs_arrays.specs.inside.PredecessorsOf.{ArePredsOf}
-use Rattle.dimacs_arrays.specs.inside.LabelDistances.{AreDistancesOf}
+use Rattle.dimacs_arrays.specs.{ByNode.{AreBits, marked}, MinArrays.{IsInfeasibleBy}, Paths.{ArePredecessors}}
+use Rattle.dimacs_arrays.specs.{inside.PredecessorsOf.{ArePredsOf}, inside.LabelDistances.{AreDistancesOf}}
 use Rattle.dimacs_arrays.proofs.OrderLemmas.{predecessors_by}
 
 -- ---- no flow

@@ -1,8 +1,6 @@
 -- If each distance has a tight arc of positive weight, the distances are right.
 use Rattle.std.proofs.Common.{◌≡◌, ◌≢◌, inl, inr, ℕ, ◌≤◌, List, [], ◌∷◌, All, Option, Some, Ok, IsSome, is_some, ℤ, pos, ◌+ℤ◌, refl, sym, ap, subst, ◌∙◌, arith}
-use Rattle.std.proofs.lemmas.Bool.{cases_eq}
-use Rattle.std.proofs.lemmas.Bool.Decides.{eqb_tells}
-use Rattle.std.proofs.lemmas.Int.{ints}
+use Rattle.std.proofs.{lemmas.Bool.{cases_eq}, lemmas.Bool.Decides.{eqb_tells}, lemmas.Int.{ints}}
 use Rattle.std.proofs.lemmas.List.Elements.{All-cons, All-nil}
 use Rattle.dimacs_lines.specs.Limits.{most_nodes, IsNode}
 use Rattle.dimacs_records.specs.Ranges.{IsWide}
@@ -10,27 +8,17 @@ use Rattle.dimacs_network.specs.Arcs.{JoinsNodes, NetworkValue}
 use Rattle.dimacs_instance.specs.QueryTexts.{Sources}
 use Rattle.dimacs_claims.specs.Labels.{BlockValue, AreLabels, LabelsValue}
 use Rattle.dimacs_claims.proofs.BlockLemmas.{each_after_nil, labels_push}
-use Rattle.dimacs_judging.specs.declared.verdict.Verdict.TheVariants as verdicts
-use Rattle.dimacs_judging.proofs.Passing.{nodes_clear}
-use Rattle.dimacs_judging.proofs.PathsPassing.{passing_shows}
+use Rattle.dimacs_judging.proofs.{Passing.{nodes_clear}, PathsPassing.{passing_shows}, LabelsPassing.{labels_clear}}
 use Rattle.dimacs_judging.proofs.QueriesPassing.{query_blocks_clear, query_nodes_clear}
-use Rattle.dimacs_judging.specs.Answers.{block_of}
-use Rattle.dimacs_judging.specs.Labels.{LabelsOk}
-use Rattle.dimacs_judging.specs.PathsJudge.{PassesPaths, paths_rows}
-use Rattle.dimacs_judging.specs.QueryTests.{HasFullBlock}
-use Rattle.dimacs_judging.specs.Tests.{AllClear}
-use Rattle.dimacs_judging.proofs.LabelsPassing.{labels_clear}
-use Rattle.dimacs_decide.specs.Claims.{claimed_by_node}
-use Rattle.dimacs_decide.specs.Distances.{AreDistancesFrom}
-use Rattle.dimacs_decide.specs.Predecessors.{NeedsPredecessor, pred_by_node}
-use Rattle.dimacs_decide.specs.inside.DistanceBlocks.{IsBlockOf}
-use Rattle.dimacs_decide.specs.TightTails.{HasTail}
-use Rattle.dimacs_decide.proofs.ClaimLemmas.{shown}
-use Rattle.dimacs_decide.proofs.TightTailLemmas.{all_tight}
+use Rattle.dimacs_judging.specs.{Answers.{block_of}, Labels.{LabelsOk}, PathsJudge.{PassesPaths, paths_rows}}
+use Rattle.dimacs_judging.specs.{QueryTests.{HasFullBlock}, Tests.{AllClear}}
+use Rattle.dimacs_decide.specs.{Claims.{claimed_by_node}, Distances.{AreDistancesFrom}, TightTails.{HasTail}}
+use Rattle.dimacs_decide.specs.{Predecessors.{NeedsPredecessor, pred_by_node}, inside.DistanceBlocks.{IsBlockOf}}
+use Rattle.dimacs_decide.proofs.{ClaimLemmas.{shown}, TightTailLemmas.{all_tight}}
 use Rattle.dimacs_arrays.specs.Paths.{AreLabelsBy, ArePredecessors, JudgesByNode}
 use Rattle.dimacs_arrays.specs.inside.TightPredecessors.{AreTightPredecessorsFrom}
-use Rattle.dimacs_arrays.proofs.DistanceLemmas.{distance_within}
-use Rattle.dimacs_arrays.proofs.SinkLemmas.{AreNearer, IsNearer, sink_labels}
+use Rattle.dimacs_arrays.proofs.{DistanceLemmas.{distance_within}, SinkLemmas.{AreNearer, IsNearer, sink_labels}}
+use Rattle.dimacs_judging.specs.declared.verdict.Verdict.TheVariants as verdicts
 
 module _ (g : NetworkValue) (s : ℕ) (distances : List ℤ) (preds : List ℕ) (node : IsNode g.nodes s) (small : g.nodes ≤ most_nodes) (joined : All (JoinsNodes g.nodes) g.arcs) (are : AreTightPredecessorsFrom g.nodes s g.arcs distances preds) where
   abbrev claim : ℕ → Option ℤ

@@ -1,12 +1,10 @@
 -- The answers of calls over arrays.
 use Rattle.std.specs.Prelude.{ℕ, ◌≡◌, ◌==◌, if◌then◌else◌, List, [], ◌∷◌, Option, None, Some, Result, Ok, Err}
-use Rattle.dimacs_arrays.specs.declared.error.Array.{Array}
-use Rattle.dimacs_arrays.specs.declared.error.ArrayError.{ArrayError}
+use Rattle.dimacs_arrays.specs.{declared.error.Array.{Array}, declared.error.ArrayError.{ArrayError}}
 use Rattle.dimacs_arrays.specs.declared.error.ArrayError.TheVariants.{Length, Limit, Refused, Memory}
 use Rattle.dimacs_arrays.specs.declared.lengths.ArrayLength.{ArrayLength}
-use Rattle.dimacs_judging.specs.declared.verdict.JudgeError.{JudgeError}
+use Rattle.dimacs_judging.specs.{declared.verdict.JudgeError.{JudgeError}, Tests.{Row, FirstAlone}}
 use Rattle.dimacs_judging.specs.declared.verdict.JudgeError.TheVariants as judged
-use Rattle.dimacs_judging.specs.Tests.{Row, FirstAlone}
 
 -- an array with this many items, which has to have that many
 abbrev pub length_of : Array → ℕ → ℕ → ArrayLength

@@ -1,27 +1,18 @@
 -- The arrays of graphs, and the graphs that they spell.
-use Rattle.std.specs.Prelude.{ℕ, List, [], ◌∷◌, ◌++◌, length, get_or, map, ℤ, pos, Result}
-use Rattle.std.specs.Global.{Vec}
+use Rattle.std.specs.{Prelude.{ℕ, List, [], ◌∷◌, ◌++◌, length, get_or, map, ℤ, pos, Result}, Global.{Vec}}
 use Rattle.std.specs.List.{range_with_len}
 use Rattle.dimacs_lines.specs.Limits.{IsNode}
 use Rattle.dimacs_records.specs.declared.reasons.Reason.TheVariants.{NodeRange}
-use Rattle.dimacs_network.specs.declared.network.ArcView.{ArcView}
-use Rattle.dimacs_network.specs.Arcs.{NetworkValue}
+use Rattle.dimacs_network.specs.{declared.network.ArcView.{ArcView}, Arcs.{NetworkValue}, KeptArcs.{weight_arc}}
 use Rattle.dimacs_instance.specs.Graph.{IsGraph}
-use Rattle.dimacs_network.specs.KeptArcs.{weight_arc}
-use Rattle.dimacs_judging.specs.declared.verdict.Verdict.{Verdict}
-use Rattle.dimacs_judging.specs.declared.verdict.Where.TheVariants.{Node}
-use Rattle.dimacs_judging.specs.Rows.{one_test}
-use Rattle.dimacs_judging.specs.Tests.{Row}
-use Rattle.dimacs_decide.specs.Claims.{claimed_by_node}
-use Rattle.dimacs_arrays.specs.declared.error.Array.TheVariants as arrays
-use Rattle.dimacs_arrays.specs.declared.error.ArrayError.{ArrayError}
-use Rattle.dimacs_arrays.specs.declared.lengths.ArrayLength.{ArrayLength}
-use Rattle.dimacs_arrays.specs.declared.graph.GraphArrays.{GraphArrays}
-use Rattle.dimacs_arrays.specs.declared.solve_paths.PathsSolved.{PathsSolved}
-use Rattle.dimacs_arrays.specs.Answers.{AnswersArrays, length_of}
-use Rattle.dimacs_arrays.specs.Limits.{count_rows, limit_row}
-use Rattle.dimacs_decide.specs.Predecessors.{pred_by_node}
+use Rattle.dimacs_judging.specs.{declared.verdict.Verdict.{Verdict}, declared.verdict.Where.TheVariants.{Node}}
+use Rattle.dimacs_judging.specs.{Rows.{one_test}, Tests.{Row}}
+use Rattle.dimacs_decide.specs.{Claims.{claimed_by_node}, Predecessors.{pred_by_node}}
+use Rattle.dimacs_arrays.specs.{declared.error.ArrayError.{ArrayError}, declared.lengths.ArrayLength.{ArrayLength}}
+use Rattle.dimacs_arrays.specs.{declared.graph.GraphArrays.{GraphArrays}, Answers.{AnswersArrays, length_of}}
+use Rattle.dimacs_arrays.specs.{declared.solve_paths.PathsSolved.{PathsSolved}, Limits.{count_rows, limit_row}}
 use Rattle.dimacs_arrays.specs.Paths.{CertifiesByNode, JudgesByNode, SolvesByNode}
+use Rattle.dimacs_arrays.specs.declared.error.Array.TheVariants as arrays
 
 -- the arc with this index
 abbrev pub weighted_arc : GraphArrays → ℕ → ArcView

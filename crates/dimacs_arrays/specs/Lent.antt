@@ -1,6 +1,5 @@
 -- The arcs that arrays hold.
-use Rattle.std.specs.Prelude.{ℕ, List, map}
-use Rattle.std.specs.List.{range_with_len}
+use Rattle.std.specs.{Prelude.{ℕ, List, map}, List.{range_with_len}}
 use Rattle.dimacs_network.specs.declared.network.ArcView.{ArcView}
 
 -- so many arcs, by index

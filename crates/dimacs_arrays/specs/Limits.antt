@@ -3,11 +3,8 @@ use Rattle.std.specs.Prelude.{ℕ, ◌≡◌, ◌+◌, ◌<◌, ◌⊎◌, List,
 use Rattle.dimacs_lines.specs.Limits.{most_count, most_nodes}
 use Rattle.dimacs_records.specs.declared.reasons.Reason.{Reason}
 use Rattle.dimacs_records.specs.declared.reasons.Reason.TheVariants.{NumberRange, NodeRange, BoundOrder}
-use Rattle.dimacs_network.specs.declared.network.ArcView.{ArcView}
-use Rattle.dimacs_network.specs.Arcs.{JoinsNodes, arc_at}
-use Rattle.dimacs_judging.specs.declared.verdict.Where.TheVariants.{Arc, Node}
-use Rattle.dimacs_judging.specs.Rows.{arc_row, one_test}
-use Rattle.dimacs_judging.specs.Tests.{Row}
+use Rattle.dimacs_network.specs.{declared.network.ArcView.{ArcView}, Arcs.{JoinsNodes, arc_at}}
+use Rattle.dimacs_judging.specs.{declared.verdict.Where.TheVariants.{Arc, Node}, Rows.{arc_row, one_test}, Tests.{Row}}
 
 -- too many nodes, or too many arcs; the place is the first beyond the limit
 abbrev pub count_rows : ℕ → ℕ → List Row

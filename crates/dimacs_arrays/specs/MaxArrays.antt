@@ -3,32 +3,21 @@ use Rattle.std.specs.Prelude.{ℕ, ◌≡◌, ◌<◌, Bool, List, [], ◌∷◌
 use Rattle.std.specs.List.{range_with_len}
 use Rattle.dimacs_lines.specs.Limits.{IsNode}
 use Rattle.dimacs_records.specs.declared.reasons.Reason.TheVariants.{NodeRange, NodeTwice}
-use Rattle.dimacs_network.specs.declared.network.ArcView.{ArcView}
+use Rattle.dimacs_network.specs.{declared.network.ArcView.{ArcView}, KeptArcs.{capacity_arc}}
 use Rattle.dimacs_instance.specs.MaxFlows.{MaxValue, IsMax}
-use Rattle.dimacs_network.specs.KeptArcs.{capacity_arc}
-use Rattle.dimacs_judging.specs.declared.verdict.JudgeError.{JudgeError}
-use Rattle.dimacs_judging.specs.declared.verdict.JudgeError.TheVariants.{Refused, Memory}
-use Rattle.dimacs_judging.specs.declared.verdict.Verdict.{Verdict}
-use Rattle.dimacs_judging.specs.declared.verdict.Verdict.TheVariants.{Max}
-use Rattle.dimacs_judging.specs.declared.verdict.Where.TheVariants.{Node}
-use Rattle.dimacs_judging.specs.Feasible.{FeasibleMax, value}
-use Rattle.dimacs_judging.specs.FlowJudges.{ShowsMaxFlow, max_flow_rows}
-use Rattle.dimacs_judging.specs.FlowTests.{feasible_max_rows}
-use Rattle.dimacs_judging.specs.Optimum.{Maximum}
-use Rattle.dimacs_judging.specs.Rows.{one_test}
-use Rattle.dimacs_judging.specs.Tests.{Judges, Row, Settles}
+use Rattle.dimacs_judging.specs.{declared.verdict.JudgeError.{JudgeError}, declared.verdict.Verdict.{Verdict}}
+use Rattle.dimacs_judging.specs.{declared.verdict.JudgeError.TheVariants.{Refused, Memory}, Optimum.{Maximum}}
+use Rattle.dimacs_judging.specs.{declared.verdict.Verdict.TheVariants.{Max}, declared.verdict.Where.TheVariants.{Node}}
+use Rattle.dimacs_judging.specs.{Feasible.{FeasibleMax, value}, FlowJudges.{ShowsMaxFlow, max_flow_rows}}
+use Rattle.dimacs_judging.specs.{FlowTests.{feasible_max_rows}, Rows.{one_test}, Tests.{Judges, Row, Settles}}
 use Rattle.dimacs_solve.specs.Climbing.{GivesUp}
-use Rattle.dimacs_arrays.specs.declared.error.Array.TheVariants as arrays
-use Rattle.dimacs_arrays.specs.declared.error.ArrayError.{ArrayError}
-use Rattle.dimacs_arrays.specs.declared.lengths.ArrayLength.{ArrayLength}
-use Rattle.dimacs_arrays.specs.declared.max.MaxArrays.{MaxArrays}
-use Rattle.dimacs_arrays.specs.declared.certify_max.MaxCertified.{MaxCertified}
+use Rattle.dimacs_arrays.specs.{declared.error.ArrayError.{ArrayError}, declared.lengths.ArrayLength.{ArrayLength}}
+use Rattle.dimacs_arrays.specs.{declared.max.MaxArrays.{MaxArrays}, declared.certify_max.MaxCertified.{MaxCertified}}
 use Rattle.dimacs_arrays.specs.declared.certify_max.MaxCertified.TheVariants.{Optimal, Better}
-use Rattle.dimacs_arrays.specs.declared.solve_max.MaxSolved.{MaxSolved}
+use Rattle.dimacs_arrays.specs.{declared.solve_max.MaxSolved.{MaxSolved}, Answers.{AnswersArrays, length_of}}
+use Rattle.dimacs_arrays.specs.{ByNode.{AreBits, marked}, Limits.{count_rows, limit_row}}
+use Rattle.dimacs_arrays.specs.declared.error.Array.TheVariants as arrays
 use Rattle.dimacs_arrays.specs.declared.solve_max.MaxSolved.TheVariants as solved
-use Rattle.dimacs_arrays.specs.Answers.{AnswersArrays, length_of}
-use Rattle.dimacs_arrays.specs.ByNode.{AreBits, marked}
-use Rattle.dimacs_arrays.specs.Limits.{count_rows, limit_row}
 
 -- the arc with this index
 abbrev pub max_arc : MaxArrays → ℕ → ArcView

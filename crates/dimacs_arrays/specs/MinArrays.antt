@@ -1,41 +1,27 @@
 -- The arrays of minimum cost flow instances, and the instances that they spell.
 use Rattle.std.specs.Prelude.{ℕ, ◌≡◌, ◌<◌, Bool, List, [], ◌∷◌, ◌++◌, length, get_or, map, ℤ, pos, ◌^◌, ◌+ℤ◌, ◌<ℤ◌, ◌≤ℤ◌, Result, Ok, Err}
-use Rattle.std.specs.List.{range_with_len, zip}
-use Rattle.std.specs.Ordering.{nat_cmp}
-use Rattle.std.specs.FinMap.{FinMap, from_entries}
-use Rattle.dimacs_records.specs.NodeValues.{without_zeros}
-use Rattle.dimacs_records.specs.Ranges.{IsWide}
+use Rattle.std.specs.{List.{range_with_len, zip}, Ordering.{nat_cmp}, FinMap.{FinMap, from_entries}}
+use Rattle.dimacs_records.specs.{NodeValues.{without_zeros}, Ranges.{IsWide}}
 use Rattle.dimacs_lines.specs.Limits.{IsNode}
 use Rattle.dimacs_claims.specs.Potentials.{PotentialsValue, potential_of}
-use Rattle.dimacs_network.specs.declared.network.ArcView.{ArcView}
+use Rattle.dimacs_network.specs.{declared.network.ArcView.{ArcView}, KeptArcs.{cost_arc}}
 use Rattle.dimacs_instance.specs.MinFlows.{MinValue, IsMin}
-use Rattle.dimacs_network.specs.KeptArcs.{cost_arc}
-use Rattle.dimacs_judging.specs.declared.verdict.JudgeError.{JudgeError}
-use Rattle.dimacs_judging.specs.declared.verdict.JudgeError.TheVariants.{Refused, Memory}
-use Rattle.dimacs_judging.specs.declared.verdict.Verdict.{Verdict}
-use Rattle.dimacs_judging.specs.declared.verdict.Verdict.TheVariants.{Infeasible, Min}
-use Rattle.dimacs_judging.specs.CertificateTests.{violated_row}
-use Rattle.dimacs_judging.specs.Feasible.{FeasibleMin}
-use Rattle.dimacs_judging.specs.Flows.{cost}
-use Rattle.dimacs_judging.specs.FlowTests.{feasible_min_rows, cost_row, cost_through}
-use Rattle.dimacs_judging.specs.Optimum.{Least, NoFlow}
-use Rattle.dimacs_judging.specs.FlowJudges.{ShowsMinFlow, min_flow_rows}
-use Rattle.dimacs_judging.specs.Tests.{Judges, Row, Settles}
-use Rattle.dimacs_judging.specs.ViolatedSets.{Violated}
+use Rattle.dimacs_judging.specs.{declared.verdict.JudgeError.{JudgeError}, declared.verdict.Verdict.{Verdict}}
+use Rattle.dimacs_judging.specs.{declared.verdict.JudgeError.TheVariants.{Refused, Memory}, Feasible.{FeasibleMin}}
+use Rattle.dimacs_judging.specs.{declared.verdict.Verdict.TheVariants.{Infeasible, Min}, Flows.{cost}}
+use Rattle.dimacs_judging.specs.{CertificateTests.{violated_row}, FlowTests.{feasible_min_rows, cost_row, cost_through}}
+use Rattle.dimacs_judging.specs.{Optimum.{Least, NoFlow}, FlowJudges.{ShowsMinFlow, min_flow_rows}}
+use Rattle.dimacs_judging.specs.{Tests.{Judges, Row, Settles}, ViolatedSets.{Violated}}
 use Rattle.dimacs_solve.specs.Descending.{GivesUpMin, start_flow}
-use Rattle.dimacs_arrays.specs.declared.error.Array.TheVariants as arrays
-use Rattle.dimacs_arrays.specs.declared.error.ArrayError.{ArrayError}
-use Rattle.dimacs_arrays.specs.declared.lengths.ArrayLength.{ArrayLength}
-use Rattle.dimacs_arrays.specs.declared.min.MinArrays.{MinArrays}
+use Rattle.dimacs_arrays.specs.{declared.error.ArrayError.{ArrayError}, declared.lengths.ArrayLength.{ArrayLength}}
+use Rattle.dimacs_arrays.specs.{declared.min.MinArrays.{MinArrays}, declared.certify_min.MinCertified.{MinCertified}}
 use Rattle.dimacs_arrays.specs.declared.certify_infeasible.InfeasibleCertified.{InfeasibleCertified}
-use Rattle.dimacs_arrays.specs.declared.certify_infeasible.InfeasibleCertified.TheVariants as certified
-use Rattle.dimacs_arrays.specs.declared.certify_min.MinCertified.{MinCertified}
 use Rattle.dimacs_arrays.specs.declared.certify_min.MinCertified.TheVariants.{Optimal, Wide, Better}
-use Rattle.dimacs_arrays.specs.declared.solve_min.MinSolved.{MinSolved}
+use Rattle.dimacs_arrays.specs.{declared.solve_min.MinSolved.{MinSolved}, Answers.{AnswersArrays, length_of}}
+use Rattle.dimacs_arrays.specs.{ByNode.{AreBits, marked, number_of}, Limits.{count_rows, limit_row}}
+use Rattle.dimacs_arrays.specs.declared.error.Array.TheVariants as arrays
+use Rattle.dimacs_arrays.specs.declared.certify_infeasible.InfeasibleCertified.TheVariants as certified
 use Rattle.dimacs_arrays.specs.declared.solve_min.MinSolved.TheVariants as solved
-use Rattle.dimacs_arrays.specs.Answers.{AnswersArrays, length_of}
-use Rattle.dimacs_arrays.specs.ByNode.{AreBits, marked, number_of}
-use Rattle.dimacs_arrays.specs.Limits.{count_rows, limit_row}
 
 abbrev pub min_arc : MinArrays → ℕ → ArcView
 min_arc a k =

@@ -1,23 +1,18 @@
 -- Distances and predecessors by node, and the labels that they spell.
 use Rattle.std.specs.Prelude.{ℕ, ◌≡◌, ◌≢◌, ◌⊎◌, List, [], ◌∷◌, All, Contains, length, Option, None, Result, Ok, Err, ℤ, pos}
-use Rattle.std.specs.Global.{Vec}
-use Rattle.std.specs.Result.{IsErrAnd}
+use Rattle.std.specs.{Global.{Vec}, Result.{IsErrAnd}}
 use Rattle.dimacs_lines.specs.Limits.{IsNode}
 use Rattle.dimacs_records.specs.declared.reasons.Reason.TheVariants.{NegativeWeight, NodeRange}
 use Rattle.dimacs_network.specs.Arcs.{NetworkValue}
 use Rattle.dimacs_instance.specs.QueryTexts.{Sources}
 use Rattle.dimacs_claims.specs.declared.block.Label.{Label}
 use Rattle.dimacs_claims.specs.Labels.{BlockValue, EachAfter, IsBlock, IsItem, LabelsValue, label}
-use Rattle.dimacs_judging.specs.Answers.{AnswersQueries}
-use Rattle.dimacs_judging.specs.PathsJudge.{PassesPaths, ShowsDistances, paths_rows}
-use Rattle.dimacs_judging.specs.Rows.{node_row}
-use Rattle.dimacs_judging.specs.Tests.{FirstAlone, Judges, Refutes, Row}
-use Rattle.dimacs_judging.specs.declared.verdict.JudgeError.{JudgeError}
+use Rattle.dimacs_judging.specs.{Answers.{AnswersQueries}, PathsJudge.{PassesPaths, ShowsDistances, paths_rows}}
+use Rattle.dimacs_judging.specs.{Rows.{node_row}, Tests.{FirstAlone, Judges, Refutes, Row}}
+use Rattle.dimacs_judging.specs.{declared.verdict.JudgeError.{JudgeError}, declared.verdict.Verdict.{Verdict}}
 use Rattle.dimacs_judging.specs.declared.verdict.JudgeError.TheVariants.{Refused, Memory}
-use Rattle.dimacs_judging.specs.declared.verdict.Verdict.{Verdict}
 use Rattle.dimacs_judging.specs.declared.verdict.Where.TheVariants.{Arc}
-use Rattle.dimacs_decide.specs.Claims.{claimed_by_node}
-use Rattle.dimacs_decide.specs.Distances.{AreDistancesFrom, claim_rows, source_row}
+use Rattle.dimacs_decide.specs.{Claims.{claimed_by_node}, Distances.{AreDistancesFrom, claim_rows, source_row}}
 use Rattle.dimacs_decide.specs.Predecessors.{IsNext, NeedsPredecessor, back_row, pred_by_node}
 use Rattle.dimacs_solve.specs.Paths.{AreProduced, HasNoNegativeWeight, IsFirstNegative}
 use Rattle.dimacs_arrays.specs.declared.solve_paths.PathsSolved.{PathsSolved}

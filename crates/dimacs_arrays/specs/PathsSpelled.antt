@@ -2,26 +2,18 @@
 use Rattle.std.specs.Prelude.{ℕ, ℤ, ◌≡◌, ◌≤◌, ◌<◌, ◌+◌, ◌⊎◌, ◌==◌, Bool, true, false, if◌then◌else◌, List, [], ◌∷◌, get_or, length, min, slice_get, Option, None, Some, Result, Ok, Err, pos}
 use Rattle.std.specs.List.{filter_map, range_with_len, zip}
 use Rattle.dimacs_lines.specs.Limits.{IsNode, most_count, most_nodes}
-use Rattle.dimacs_records.specs.declared.reasons.Reason.TheVariants.{NumberRange}
-use Rattle.dimacs_records.specs.Ranges.{IsId}
+use Rattle.dimacs_records.specs.{declared.reasons.Reason.TheVariants.{NumberRange}, Ranges.{IsId}}
 use Rattle.dimacs_instance.specs.declared.queries.Queries.{Queries}
 use Rattle.dimacs_instance.specs.QueryTexts.{AreLawful, Pairs, QueriesValue, Sources, asked}
-use Rattle.dimacs_claims.specs.declared.block.Label.{Label}
-use Rattle.dimacs_claims.specs.Labels.{BlockValue, LabelsValue}
-use Rattle.dimacs_judging.specs.declared.verdict.JudgeError.{JudgeError}
-use Rattle.dimacs_judging.specs.declared.verdict.JudgeError.TheVariants.{Refused, Memory}
-use Rattle.dimacs_judging.specs.declared.verdict.Where.TheVariants.{Node}
-use Rattle.dimacs_judging.specs.Rows.{one_test}
+use Rattle.dimacs_claims.specs.{declared.block.Label.{Label}, Labels.{BlockValue, LabelsValue}}
+use Rattle.dimacs_judging.specs.{declared.verdict.JudgeError.{JudgeError}, declared.verdict.Where.TheVariants.{Node}}
+use Rattle.dimacs_judging.specs.{declared.verdict.JudgeError.TheVariants.{Refused, Memory}, Rows.{one_test}}
 use Rattle.dimacs_judging.specs.Tests.{Row, Settles}
-use Rattle.dimacs_decide.specs.Claims.{claimed_by_node}
-use Rattle.dimacs_decide.specs.Distances.{source_row}
-use Rattle.dimacs_decide.specs.Predecessors.{pred_by_node}
-use Rattle.dimacs_arrays.specs.declared.error.Array.TheVariants as arrays
-use Rattle.dimacs_arrays.specs.declared.error.ArrayError.{ArrayError}
-use Rattle.dimacs_arrays.specs.declared.lengths.ArrayLength.{ArrayLength}
-use Rattle.dimacs_arrays.specs.Answers.{AnswersArrays, length_of}
-use Rattle.dimacs_arrays.specs.GraphArrays.{source_rows}
+use Rattle.dimacs_decide.specs.{Claims.{claimed_by_node}, Distances.{source_row}, Predecessors.{pred_by_node}}
+use Rattle.dimacs_arrays.specs.{declared.error.ArrayError.{ArrayError}, declared.lengths.ArrayLength.{ArrayLength}}
+use Rattle.dimacs_arrays.specs.{Answers.{AnswersArrays, length_of}, GraphArrays.{source_rows}}
 use Rattle.dimacs_arrays.specs.Paths.{AreInOrder, AreLabelsBy, label_rows}
+use Rattle.dimacs_arrays.specs.declared.error.Array.TheVariants as arrays
 
 -- ---- queries
 -- at most 2^28 queries; as many `tos` as `froms` for pairs, otherwise none

@@ -2,34 +2,22 @@
 use Rattle.std.specs.Prelude.{ℕ, ℤ, ◌≡◌, List, [], ◌∷◌, ◌++◌, length, get_or, map, pos, Result, Ok, Err}
 use Rattle.std.specs.List.{range_with_len}
 use Rattle.dimacs_lines.specs.Lines.{lines}
-use Rattle.dimacs_records.specs.declared.faults.ReadError.{ReadError}
+use Rattle.dimacs_records.specs.{declared.faults.ReadError.{ReadError}, Faults.{Fault}, Ranges.{IsWhole}, Texts.{Reads}}
+use Rattle.dimacs_records.specs.declared.reasons.Reason.TheVariants.{NumberRange}
+use Rattle.dimacs_network.specs.{declared.network.ArcView.{ArcView}, Arcs.{NetworkValue}, KeptArcs.{weight_arc}}
+use Rattle.dimacs_instance.specs.Graph.{IsGraph}
+use Rattle.dimacs_claims.specs.{declared.solution.Entry.{Entry}, declared.solution.Solution.{Solution}}
+use Rattle.dimacs_claims.specs.SolutionTexts.{SolutionValue, SpellsSolution, claimed}
+use Rattle.dimacs_judging.specs.{declared.verdict.JudgeError.{JudgeError}, Claims.{Carries, entry_row}, Rows.{one_test}}
+use Rattle.dimacs_judging.specs.{declared.verdict.JudgeError.TheVariants.{Refused, Memory}, Tests.{Row, Settles}}
+use Rattle.dimacs_decide.specs.Entries.{IsSolutionOf}
+use Rattle.dimacs_arrays.specs.{declared.error.ArrayError.{ArrayError}, declared.lengths.ArrayLength.{ArrayLength}}
+use Rattle.dimacs_arrays.specs.{declared.solution.ClaimedFlow.{ClaimedFlow}, declared.solution.EndArrays.{EndArrays}}
+use Rattle.dimacs_arrays.specs.{Answers.{AnswersArrays, length_of}, Limits.{count_rows, limit_row}}
 use Rattle.dimacs_records.specs.declared.faults.ReadError.TheVariants as read_errors
 use Rattle.dimacs_records.specs.declared.kinds.TextKind.TheVariants as kinds
-use Rattle.dimacs_records.specs.declared.reasons.Reason.TheVariants.{NumberRange}
-use Rattle.dimacs_records.specs.Faults.{Fault}
-use Rattle.dimacs_records.specs.Ranges.{IsWhole}
-use Rattle.dimacs_records.specs.Texts.{Reads}
-use Rattle.dimacs_network.specs.declared.network.ArcView.{ArcView}
-use Rattle.dimacs_network.specs.Arcs.{NetworkValue}
-use Rattle.dimacs_network.specs.KeptArcs.{weight_arc}
-use Rattle.dimacs_instance.specs.Graph.{IsGraph}
-use Rattle.dimacs_claims.specs.declared.solution.Entry.{Entry}
-use Rattle.dimacs_claims.specs.declared.solution.Solution.{Solution}
-use Rattle.dimacs_claims.specs.SolutionTexts.{SolutionValue, SpellsSolution, claimed}
-use Rattle.dimacs_judging.specs.declared.verdict.JudgeError.{JudgeError}
-use Rattle.dimacs_judging.specs.declared.verdict.JudgeError.TheVariants.{Refused, Memory}
 use Rattle.dimacs_judging.specs.declared.verdict.Where.TheVariants as places
-use Rattle.dimacs_judging.specs.Claims.{Carries, entry_row}
-use Rattle.dimacs_decide.specs.Entries.{IsSolutionOf}
-use Rattle.dimacs_judging.specs.Rows.{one_test}
-use Rattle.dimacs_judging.specs.Tests.{Row, Settles}
 use Rattle.dimacs_arrays.specs.declared.error.Array.TheVariants as arrays
-use Rattle.dimacs_arrays.specs.declared.error.ArrayError.{ArrayError}
-use Rattle.dimacs_arrays.specs.declared.lengths.ArrayLength.{ArrayLength}
-use Rattle.dimacs_arrays.specs.declared.solution.ClaimedFlow.{ClaimedFlow}
-use Rattle.dimacs_arrays.specs.declared.solution.EndArrays.{EndArrays}
-use Rattle.dimacs_arrays.specs.Answers.{AnswersArrays, length_of}
-use Rattle.dimacs_arrays.specs.Limits.{count_rows, limit_row}
 
 -- the arc with this index; its numbers are 0
 abbrev pub end_arc : EndArrays → ℕ → ArcView

@@ -3,27 +3,18 @@ use Rattle.std.specs.Prelude.{ℕ, ℤ, ◌≡◌, ◌≤◌, ◌<◌, ◌+◌, 
 use Rattle.dimacs_lines.specs.Limits.{most_nodes}
 use Rattle.dimacs_records.specs.declared.reasons.Reason.TheVariants.{NumberRange}
 use Rattle.dimacs_network.specs.Arcs.{NetworkValue}
-use Rattle.dimacs_instance.specs.Graph.{IsGraph}
-use Rattle.dimacs_instance.specs.MaxFlows.{MaxValue, IsMax}
-use Rattle.dimacs_instance.specs.MinFlows.{MinValue, IsMin}
-use Rattle.dimacs_claims.specs.Cuts.{CutValue}
-use Rattle.dimacs_claims.specs.Potentials.{PotentialsValue, potential_of}
-use Rattle.dimacs_judging.specs.declared.verdict.Where.TheVariants.{Node}
-use Rattle.dimacs_judging.specs.Cuts.{members}
+use Rattle.dimacs_instance.specs.{Graph.{IsGraph}, MaxFlows.{MaxValue, IsMax}, MinFlows.{MinValue, IsMin}}
+use Rattle.dimacs_claims.specs.{Cuts.{CutValue}, Potentials.{PotentialsValue, potential_of}}
+use Rattle.dimacs_judging.specs.{declared.verdict.Where.TheVariants.{Node}, Cuts.{members}, Tests.{Row}}
 use Rattle.dimacs_judging.specs.declared.verdict.JudgeError.{JudgeError}
 use Rattle.dimacs_judging.specs.declared.verdict.JudgeError.TheVariants.{Refused, Memory}
-use Rattle.dimacs_judging.specs.Tests.{Row}
-use Rattle.dimacs_arrays.specs.declared.error.ArrayError.{ArrayError}
-use Rattle.dimacs_arrays.specs.declared.error.ArrayError.TheVariants as errors
-use Rattle.dimacs_arrays.specs.ByNode.{marked, number_of}
-use Rattle.dimacs_arrays.specs.declared.graph.GraphArrays.{GraphArrays}
-use Rattle.dimacs_arrays.specs.declared.max.MaxArrays.{MaxArrays}
-use Rattle.dimacs_arrays.specs.declared.min.MinArrays.{MinArrays}
-use Rattle.dimacs_arrays.specs.Answers.{AnswersArrays}
-use Rattle.dimacs_arrays.specs.GraphArrays.{graph_lengths, graph_spelled}
-use Rattle.dimacs_arrays.specs.Limits.{count_rows, limit_row}
+use Rattle.dimacs_arrays.specs.{declared.error.ArrayError.{ArrayError}, ByNode.{marked, number_of}}
+use Rattle.dimacs_arrays.specs.{declared.graph.GraphArrays.{GraphArrays}, declared.max.MaxArrays.{MaxArrays}}
+use Rattle.dimacs_arrays.specs.{declared.min.MinArrays.{MinArrays}, Answers.{AnswersArrays}}
+use Rattle.dimacs_arrays.specs.{GraphArrays.{graph_lengths, graph_spelled}, Limits.{count_rows, limit_row}}
 use Rattle.dimacs_arrays.specs.MaxArrays.{max_lengths, max_limits, max_spelled}
 use Rattle.dimacs_arrays.specs.MinArrays.{min_lengths, min_limits, min_spelled}
+use Rattle.dimacs_arrays.specs.declared.error.ArrayError.TheVariants as errors
 
 -- the value that is spelled; or out of memory, but no failed test
 abbrev pub IsSpelled : {V : Type 0} → V → Result V JudgeError → Type 0

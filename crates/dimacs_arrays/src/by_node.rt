@@ -3,11 +3,9 @@
 ghost use Rattle.std.specs.Prelude.{◌≡◌, ◌≤◌, ◌⊎◌, ◌^◌, ◌+ℤ◌, ◌≤ℤ◌, ℤ, pos, neg_ℤ, length, IfNone, IfOk, IfSome};
 ghost use Rattle.dimacs_lines.specs.Limits.{most_nodes};
 ghost use Rattle.dimacs_records.specs.Ranges.{IsWhole, IsWide};
-ghost use Rattle.dimacs_claims.specs.Cuts.{IsCut};
-ghost use Rattle.dimacs_claims.specs.Potentials.{potential_of};
+ghost use Rattle.dimacs_claims.specs.{Cuts.{IsCut}, Potentials.{potential_of}};
 ghost use Rattle.dimacs_judging.specs.Cuts.{members};
-ghost use Rattle.dimacs_arrays.specs.ByNode.{AreBits, marked, number_of};
-ghost use Rattle.dimacs_arrays.specs.MinArrays.{IsWider};
+ghost use Rattle.dimacs_arrays.specs.{ByNode.{AreBits, marked, number_of}, MinArrays.{IsWider}};
 ghost use Rattle.dimacs_arrays.specs.inside.MinCertified.{AreShifted, IsLeastOf, IsShift, IsWiderBy};
 
 use dimacs_claims::{Cut, Potentials};

@@ -1,8 +1,7 @@
 //! Certifies over arrays that a flow is maximum.
 
 ghost use Rattle.std.specs.Prelude.{◌≡◌, length};
-ghost use Rattle.dimacs_judging.specs.FlowTests.{feasible_max_rows};
-ghost use Rattle.dimacs_judging.specs.Tests.{Settles};
+ghost use Rattle.dimacs_judging.specs.{FlowTests.{feasible_max_rows}, Tests.{Settles}};
 ghost use Rattle.dimacs_arrays.specs.MaxArrays.{CertifiesMaxArrays, CertifiesMaxFlow};
 
 use crate::by_node::bytes_of;

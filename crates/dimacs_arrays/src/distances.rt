@@ -3,8 +3,7 @@
 ghost use Rattle.std.specs.Prelude.{◌≡◌, ◌∷◌, [], length, IfOk};
 ghost use Rattle.dimacs_lines.specs.Limits.{IsNode};
 ghost use Rattle.dimacs_instance.specs.QueryTexts.{Sources, asked};
-ghost use Rattle.dimacs_decide.specs.Claims.{claimed_by_node};
-ghost use Rattle.dimacs_decide.specs.Predecessors.{pred_by_node};
+ghost use Rattle.dimacs_decide.specs.{Claims.{claimed_by_node}, Predecessors.{pred_by_node}};
 ghost use Rattle.dimacs_arrays.specs.Paths.{CertifiesByNode, JudgesByNode};
 
 use crate::labels::labels_by_node;

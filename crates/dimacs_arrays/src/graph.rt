@@ -4,8 +4,7 @@ ghost use Rattle.std.specs.Prelude.{◌≡◌, ◌<◌, length, IfOk, OnOk};
 ghost use Rattle.dimacs_lines.specs.Limits.{IsNode};
 ghost use Rattle.dimacs_instance.specs.Graph.{IsGraph};
 ghost use Rattle.dimacs_arrays.specs.GraphArrays.{graph_lengths, graph_limits, graph_spelled, weighted_arc};
-ghost use Rattle.dimacs_arrays.specs.Spelled.{arc_limits};
-ghost use Rattle.dimacs_arrays.specs.inside.Answers.{Spells, TestsLengths};
+ghost use Rattle.dimacs_arrays.specs.{Spelled.{arc_limits}, inside.Answers.{Spells, TestsLengths}};
 
 use crate::error::{Array, ArrayError};
 use crate::lengths::{ArrayLength, lengths_hold};

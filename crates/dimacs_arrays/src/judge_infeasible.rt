@@ -1,8 +1,7 @@
 //! Judges over arrays that no flow is feasible.
 
 ghost use Rattle.std.specs.Prelude.{◌≡◌, length};
-ghost use Rattle.dimacs_arrays.specs.ByNode.{marked};
-ghost use Rattle.dimacs_arrays.specs.MinArrays.{JudgesInfeasible, JudgesInfeasibleArrays};
+ghost use Rattle.dimacs_arrays.specs.{ByNode.{marked}, MinArrays.{JudgesInfeasible, JudgesInfeasibleArrays}};
 
 use crate::by_node::cut_of;
 use crate::error::{Array, ArrayError};

@@ -1,8 +1,7 @@
 //! Judges over arrays that a flow is maximum.
 
 ghost use Rattle.std.specs.Prelude.{◌≡◌, length};
-ghost use Rattle.dimacs_arrays.specs.ByNode.{marked};
-ghost use Rattle.dimacs_arrays.specs.MaxArrays.{JudgesMaxArrays, JudgesMaxFlow};
+ghost use Rattle.dimacs_arrays.specs.{ByNode.{marked}, MaxArrays.{JudgesMaxArrays, JudgesMaxFlow}};
 
 use crate::by_node::cut_of;
 use crate::error::{Array, ArrayError};

@@ -1,8 +1,7 @@
 //! Judges over arrays that a flow costs least.
 
 ghost use Rattle.std.specs.Prelude.{◌≡◌, length};
-ghost use Rattle.dimacs_arrays.specs.ByNode.{number_of};
-ghost use Rattle.dimacs_arrays.specs.MinArrays.{JudgesMinArrays, JudgesMinFlow};
+ghost use Rattle.dimacs_arrays.specs.{ByNode.{number_of}, MinArrays.{JudgesMinArrays, JudgesMinFlow}};
 
 use crate::by_node::potentials_of;
 use crate::error::{Array, ArrayError};

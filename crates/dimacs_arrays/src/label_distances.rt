@@ -3,8 +3,7 @@
 ghost use Rattle.std.specs.Prelude.{◌≡◌, IfNone, IfOk, IfSome};
 ghost use Rattle.dimacs_claims.specs.Labels.{IsBlock, IsItem};
 ghost use Rattle.dimacs_records.specs.Ranges.{IsWide};
-ghost use Rattle.dimacs_arrays.specs.Paths.{ExceedsArray};
-ghost use Rattle.dimacs_arrays.specs.inside.LabelDistances.{AreDistancesOf};
+ghost use Rattle.dimacs_arrays.specs.{Paths.{ExceedsArray}, inside.LabelDistances.{AreDistancesOf}};
 
 use dimacs_claims::Block;
 use dimacs_lines::Memory;

@@ -3,8 +3,7 @@
 ghost use Rattle.std.specs.Prelude.{◌≡◌, ◌≤◌, ◌↔◌, length, IfOk, IsTrue};
 ghost use Rattle.dimacs_lines.specs.Limits.{most_nodes, IsNode};
 ghost use Rattle.dimacs_judging.specs.Tests.{Settles, TestsRow};
-ghost use Rattle.dimacs_decide.specs.Claims.{claimed_by_node};
-ghost use Rattle.dimacs_decide.specs.Predecessors.{pred_by_node};
+ghost use Rattle.dimacs_decide.specs.{Claims.{claimed_by_node}, Predecessors.{pred_by_node}};
 ghost use Rattle.dimacs_arrays.specs.Paths.{AreInOrder, AreLabelsBy, IsPred, label_rows, pred_row};
 
 use dimacs_claims::Labels;

@@ -1,8 +1,7 @@
 //! Tests the lengths of arrays.
 
 ghost use Rattle.std.specs.Prelude.{◌≡◌};
-ghost use Rattle.dimacs_arrays.specs.Answers.{length_of};
-ghost use Rattle.dimacs_arrays.specs.inside.Answers.{TestsLengths};
+ghost use Rattle.dimacs_arrays.specs.{Answers.{length_of}, inside.Answers.{TestsLengths}};
 
 use crate::error::{Array, ArrayError};
 

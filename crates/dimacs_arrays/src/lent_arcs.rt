@@ -3,8 +3,7 @@
 ghost use Rattle.std.specs.Prelude.{◌≡◌, ◌<◌, ◌≤◌, ℕ, IfOk};
 ghost use Rattle.dimacs_lines.specs.Limits.{most_count};
 ghost use Rattle.dimacs_network.specs.declared.network.ArcView.{ArcView};
-ghost use Rattle.dimacs_arrays.specs.Lent.{lent_arcs};
-ghost use Rattle.dimacs_arrays.specs.inside.Lent.{TestsArcs};
+ghost use Rattle.dimacs_arrays.specs.{Lent.{lent_arcs}, inside.Lent.{TestsArcs}};
 
 use crate::limits::{PastLimit, arcs_hold};
 use dimacs_network::{ArcView, Network};

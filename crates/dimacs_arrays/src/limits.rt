@@ -2,10 +2,8 @@
 
 ghost use Rattle.std.specs.Prelude.{◌≤◌, IfNone, OnOk};
 ghost use Rattle.dimacs_lines.specs.Limits.{IsNode, most_count, most_nodes};
-ghost use Rattle.dimacs_arrays.specs.GraphArrays.{source_rows};
-ghost use Rattle.dimacs_arrays.specs.Limits.{ArcFails, count_rows};
-ghost use Rattle.dimacs_arrays.specs.inside.Answers.{TestsLimits};
-ghost use Rattle.dimacs_arrays.specs.inside.Lent.{IsInRange, TestsArcs};
+ghost use Rattle.dimacs_arrays.specs.{GraphArrays.{source_rows}, Limits.{ArcFails, count_rows}};
+ghost use Rattle.dimacs_arrays.specs.{inside.Answers.{TestsLimits}, inside.Lent.{IsInRange, TestsArcs}};
 ghost use Rattle.dimacs_judging.specs.inside.Tests.{NamesReason};
 
 use dimacs_judging::Where;

@@ -7,12 +7,9 @@ ghost use Rattle.dimacs_records.specs.Ranges.{IsId};
 ghost use Rattle.dimacs_instance.specs.QueryTexts.{asked};
 ghost use Rattle.dimacs_claims.specs.Labels.{IsBlock};
 ghost use Rattle.dimacs_judging.specs.Tests.{Settles};
-ghost use Rattle.dimacs_decide.specs.Claims.{claimed_by_node};
-ghost use Rattle.dimacs_decide.specs.Distances.{source_row};
-ghost use Rattle.dimacs_arrays.specs.PathsSpelled.{AreDistancesBy, IsPastId, SpellsDistancesArray, SpellsLabelArrays, SpellsQueryArrays};
-ghost use Rattle.dimacs_arrays.specs.PathsSpelled.{block_spelled, label_with, queries_spelled, query_row};
-ghost use Rattle.dimacs_arrays.specs.inside.Answers.{TestsLimits};
-ghost use Rattle.dimacs_arrays.specs.inside.PathsSpelled.{AreInRangeBelow};
+ghost use Rattle.dimacs_decide.specs.{Claims.{claimed_by_node}, Distances.{source_row}};
+ghost use Rattle.dimacs_arrays.specs.PathsSpelled.{AreDistancesBy, IsPastId, SpellsDistancesArray, SpellsLabelArrays, SpellsQueryArrays, block_spelled, label_with, queries_spelled, query_row};
+ghost use Rattle.dimacs_arrays.specs.{inside.Answers.{TestsLimits}, inside.PathsSpelled.{AreInRangeBelow}};
 
 use crate::error::{Array, ArrayError};
 use crate::labels::labels_by_node;

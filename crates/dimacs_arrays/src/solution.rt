@@ -1,14 +1,12 @@
 //! Solutions over arcs in arrays: read into an amount for each arc, and made.
 
 ghost use Rattle.std.specs.Prelude.{◌≡◌, ◌<◌, length, IfNone, IfOk, IfSome};
-ghost use Rattle.dimacs_records.specs.declared.reasons.Reason.TheVariants.{NumberRange};
-ghost use Rattle.dimacs_records.specs.Ranges.{IsWhole};
+ghost use Rattle.dimacs_records.specs.{declared.reasons.Reason.TheVariants.{NumberRange}, Ranges.{IsWhole}};
 ghost use Rattle.dimacs_judging.specs.declared.verdict.JudgeError.TheVariants.{Refused};
 ghost use Rattle.dimacs_judging.specs.declared.verdict.Where.TheVariants as places;
 ghost use Rattle.dimacs_instance.specs.Graph.{IsGraph};
 ghost use Rattle.dimacs_arrays.specs.SolutionArrays.{MakesSolution, MakesSolutionArrays, ReadsSolutionArrays, ReadsSolutionOver, end_arc, ends_lengths, ends_limits, ends_spelled, not_read};
-ghost use Rattle.dimacs_arrays.specs.inside.Answers.{Spells, TestsLengths};
-ghost use Rattle.dimacs_arrays.specs.inside.ClaimedFlows.{ClaimsFlow};
+ghost use Rattle.dimacs_arrays.specs.{inside.Answers.{Spells, TestsLengths}, inside.ClaimedFlows.{ClaimsFlow}};
 
 use crate::error::{Array, ArrayError};
 use crate::lengths::{ArrayLength, lengths_hold};

@@ -2,8 +2,7 @@
 
 ghost use Rattle.std.specs.Prelude.{◌≡◌, ℕ, IfOk, Ok};
 ghost use Rattle.dimacs_claims.specs.Potentials.{potential_of};
-ghost use Rattle.dimacs_judging.specs.Optimum.{Least};
-ghost use Rattle.dimacs_judging.specs.Potentials.{Slack};
+ghost use Rattle.dimacs_judging.specs.{Optimum.{Least}, Potentials.{Slack}};
 ghost use Rattle.dimacs_solve.specs.Descending.{start_flow};
 ghost use Rattle.dimacs_arrays.specs.MinArrays.{SolvesMinArrays, SolvesMinFlow};
 

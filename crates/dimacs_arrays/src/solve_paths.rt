@@ -2,8 +2,7 @@
 
 ghost use Rattle.std.specs.Prelude.{◌≡◌};
 ghost use Rattle.dimacs_lines.specs.Limits.{IsNode};
-ghost use Rattle.dimacs_arrays.specs.GraphArrays.{SolvesPathsArrays};
-ghost use Rattle.dimacs_arrays.specs.Paths.{SolvesByNode};
+ghost use Rattle.dimacs_arrays.specs.{GraphArrays.{SolvesPathsArrays}, Paths.{SolvesByNode}};
 ghost use Rattle.dimacs_arrays.specs.inside.LabelDistances.{of_solver};
 
 use crate::distances::all_from;

@@ -3,8 +3,7 @@
 ghost use Rattle.std.specs.Prelude.{◌≡◌, ◌≤◌, ◌↔◌, length, All, IfOk, IfSome, IsTrue, Some, pos};
 ghost use Rattle.dimacs_lines.specs.Limits.{most_nodes};
 ghost use Rattle.dimacs_network.specs.Arcs.{JoinsNodes};
-ghost use Rattle.dimacs_decide.specs.Claims.{claimed_by_node};
-ghost use Rattle.dimacs_decide.specs.Predecessors.{NeedsPredecessor, pred_by_node};
+ghost use Rattle.dimacs_decide.specs.{Claims.{claimed_by_node}, Predecessors.{NeedsPredecessor, pred_by_node}};
 ghost use Rattle.dimacs_arrays.specs.inside.TightPredecessors.{AreTightPredecessorsFrom, HavePredecessors};
 
 use dimacs_decide::{

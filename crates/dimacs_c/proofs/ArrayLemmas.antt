@@ -1,14 +1,11 @@
 -- What a call over arrays hands out is its answer.
 use Rattle.std.proofs.Common.{◌≡◌, ◌∙◌, ◌++◌, ℕ, List, [], ◌∷◌, Option, None, Some, Result, Ok, Err, refl, ap, subst, inl, inr}
 use Rattle.std.specs.Prelude.{IfOk, IfSome}
-use Rattle.dimacs_lines.specs.declared.device.DeviceFault.{DeviceFault}
-use Rattle.dimacs_lines.specs.Puts.{Accepts}
+use Rattle.dimacs_lines.specs.{declared.device.DeviceFault.{DeviceFault}, Puts.{Accepts}}
 use Rattle.dimacs_judging.specs.declared.verdict.Verdict.{Verdict}
-use Rattle.dimacs_arrays.specs.declared.error.ArrayError.{ArrayError}
-use Rattle.dimacs_arrays.specs.declared.error.ArrayError.TheVariants.{Memory}
+use Rattle.dimacs_arrays.specs.{declared.error.ArrayError.{ArrayError}, declared.error.ArrayError.TheVariants.{Memory}}
 use Rattle.dimacs_c.specs.Arrays.{AnswersItems, AnswersLine, Buffers, HandsOutAll, Printed, printed, verdict_printed}
-use Rattle.dimacs_c.specs.Calls.{Handed, HandsNothing, HandsOut, handed}
-use Rattle.dimacs_c.specs.inside.Arrays.{EndsLine}
+use Rattle.dimacs_c.specs.{Calls.{Handed, HandsNothing, HandsOut, handed}, inside.Arrays.{EndsLine}}
 use Rattle.dimacs_c.specs.inside.Calls.{EndsPrinted}
 use Rattle.dimacs_c.proofs.CallLemmas.{bytes_of}
 

@@ -2,13 +2,10 @@
 use Rattle.std.proofs.Common.{◌≡◌, ◌∙◌, ◌++◌, ℕ, Bool, true, false, List, [], ◌∷◌, Option, None, Some, Ok, ap, append-nil, inl, inr, map, refl, subst, sym}
 use Rattle.std.proofs.lemmas.Bool.{false≢true}
 use Rattle.dimacs_lines.specs.Devices.{Written, after_piece}
-use Rattle.dimacs_runs.specs.declared.jobs.Job.{Job}
+use Rattle.dimacs_runs.specs.{declared.jobs.Job.{Job}, declared.status.Status.{Status}, Files.{FilesSeen, WrittenFile}}
 use Rattle.dimacs_runs.specs.declared.jobs.Job.TheVariants.{Convert, Show, Judge, Certify, Spread, Solve}
-use Rattle.dimacs_runs.specs.declared.status.Status.{Status}
-use Rattle.dimacs_runs.specs.declared.text.TextForm.TheVariants.{Canonical, Summary}
+use Rattle.dimacs_runs.specs.{declared.text.TextForm.TheVariants.{Canonical, Summary}, Runs.{Prints}}
 use Rattle.dimacs_runs.specs.Commands.{Reporting, ReportsJudged, ReportsOne, RunsFiles, RunsJob, Seen, accepted_after, plan_of, reads, seen_by}
-use Rattle.dimacs_runs.specs.Files.{FilesSeen, WrittenFile}
-use Rattle.dimacs_runs.specs.Runs.{Prints}
 use Rattle.dimacs_runs.specs.Explained.{MayFollow}
 use Rattle.dimacs_c.specs.Explained.{Reported, ReportsJob, printing}
 use Rattle.dimacs_c.proofs.CallLemmas.{bytes_of}

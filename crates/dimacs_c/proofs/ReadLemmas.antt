@@ -1,19 +1,13 @@
 -- What a call that reads hands out is the result of reading.
 use Rattle.std.proofs.Common.{◌≡◌, ℕ, ℤ, List, Result, Ok, Err, refl, inl, inr}
-use Rattle.dimacs_records.specs.declared.faults.ReadError.{ReadError}
+use Rattle.dimacs_records.specs.{declared.faults.ReadError.{ReadError}, declared.kinds.TextKind.{TextKind}}
 use Rattle.dimacs_records.specs.declared.faults.ReadError.TheVariants.{Refused, Device, Memory}
-use Rattle.dimacs_records.specs.declared.kinds.TextKind.{TextKind}
 use Rattle.dimacs_lines.specs.declared.device.DeviceFault.{DeviceFault}
-use Rattle.dimacs_arrays.specs.declared.error.ArrayError.{ArrayError}
-use Rattle.dimacs_arrays.specs.declared.solution.ClaimedFlow.{ClaimedFlow}
-use Rattle.dimacs_fill.specs.declared.error.FillError.{FillError}
-use Rattle.dimacs_fill.specs.declared.error.FillError.TheVariants.{Unread, Node}
+use Rattle.dimacs_arrays.specs.{declared.error.ArrayError.{ArrayError}, declared.solution.ClaimedFlow.{ClaimedFlow}}
+use Rattle.dimacs_fill.specs.{declared.error.FillError.{FillError}, declared.error.FillError.TheVariants.{Unread, Node}}
 use Rattle.dimacs_fill.specs.Filling.{ReadsArcsInto, ReadsFitting, ReadsInto}
-use Rattle.dimacs_c.specs.ArrayTexts.{value_read}
-use Rattle.dimacs_c.specs.Calls.{Handed, handed}
-use Rattle.dimacs_c.specs.Reading.{AnswersFilled, AnswersRead}
-use Rattle.dimacs_c.specs.inside.ArrayTexts.{value_if}
-use Rattle.dimacs_c.specs.inside.Reading.{EndsUnfilled, EndsUnread}
+use Rattle.dimacs_c.specs.{ArrayTexts.{value_read}, Calls.{Handed, handed}, Reading.{AnswersFilled, AnswersRead}}
+use Rattle.dimacs_c.specs.{inside.ArrayTexts.{value_if}, inside.Reading.{EndsUnfilled, EndsUnread}}
 use Rattle.dimacs_c.proofs.ArrayLemmas.{IsSet, none_by}
 
 -- out of memory is a possible result after any other error

@@ -1,22 +1,14 @@
 -- What calls that write arrays as texts, or read a solution over arrays, hand out.
 use Rattle.std.specs.Prelude.{ℕ, ℤ, ◌≡◌, [], Result, Ok, Err, pos}
 use Rattle.dimacs_network.specs.Arcs.{NetworkValue}
-use Rattle.dimacs_instance.specs.Graph.{canonical_graph}
-use Rattle.dimacs_instance.specs.MaxFlows.{MaxValue}
-use Rattle.dimacs_instance.specs.MaxTexts.{canonical_max}
-use Rattle.dimacs_instance.specs.MinFlows.{MinValue}
-use Rattle.dimacs_instance.specs.MinTexts.{canonical_min}
-use Rattle.dimacs_instance.specs.declared.queries.Queries.{Queries}
+use Rattle.dimacs_instance.specs.{Graph.{canonical_graph}, MaxFlows.{MaxValue}, MaxTexts.{canonical_max}}
+use Rattle.dimacs_instance.specs.{MinFlows.{MinValue}, MinTexts.{canonical_min}, declared.queries.Queries.{Queries}}
 use Rattle.dimacs_instance.specs.QueryTexts.{asked, canonical_queries}
-use Rattle.dimacs_claims.specs.Cuts.{CutValue, canonical_cut}
-use Rattle.dimacs_claims.specs.DistanceTexts.{canonical_distances}
-use Rattle.dimacs_claims.specs.Labels.{LabelsValue}
-use Rattle.dimacs_claims.specs.LabelTexts.{canonical_labels}
-use Rattle.dimacs_claims.specs.declared.solution.Solution.{Solution}
+use Rattle.dimacs_claims.specs.{Cuts.{CutValue, canonical_cut}, DistanceTexts.{canonical_distances}}
+use Rattle.dimacs_claims.specs.{Labels.{LabelsValue}, LabelTexts.{canonical_labels}}
+use Rattle.dimacs_claims.specs.{declared.solution.Solution.{Solution}, SolutionTexts.{canonical_solution, claimed}}
 use Rattle.dimacs_claims.specs.Potentials.{PotentialsValue, canonical_potentials}
-use Rattle.dimacs_claims.specs.SolutionTexts.{canonical_solution, claimed}
-use Rattle.dimacs_arrays.specs.declared.error.ArrayError.{ArrayError}
-use Rattle.dimacs_arrays.specs.declared.solution.ClaimedFlow.{ClaimedFlow}
+use Rattle.dimacs_arrays.specs.{declared.error.ArrayError.{ArrayError}, declared.solution.ClaimedFlow.{ClaimedFlow}}
 use Rattle.dimacs_c.specs.Arrays.{Buffers, HandsOutAll, Printed, only, printed}
 
 -- the canonical texts of what arrays spell

@@ -1,26 +1,23 @@
 -- What calls over arrays return and hand out.
-use Rattle.std.specs.Prelude.{ℕ, ◌≡◌, [], List, Option, IfSome, Result, Ok, Err, ℤ, codes}
-use Rattle.std.specs.Global.{Vec}
+use Rattle.std.specs.{Prelude.{ℕ, ◌≡◌, [], List, Option, IfSome, Result, Ok, Err, ℤ, codes}, Global.{Vec}}
 use Rattle.dimacs_records.specs.declared.reasons.Reason.TheVariants.{Feasible, NotLeast, NotMaximum}
-use Rattle.dimacs_judging.specs.declared.verdict.Verdict.{Verdict}
-use Rattle.dimacs_judging.specs.declared.verdict.Where.TheVariants.{Solution}
+use Rattle.dimacs_judging.specs.{declared.verdict.Verdict.{Verdict}, declared.verdict.Where.TheVariants.{Solution}}
 use Rattle.dimacs_arrays.specs.declared.certify_infeasible.InfeasibleCertified.{InfeasibleCertified}
-use Rattle.dimacs_arrays.specs.declared.certify_infeasible.InfeasibleCertified.TheVariants as infeasible_certified
 use Rattle.dimacs_arrays.specs.declared.certify_max.MaxCertified.{MaxCertified}
-use Rattle.dimacs_arrays.specs.declared.certify_max.MaxCertified.TheVariants as max_certified
 use Rattle.dimacs_arrays.specs.declared.certify_min.MinCertified.{MinCertified}
-use Rattle.dimacs_arrays.specs.declared.certify_min.MinCertified.TheVariants as min_certified
-use Rattle.dimacs_arrays.specs.declared.error.ArrayError.{ArrayError}
+use Rattle.dimacs_arrays.specs.{declared.error.ArrayError.{ArrayError}, declared.solve_max.MaxSolved.{MaxSolved}}
 use Rattle.dimacs_arrays.specs.declared.error.ArrayError.TheVariants.{Length, Limit, Refused, Memory}
-use Rattle.dimacs_arrays.specs.declared.solve_max.MaxSolved.{MaxSolved}
-use Rattle.dimacs_arrays.specs.declared.solve_max.MaxSolved.TheVariants as max_solved
 use Rattle.dimacs_arrays.specs.declared.solve_min.MinSolved.{MinSolved}
-use Rattle.dimacs_arrays.specs.declared.solve_min.MinSolved.TheVariants as min_solved
 use Rattle.dimacs_arrays.specs.declared.solve_paths.PathsSolved.{PathsSolved}
-use Rattle.dimacs_arrays.specs.declared.solve_paths.PathsSolved.TheVariants as paths_solved
 use Rattle.dimacs_runs.specs.Refusals.{refusal_line}
 use Rattle.dimacs_runs.specs.Verdicts.{failure_line, gave_up_line, infeasible_line, max_line, min_line, sources_line, verdict_lines}
 use Rattle.dimacs_c.specs.Calls.{Handed, HandsOut}
+use Rattle.dimacs_arrays.specs.declared.certify_infeasible.InfeasibleCertified.TheVariants as infeasible_certified
+use Rattle.dimacs_arrays.specs.declared.certify_max.MaxCertified.TheVariants as max_certified
+use Rattle.dimacs_arrays.specs.declared.certify_min.MinCertified.TheVariants as min_certified
+use Rattle.dimacs_arrays.specs.declared.solve_max.MaxSolved.TheVariants as max_solved
+use Rattle.dimacs_arrays.specs.declared.solve_min.MinSolved.TheVariants as min_solved
+use Rattle.dimacs_arrays.specs.declared.solve_paths.PathsSolved.TheVariants as paths_solved
 
 -- what a call hands out: a status, a line, and perhaps items: bytes or predecessors, potentials or distances, amounts
 pub record Printed : Type 0 where

@@ -1,17 +1,11 @@
 -- What a command over texts in memory hands out, with its explanation.
 use Rattle.std.specs.Prelude.{ℕ, ◌≡◌, ◌++◌, ◌⊎◌, ◌||◌, false, if◌then◌else◌, List, [], ◌∷◌, None, Some, Ok, codes, drop, map}
-use Rattle.std.specs.Str.{bytes_eq}
-use Rattle.std.specs.Str.Lossy.{utf8_lossy}
+use Rattle.std.specs.{Str.{bytes_eq}, Str.Lossy.{utf8_lossy}}
 use Rattle.dimacs_lines.specs.Fields.{Run, fields_of}
-use Rattle.dimacs_runs.specs.declared.jobs.Job.{Job}
-use Rattle.dimacs_runs.specs.declared.jobs.Job.TheVariants.{Convert, Show, Judge}
-use Rattle.dimacs_runs.specs.declared.status.Status.{Status}
-use Rattle.dimacs_runs.specs.declared.text.TextForm.TheVariants.{Canonical, Summary}
-use Rattle.dimacs_runs.specs.Commands.{Reporting, ReportsJudged, ReportsOne, RunsJob, Seen, plan_of}
-use Rattle.dimacs_runs.specs.Jobs.{Asks}
-use Rattle.dimacs_runs.specs.Outcomes.{status_number}
-use Rattle.dimacs_runs.specs.Runs.{Prints}
-use Rattle.dimacs_runs.specs.Explained.{is_explained}
+use Rattle.dimacs_runs.specs.{declared.jobs.Job.{Job}, declared.jobs.Job.TheVariants.{Convert, Show, Judge}}
+use Rattle.dimacs_runs.specs.{declared.status.Status.{Status}, declared.text.TextForm.TheVariants.{Canonical, Summary}}
+use Rattle.dimacs_runs.specs.{Commands.{Reporting, ReportsJudged, ReportsOne, RunsJob, Seen, plan_of}, Jobs.{Asks}}
+use Rattle.dimacs_runs.specs.{Outcomes.{status_number}, Runs.{Prints}, Explained.{is_explained}}
 use Rattle.dimacs_c.specs.Calls.{Handed, HandsNothing, HandsOut}
 
 -- the words of a command: its fields, as text

@@ -2,17 +2,13 @@
 use Rattle.std.specs.Prelude.{ℕ, ℤ, ◌≡◌, if◌then◌else◌, List, [], pos, Result, Ok, Err}
 use Rattle.dimacs_records.specs.declared.faults.ReadError.{ReadError}
 use Rattle.dimacs_records.specs.declared.faults.ReadError.TheVariants.{Refused, Device, Memory}
-use Rattle.dimacs_fill.specs.declared.error.FillError.{FillError}
-use Rattle.dimacs_fill.specs.declared.error.FillError.TheVariants as fills
-use Rattle.dimacs_fill.specs.declared.graph.GraphSizes.{GraphSizes}
-use Rattle.dimacs_fill.specs.declared.labels.LabelSizes.{LabelSizes}
-use Rattle.dimacs_fill.specs.declared.max.MaxSizes.{MaxSizes}
-use Rattle.dimacs_fill.specs.declared.min.MinSizes.{MinSizes}
-use Rattle.dimacs_fill.specs.declared.queries.QuerySizes.{QuerySizes}
+use Rattle.dimacs_fill.specs.{declared.error.FillError.{FillError}, declared.graph.GraphSizes.{GraphSizes}}
+use Rattle.dimacs_fill.specs.{declared.labels.LabelSizes.{LabelSizes}, declared.max.MaxSizes.{MaxSizes}}
+use Rattle.dimacs_fill.specs.{declared.min.MinSizes.{MinSizes}, declared.queries.QuerySizes.{QuerySizes}}
 use Rattle.dimacs_judging.specs.declared.verdict.Where.TheVariants.{Node}
-use Rattle.dimacs_runs.specs.Refusals.{refusal_line}
-use Rattle.dimacs_runs.specs.Verdicts.{failure_line}
+use Rattle.dimacs_runs.specs.{Refusals.{refusal_line}, Verdicts.{failure_line}}
 use Rattle.dimacs_c.specs.Calls.{Handed, HandsOut}
+use Rattle.dimacs_fill.specs.declared.error.FillError.TheVariants as fills
 
 -- the status after reading a text
 abbrev pub read_status : {W : Type 0} → Result W ReadError → ℕ

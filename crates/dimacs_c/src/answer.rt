@@ -1,8 +1,7 @@
 //! The end of each call: its status, and what it copies to the caller.
 
 ghost use Rattle.std.specs.Prelude.{◌≡◌};
-ghost use Rattle.dimacs_c.specs.Calls.{HandsOut, handed};
-ghost use Rattle.dimacs_c.specs.inside.Calls.{Ends, EndsPrinted};
+ghost use Rattle.dimacs_c.specs.{Calls.{HandsOut, handed}, inside.Calls.{Ends, EndsPrinted}};
 
 use dimacs_lines::DeviceFault;
 use dimacs_runs::{RunError, Status, exit_status};

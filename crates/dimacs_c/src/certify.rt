@@ -1,10 +1,8 @@
 //! Certifying texts in memory.
 
 ghost use Rattle.std.specs.Prelude.{◌∷◌, []};
-ghost use Rattle.dimacs_c.specs.Calls.{AnswersTexts, AnswersTextsKind, handed};
-ghost use Rattle.dimacs_c.specs.Kinds.{judge_kind};
-ghost use Rattle.dimacs_runs.specs.Certified.{Certified};
-ghost use Rattle.dimacs_runs.specs.Outputs.{WritesAlike};
+ghost use Rattle.dimacs_c.specs.{Calls.{AnswersTexts, AnswersTextsKind, handed}, Kinds.{judge_kind}};
+ghost use Rattle.dimacs_runs.specs.{Certified.{Certified}, Outputs.{WritesAlike}};
 
 use crate::answer::{end, misuse};
 use crate::kinds::judge_of;

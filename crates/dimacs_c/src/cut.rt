@@ -4,9 +4,7 @@ ghost use Rattle.std.specs.Prelude.{◌≡◌, None, IfOk, codes};
 ghost use Rattle.dimacs_lines.specs.Puts.{Puts};
 ghost use Rattle.dimacs_fill.specs.CutFilled.{ReadsCutInto};
 ghost use Rattle.dimacs_arrays.specs.Spelled.{SpellsCutArray};
-ghost use Rattle.dimacs_c.specs.ArrayTexts.{cut_text};
-ghost use Rattle.dimacs_c.specs.Arrays.{AnswersItems, buffers, printed};
-ghost use Rattle.dimacs_c.specs.Calls.{handed};
+ghost use Rattle.dimacs_c.specs.{ArrayTexts.{cut_text}, Arrays.{AnswersItems, buffers, printed}, Calls.{handed}};
 ghost use Rattle.dimacs_c.specs.Reading.{AnswersRead, SetsLength};
 
 use crate::answer::hand_printed;

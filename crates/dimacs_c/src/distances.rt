@@ -4,9 +4,7 @@ ghost use Rattle.std.specs.Prelude.{◌≡◌, None, IfOk, codes};
 ghost use Rattle.dimacs_lines.specs.Puts.{Puts};
 ghost use Rattle.dimacs_fill.specs.BlockFilled.{ReadsDistancesInto};
 ghost use Rattle.dimacs_arrays.specs.PathsSpelled.{SpellsDistancesArray};
-ghost use Rattle.dimacs_c.specs.ArrayTexts.{distances_text};
-ghost use Rattle.dimacs_c.specs.Arrays.{AnswersItems, buffers, printed};
-ghost use Rattle.dimacs_c.specs.Calls.{handed};
+ghost use Rattle.dimacs_c.specs.{ArrayTexts.{distances_text}, Arrays.{AnswersItems, buffers, printed}, Calls.{handed}};
 ghost use Rattle.dimacs_c.specs.Reading.{AnswersFilled, SetsLength};
 
 use crate::answer::hand_printed;

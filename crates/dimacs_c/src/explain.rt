@@ -1,9 +1,7 @@
 //! Explaining what a command answers over texts in memory.
 
-ghost use Rattle.std.specs.Prelude.{◌≡◌, ◌∷◌, [], IfOk, map};
-ghost use Rattle.std.specs.String.{string_bytes};
-ghost use Rattle.dimacs_c.specs.Calls.{handed};
-ghost use Rattle.dimacs_c.specs.Explained.{AnswersCommand, file_words, words};
+ghost use Rattle.std.specs.{Prelude.{◌≡◌, ◌∷◌, [], IfOk, map}, String.{string_bytes}};
+ghost use Rattle.dimacs_c.specs.{Calls.{handed}, Explained.{AnswersCommand, file_words, words}};
 
 use crate::answer::{end, misuse};
 use crate::named_texts::NamedTexts;

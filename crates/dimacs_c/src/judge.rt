@@ -1,7 +1,6 @@
 //! Judging texts in memory.
 
-ghost use Rattle.dimacs_c.specs.Calls.{Answers, AnswersKind, handed};
-ghost use Rattle.dimacs_c.specs.Kinds.{judge_kind};
+ghost use Rattle.dimacs_c.specs.{Calls.{Answers, AnswersKind, handed}, Kinds.{judge_kind}};
 ghost use Rattle.dimacs_runs.specs.Judged.{Judged};
 
 use crate::answer::{end, misuse};

@@ -4,8 +4,7 @@ ghost use Rattle.std.specs.Prelude.{◌≡◌, IfOk};
 ghost use Rattle.dimacs_lines.specs.Puts.{Puts};
 ghost use Rattle.dimacs_runs.specs.Verdicts.{failure_line, gave_up_line, verdict_lines};
 ghost use Rattle.dimacs_c.specs.Arrays.{error_line, error_status, feasible_line, printed, verdict_printed};
-ghost use Rattle.dimacs_c.specs.Calls.{handed};
-ghost use Rattle.dimacs_c.specs.inside.Arrays.{EndsLine};
+ghost use Rattle.dimacs_c.specs.{Calls.{handed}, inside.Arrays.{EndsLine}};
 
 use crate::answer::{MISUSED, NO_MEMORY, hand_printed};
 use dimacs_arrays::ArrayError;

@@ -1,7 +1,6 @@
 //! Texts in memory that stand for files.
 
-ghost use Rattle.std.specs.Prelude.{◌≡◌, ◌∷◌, [], None, Some, map};
-ghost use Rattle.std.specs.String.{string_bytes};
+ghost use Rattle.std.specs.{Prelude.{◌≡◌, ◌∷◌, [], None, Some, map}, String.{string_bytes}};
 ghost use Rattle.dimacs_c.specs.Explained.{text_named};
 
 use dimacs_lines::{DeviceFault, MemorySource, Sink};

@@ -4,9 +4,7 @@ ghost use Rattle.std.specs.Prelude.{◌≡◌, nat_lt, None, IfOk, codes};
 ghost use Rattle.dimacs_lines.specs.Puts.{Puts};
 ghost use Rattle.dimacs_fill.specs.QueriesFilled.{ReadsQueriesInto};
 ghost use Rattle.dimacs_arrays.specs.PathsSpelled.{SpellsQueryArrays};
-ghost use Rattle.dimacs_c.specs.ArrayTexts.{queries_text};
-ghost use Rattle.dimacs_c.specs.Arrays.{AnswersItems, buffers, printed};
-ghost use Rattle.dimacs_c.specs.Calls.{handed};
+ghost use Rattle.dimacs_c.specs.{ArrayTexts.{queries_text}, Arrays.{AnswersItems, buffers, printed}, Calls.{handed}};
 ghost use Rattle.dimacs_c.specs.Reading.{AnswersRead, SetsQueries};
 
 use crate::answer::hand_printed;

@@ -1,11 +1,8 @@
 //! Reading the texts of instances into arrays.
 
 ghost use Rattle.std.specs.Prelude.{codes};
-ghost use Rattle.dimacs_fill.specs.GraphFilled.{ReadsGraphInto};
-ghost use Rattle.dimacs_fill.specs.MaxFilled.{ReadsMaxInto};
-ghost use Rattle.dimacs_fill.specs.MinFilled.{ReadsMinInto};
-ghost use Rattle.dimacs_c.specs.Calls.{handed};
-ghost use Rattle.dimacs_c.specs.Reading.{AnswersRead, SetsGraph, SetsMax, SetsMin};
+ghost use Rattle.dimacs_fill.specs.{GraphFilled.{ReadsGraphInto}, MaxFilled.{ReadsMaxInto}, MinFilled.{ReadsMinInto}};
+ghost use Rattle.dimacs_c.specs.{Calls.{handed}, Reading.{AnswersRead, SetsGraph, SetsMax, SetsMin}};
 
 use crate::reading::{end_read, end_unread};
 use dimacs_fill::{read_graph_into, read_max_into, read_min_into};

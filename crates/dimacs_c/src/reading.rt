@@ -3,8 +3,7 @@
 ghost use Rattle.std.specs.Prelude.{◌≡◌, IfOk};
 ghost use Rattle.dimacs_lines.specs.Puts.{Puts};
 ghost use Rattle.dimacs_runs.specs.Refusals.{refusal_line};
-ghost use Rattle.dimacs_c.specs.Calls.{handed};
-ghost use Rattle.dimacs_c.specs.inside.Reading.{EndsUnfilled, EndsUnread};
+ghost use Rattle.dimacs_c.specs.{Calls.{handed}, inside.Reading.{EndsUnfilled, EndsUnread}};
 
 use crate::answer::{NO_MEMORY, hand_printed, misuse};
 use crate::lines::put_refusal;

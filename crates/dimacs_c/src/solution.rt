@@ -3,10 +3,8 @@
 ghost use Rattle.std.specs.Prelude.{◌≡◌, None, Some, IfOk};
 ghost use Rattle.dimacs_lines.specs.Puts.{Puts};
 ghost use Rattle.dimacs_arrays.specs.SolutionArrays.{MakesSolutionArrays, ReadsSolutionArrays};
-ghost use Rattle.dimacs_c.specs.ArrayTexts.{AnswersClaim, flow_read, solution_text};
-ghost use Rattle.dimacs_c.specs.Arrays.{AnswersItems, buffers, printed};
-ghost use Rattle.dimacs_c.specs.Calls.{handed};
-ghost use Rattle.dimacs_c.specs.inside.ArrayTexts.{value_if};
+ghost use Rattle.dimacs_c.specs.{ArrayTexts.{AnswersClaim, flow_read, solution_text}, Calls.{handed}};
+ghost use Rattle.dimacs_c.specs.{Arrays.{AnswersItems, buffers, printed}, inside.ArrayTexts.{value_if}};
 
 use crate::answer::hand_printed;
 use crate::lines::put_error;

@@ -1,10 +1,8 @@
 //! Solving texts in memory.
 
 ghost use Rattle.std.specs.Prelude.{◌∷◌, []};
-ghost use Rattle.dimacs_c.specs.Calls.{AnswersTexts, AnswersTextsKind, handed};
-ghost use Rattle.dimacs_c.specs.Kinds.{solve_job};
-ghost use Rattle.dimacs_runs.specs.Outputs.{MayWrite};
-ghost use Rattle.dimacs_runs.specs.Solved.{Solved};
+ghost use Rattle.dimacs_c.specs.{Calls.{AnswersTexts, AnswersTextsKind, handed}, Kinds.{solve_job}};
+ghost use Rattle.dimacs_runs.specs.{Outputs.{MayWrite}, Solved.{Solved}};
 
 use crate::answer::{end, misuse};
 use crate::kinds::solve_of;

@@ -1,10 +1,8 @@
 //! Dealing out claimed flows in memory.
 
 ghost use Rattle.std.specs.Prelude.{◌∷◌, []};
-ghost use Rattle.dimacs_c.specs.Calls.{AnswersTexts, AnswersTextsKind, handed};
-ghost use Rattle.dimacs_c.specs.Kinds.{spread_kind};
-ghost use Rattle.dimacs_runs.specs.Outputs.{WritesAlike};
-ghost use Rattle.dimacs_runs.specs.Spread.{Spreads};
+ghost use Rattle.dimacs_c.specs.{Calls.{AnswersTexts, AnswersTextsKind, handed}, Kinds.{spread_kind}};
+ghost use Rattle.dimacs_runs.specs.{Outputs.{WritesAlike}, Spread.{Spreads}};
 
 use crate::answer::{end, misuse};
 use crate::kinds::spread_of;

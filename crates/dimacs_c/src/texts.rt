@@ -1,9 +1,7 @@
 //! Converting and describing texts in memory.
 
-ghost use Rattle.dimacs_c.specs.Calls.{Answers, AnswersKind, handed};
-ghost use Rattle.dimacs_c.specs.Kinds.{text_kind};
-ghost use Rattle.dimacs_runs.specs.Runs.{Prints};
-ghost use Rattle.dimacs_runs.specs.declared.text.TextForm.TheVariants.{Canonical, Summary};
+ghost use Rattle.dimacs_c.specs.{Calls.{Answers, AnswersKind, handed}, Kinds.{text_kind}};
+ghost use Rattle.dimacs_runs.specs.{Runs.{Prints}, declared.text.TextForm.TheVariants.{Canonical, Summary}};
 
 use crate::answer::{end, misuse};
 use crate::kinds::text_of;

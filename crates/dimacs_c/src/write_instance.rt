@@ -3,8 +3,7 @@
 ghost use Rattle.std.specs.Prelude.{◌≡◌, None, IfOk};
 ghost use Rattle.dimacs_lines.specs.Puts.{Puts};
 ghost use Rattle.dimacs_arrays.specs.Spelled.{SpellsGraphArrays, SpellsMaxArrays, SpellsMinArrays};
-ghost use Rattle.dimacs_c.specs.Arrays.{AnswersItems, buffers, printed};
-ghost use Rattle.dimacs_c.specs.Calls.{handed};
+ghost use Rattle.dimacs_c.specs.{Arrays.{AnswersItems, buffers, printed}, Calls.{handed}};
 ghost use Rattle.dimacs_c.specs.ArrayTexts.{graph_text, max_text, min_text};
 
 use crate::answer::hand_printed;

@@ -1,18 +1,14 @@
 -- One more label in a block.
 use Rattle.std.proofs.Common.{◌≡◌, ℕ, zero, suc, ◌<◌, ◌∷◌, ◌++◌, [], List, Bool, true, false, cond, Option, Some, None, length, slice_index_or, refl, ap, sym, ◌∙◌, subst, arith, inl, inr, ◌⊎◌}
+use Rattle.std.proofs.{lemmas.Bool.{eqb-true, eq-eqb, false_from_ne_true}, lemmas.List.{length-append}}
+use Rattle.std.proofs.{lemmas.Int.{ints}, lemmas.List.Elements.{All-head, All-nil, All-push, All-tail}}
 use Rattle.std.specs.Prelude.{ℤ, pos, int_lt, IfSome, is_some, if◌then◌else◌, ◌==◌, ◌||◌, map}
 use Rattle.std.specs.List.{All, Contains, list_any}
-use Rattle.std.proofs.lemmas.Bool.{eqb-true, eq-eqb, false_from_ne_true}
-use Rattle.std.proofs.lemmas.List.{length-append}
-use Rattle.std.proofs.lemmas.Int.{ints}
-use Rattle.std.proofs.lemmas.List.Elements.{All-head, All-nil, All-push, All-tail}
 use Rattle.dimacs_lines.specs.Limits.{most_count, IsNode}
-use Rattle.dimacs_records.specs.Blocks.{is_past}
-use Rattle.dimacs_records.specs.Earlier.{or_else}
+use Rattle.dimacs_records.specs.{Blocks.{is_past}, Earlier.{or_else}, Ranges.{IsRadius, IsWide}}
 use Rattle.dimacs_records.proofs.SplitLemmas.{two_places, same, sooner, later}
 use Rattle.dimacs_claims.specs.declared.block.Label.{Label}
 use Rattle.dimacs_claims.specs.Labels.{BlockValue, label, label_at, distance_in, with_label, EachAfter, IsFresh, HasPred, IsLabel, IsBlock, IsWithinRadius, IsNewSource, AreLabels}
-use Rattle.dimacs_records.specs.Ranges.{IsRadius, IsWide}
 
 -- a test before a choice
 test_first : (b : Bool) (d : ℤ) (rest other : Option ℤ) → (if b then Some d else or_else rest other) ≡ or_else (if b then Some d else rest) other

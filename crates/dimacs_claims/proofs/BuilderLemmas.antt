@@ -1,35 +1,27 @@
 -- One more record of labels while their text is read.
 use Rattle.std.proofs.Common.{◌≡◌, ℕ, zero, suc, ◌<◌, ◌≤◌, ◌+◌, ◌-◌, ◌∷◌, ◌++◌, [], List, Bool, true, false, inl, inr, Option, Some, None, length, drop, take, take_all, map, add-one, drop-cons, refl, ap, ap₂, sym, ◌∙◌, subst, arith, append_assoc}
-use Rattle.std.specs.Prelude.{ℤ, IfSome, ◌&&◌, ◌||◌, if◌then◌else◌, not, pos, is_some, is_none, nat_le, slice_get, slice_index_or, slice_set, ◌==◌}
-use Rattle.std.specs.List.{All, list_any}
-use Rattle.std.specs.Ordering.{nat_cmp}
-use Rattle.std.specs.Cmp.{nat_cmp_total, nat_eq_equiv, unsigned_tied}
-use Rattle.std.specs.FinSet.{FinSet, contains, same_set, nat_cmp-IsAntisymmetric}
-use Rattle.std.specs.FinSet as set
-use Rattle.std.proofs.Math.Seq.{get_or-append_seam, set-append_seam}
+use Rattle.std.proofs.{Math.Seq.{get_or-append_seam, set-append_seam}, lemmas.List.Folds.{list_any-append}}
 use Rattle.std.proofs.lemmas.Bool.{cases_eq, eq-eqb, le-leb, leb-false, lt-leb, ltb-false, ne_eqb, not-false, or_parts}
 use Rattle.std.proofs.lemmas.List.{drop_all, length-append, length-map, take-append-le}
 use Rattle.std.proofs.lemmas.List.Elements.{All-pop, All-push, All-nil}
-use Rattle.std.proofs.lemmas.List.Folds.{list_any-append}
+use Rattle.std.specs.Prelude.{ℤ, IfSome, ◌&&◌, ◌||◌, if◌then◌else◌, not, pos, is_some, is_none, nat_le, slice_get, slice_index_or, slice_set, ◌==◌}
+use Rattle.std.specs.{List.{All, list_any}, Ordering.{nat_cmp}, Cmp.{nat_cmp_total, nat_eq_equiv, unsigned_tied}}
+use Rattle.std.specs.FinSet.{FinSet, contains, same_set, nat_cmp-IsAntisymmetric}
 use Rattle.dimacs_lines.specs.Limits.{most_count, most_nodes}
 use Rattle.dimacs_network.proofs.Nodes.{contains-empty, contains-insert}
-use Rattle.dimacs_records.specs.declared.kinds.TextKind.TheVariants.{Labels}
-use Rattle.dimacs_records.specs.declared.order.Context.{Context}
-use Rattle.dimacs_records.specs.declared.records.Record.{Record}
+use Rattle.dimacs_records.specs.{declared.kinds.TextKind.TheVariants.{Labels}, declared.order.Context.{Context}}
+use Rattle.dimacs_records.specs.{declared.records.Record.{Record}, Earlier.{is_short, names}, Ranges.{IsRadius, IsWide}}
 use Rattle.dimacs_records.specs.declared.records.Record.TheVariants.{LabelsProblem, LabelsBlock, LabelsNode}
 use Rattle.dimacs_records.specs.Blocks.{block_in, is_full_block, is_labelled, is_past, is_past_block, is_short_block}
-use Rattle.dimacs_records.specs.Earlier.{is_short, names}
-use Rattle.dimacs_records.specs.Ranges.{IsRadius, IsWide}
-use Rattle.dimacs_records.specs.Readings.{LineRecord, records_of}
-use Rattle.dimacs_records.specs.Spelling.{kind_of}
+use Rattle.dimacs_records.specs.{Readings.{LineRecord, records_of}, Spelling.{kind_of}}
 use Rattle.dimacs_records.specs.Tests.{Passes, PassesEnd, plain_context_after, plain_context_of, end_context_of, context_after}
-use Rattle.dimacs_claims.specs.declared.block.Label.{Label}
+use Rattle.dimacs_claims.specs.{declared.block.Label.{Label}, LabelTexts.{GivesLabels, label_line}}
 use Rattle.dimacs_claims.specs.Labels.{AreSources, BlockValue, EachAfter, IsBlock, IsNewSource, distance_in, label, no_label, with_label, has_source}
-use Rattle.dimacs_claims.specs.LabelTexts.{GivesLabels, label_line}
 use Rattle.dimacs_claims.specs.LabelsReading.{LabelsBegun, lines_of_blocks, labels_begun_records, plain_context, context, end_context}
 use Rattle.dimacs_claims.specs.inside.LabelsReading.{AreLabelled, AreLabelsBegun}
 use Rattle.dimacs_claims.proofs.BlockLemmas.{label_id, near_radius, is_some-label, is_some-push, some_if, block_empty, block_push, each_after_nil, each_after_push}
 use Rattle.dimacs_claims.proofs.LabelRecords.{source_of, opened_with, last_after, last_cases, last_is, say_taken, short_by_records, list_any-has_source, lines_of_blocks-push_block, lines_of_blocks-push_label, lines_of_blocks-zero, new_source, push_same}
+use Rattle.std.specs.FinSet as set
 
 -- what the tests know follows from the records
 pub plain_context_by_records : (b : LabelsBegun) → plain_context b ≡ plain_context_after (labels_begun_records b)

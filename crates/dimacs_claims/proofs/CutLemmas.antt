@@ -1,37 +1,26 @@
 -- Sets of nodes, and one more record of a set while its text is read.
 use Rattle.std.proofs.Common.{◌≡◌, ℕ, suc, ◌<◌, ◌≤◌, ◌∷◌, ◌++◌, [], List, Bool, true, false, Some, length, map, ◌+◌, ◌==◌, ◌||◌, refl, ap, ap₂, sym, ◌∙◌, subst, arith}
-use Rattle.std.specs.Prelude.{codes, nat_lt, nat_le, count_by}
-use Rattle.std.specs.List.{All, list_any, range_with_len}
-use Rattle.std.specs.Ordering.{nat_cmp}
-use Rattle.std.specs.Cmp.{nat_cmp_total}
+use Rattle.std.proofs.{lemmas.List.{map-append, map-id, length-append, length-map}, lemmas.Simd.{map-map}}
+use Rattle.std.proofs.{lemmas.List.Elements.{All-nil, All-cons, All-map, All-push}, lemmas.Bool.{le-ltb, eqb-true}}
+use Rattle.std.proofs.{lemmas.Bool.Decides.{nat_tests}, lemmas.Int.{ints}}
+use Rattle.std.specs.{Prelude.{codes, nat_lt, nat_le, count_by}, List.{All, list_any, range_with_len}}
+use Rattle.std.specs.{Ordering.{nat_cmp}, Cmp.{nat_cmp_total}}
 use Rattle.std.specs.FinSet.{FinSet, contains, from_list, from_list_push, same_set, contains-from_list_nat, nat_cmp-IsAntisymmetric}
-use Rattle.std.specs.FinSet as set
-use Rattle.std.proofs.lemmas.List.{map-append, map-id, length-append, length-map}
-use Rattle.std.proofs.lemmas.List.Elements.{All-nil, All-cons, All-map, All-push}
-use Rattle.std.proofs.lemmas.Simd.{map-map}
-use Rattle.std.proofs.lemmas.Bool.{le-ltb, eqb-true}
-use Rattle.std.proofs.lemmas.Bool.Decides.{nat_tests}
-use Rattle.std.proofs.lemmas.Int.{ints}
 use Rattle.dimacs_lines.specs.Limits.{most_count, most_nodes, IsNode}
 use Rattle.dimacs_network.proofs.Nodes.{contains-insert, contains-empty}
-use Rattle.dimacs_records.specs.declared.kinds.TextKind.TheVariants as kinds
-use Rattle.dimacs_records.specs.declared.records.Record.{Record}
-use Rattle.dimacs_records.specs.declared.records.Record.TheVariants.{CutProblem, CutNode}
-use Rattle.dimacs_records.specs.declared.order.Context.{Context}
-use Rattle.dimacs_records.specs.Earlier.{names, counted_in}
-use Rattle.dimacs_records.specs.Canonical.{CanBeSpelled}
-use Rattle.dimacs_records.specs.Forms.{form, Word, Nodes, Count, Id}
+use Rattle.dimacs_records.specs.{declared.records.Record.{Record}, declared.order.Context.{Context}, Spelling.{kind_of}}
+use Rattle.dimacs_records.specs.{declared.records.Record.TheVariants.{CutProblem, CutNode}, Earlier.{names, counted_in}}
+use Rattle.dimacs_records.specs.{Canonical.{CanBeSpelled}, Forms.{form, Word, Nodes, Count, Id}, Texts.{AreFaultless}}
 use Rattle.dimacs_records.specs.Readings.{LineRecord, records_of, IsAllowed, IsComplete}
-use Rattle.dimacs_records.specs.Texts.{AreFaultless}
-use Rattle.dimacs_records.proofs.CanonicalLaws.{canonical_spelled, numbered_all}
-use Rattle.dimacs_records.proofs.ConditionLemmas.{is_allowed, is_complete, allowed_at}
-use Rattle.dimacs_records.proofs.SplitLemmas.{image_at, All-at}
-use Rattle.dimacs_claims.specs.Cuts.{CutValue, IsCut, AreNamed, GivesCut, SpellsCut, canonical_cut, cut_records, empty_cut, ids_in, is_id, with_node}
 use Rattle.dimacs_records.specs.Tests.{Passes, plain_context_after, plain_context_of, context_after}
-use Rattle.dimacs_claims.specs.CutReading.{CutBegun, IsCutBegunBy, plain_context, context}
-use Rattle.dimacs_records.specs.Spelling.{kind_of}
-use Rattle.dimacs_claims.proofs.NodeLists.{passing_once, passing_few, none_passing, All-passing, passing_listed, passing_more}
+use Rattle.dimacs_records.proofs.{CanonicalLaws.{canonical_spelled, numbered_all}, SplitLemmas.{image_at, All-at}}
+use Rattle.dimacs_records.proofs.ConditionLemmas.{is_allowed, is_complete, allowed_at}
 use Rattle.dimacs_records.proofs.CountLemmas.{once_before, once_more}
+use Rattle.dimacs_claims.specs.Cuts.{CutValue, IsCut, AreNamed, GivesCut, SpellsCut, canonical_cut, cut_records, empty_cut, ids_in, is_id, with_node}
+use Rattle.dimacs_claims.specs.CutReading.{CutBegun, IsCutBegunBy, plain_context, context}
+use Rattle.dimacs_claims.proofs.NodeLists.{passing_once, passing_few, none_passing, All-passing, passing_listed, passing_more}
+use Rattle.std.specs.FinSet as set
+use Rattle.dimacs_records.specs.declared.kinds.TextKind.TheVariants as kinds
 
 any_names : (id : ℕ) (named : List ℕ) → list_any (names id) (map CutNode named) ≡ list_any (is_id id) named
 any_names id [] = refl

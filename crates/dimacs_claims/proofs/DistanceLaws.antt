@@ -1,28 +1,21 @@
 -- The records of distances have no fault, give only one value, and can be spelled: all as those of labels.
 use Rattle.std.proofs.Common.{◌≡◌, ℕ, ◌==◌, suc, ◌∷◌, ◌++◌, [], List, Bool, true, false, Option, Some, None, length, map, refl, ap, ap₂, sym, ◌∙◌, subst, arith}
-use Rattle.std.specs.Prelude.{IsTrue, ◌||◌, codes, if◌then◌else◌, is_none}
-use Rattle.std.specs.List.{All, flat_map, fold, filter, list_any}
 use Rattle.std.proofs.lemmas.List.{length-map, map-append}
 use Rattle.std.proofs.lemmas.List.Elements.{All-head, All-map, All-tail, All-weaker}
-use Rattle.dimacs_records.specs.declared.kinds.TextKind.TheVariants.{Labels, Distances}
-use Rattle.dimacs_records.specs.declared.order.Declared.{Declared}
-use Rattle.dimacs_records.specs.declared.reasons.Reason.{Reason}
+use Rattle.std.specs.Prelude.{IsTrue, ◌||◌, codes, if◌then◌else◌, is_none}
+use Rattle.std.specs.List.{All, flat_map, fold, filter, list_any}
+use Rattle.dimacs_records.specs.{declared.kinds.TextKind.TheVariants.{Labels, Distances}, Canonical.{CanBeSpelled}}
+use Rattle.dimacs_records.specs.{declared.order.Declared.{Declared}, declared.reasons.Reason.{Reason}}
 use Rattle.dimacs_records.specs.declared.reasons.Reason.TheVariants.{NodeRange, NodeTwice, ProblemMissing, ProblemTwice, RecordOrder, TooFew, TooMany}
-use Rattle.dimacs_records.specs.declared.records.Record.{Record}
+use Rattle.dimacs_records.specs.{declared.records.Record.{Record}, Conditions.{condition, end_condition}}
 use Rattle.dimacs_records.specs.declared.records.Record.TheVariants.{LabelsProblem, LabelsBlock, LabelsNode, DistancesProblem, DistancesBlock, DistancesNode}
 use Rattle.dimacs_records.specs.Blocks.{Block, block_after, block_in, is_full_block, is_labelled, is_short_block}
-use Rattle.dimacs_records.specs.Canonical.{CanBeSpelled}
-use Rattle.dimacs_records.specs.Conditions.{condition, end_condition}
 use Rattle.dimacs_records.specs.Earlier.{counted_in, is_above, is_counted, names, or_else, problem_in, problem_of}
-use Rattle.dimacs_records.specs.Forms.{Count, Id, Nodes, Radius, Wide, Word, form}
-use Rattle.dimacs_records.specs.Readings.{IsAllowed, LineRecord, records_of}
-use Rattle.dimacs_records.specs.Spelling.{kind_of}
-use Rattle.dimacs_records.specs.Texts.{AreFaultless}
-use Rattle.dimacs_records.proofs.CanonicalLaws.{canonical_spelled, numbered_all}
-use Rattle.dimacs_records.proofs.FitLaws.{fits_spelled}
-use Rattle.dimacs_claims.specs.declared.block.Label.{Label}
+use Rattle.dimacs_records.specs.{Forms.{Count, Id, Nodes, Radius, Wide, Word, form}, Spelling.{kind_of}}
+use Rattle.dimacs_records.specs.{Readings.{IsAllowed, LineRecord, records_of}, Texts.{AreFaultless}}
+use Rattle.dimacs_records.proofs.{CanonicalLaws.{canonical_spelled, numbered_all}, FitLaws.{fits_spelled}}
+use Rattle.dimacs_claims.specs.{declared.block.Label.{Label}, Labels.{AreLabels, BlockValue, LabelsValue}}
 use Rattle.dimacs_claims.specs.DistanceTexts.{AreBare, GivesDistances, IsBare, SpellsDistances, bare, canonical_distances, distance_records}
-use Rattle.dimacs_claims.specs.Labels.{AreLabels, BlockValue, LabelsValue}
 use Rattle.dimacs_claims.specs.LabelTexts.{FitText, block_lines, label_line, label_records}
 use Rattle.dimacs_claims.proofs.LabelLaws.{AllAllowed, allowed_at, labels_of, labels_of-label_records, records_fit, whole_records}
 

@@ -1,24 +1,18 @@
 -- One more record of distances while their text is read.
 use Rattle.std.proofs.Common.{◌≡◌, ℕ, ◌==◌, ◌≤◌, ◌∷◌, ◌++◌, [], List, Bool, true, false, inl, inr, Some, None, map, refl, ap, sym, ◌∙◌, subst, arith}
-use Rattle.std.specs.Prelude.{ℤ, ◌||◌, is_none, not, Result, Ok, Err, OnOk, OnErr}
-use Rattle.std.specs.List.{All}
-use Rattle.std.proofs.lemmas.Bool.{eq-eqb, le-ltb}
-use Rattle.std.proofs.lemmas.List.Elements.{All-nil, All-pop, All-push}
-use Rattle.dimacs_records.specs.declared.kinds.TextKind.TheVariants.{Labels, Distances}
-use Rattle.dimacs_records.specs.declared.order.Context.{Context}
-use Rattle.dimacs_records.specs.declared.records.Record.{Record}
+use Rattle.std.proofs.{lemmas.Bool.{eq-eqb, le-ltb}, lemmas.List.Elements.{All-nil, All-pop, All-push}}
+use Rattle.std.specs.{Prelude.{ℤ, ◌||◌, is_none, not, Result, Ok, Err, OnOk, OnErr}, List.{All}}
+use Rattle.dimacs_records.specs.{declared.kinds.TextKind.TheVariants.{Labels, Distances}, Spelling.{kind_of}}
+use Rattle.dimacs_records.specs.{declared.order.Context.{Context}, declared.records.Record.{Record}}
 use Rattle.dimacs_records.specs.declared.records.Record.TheVariants.{LabelsBlock, LabelsNode, DistancesProblem, DistancesBlock, DistancesNode}
 use Rattle.dimacs_records.specs.Blocks.{block_in, is_labelled, is_past, is_past_block}
 use Rattle.dimacs_records.specs.Readings.{LineRecord, numbered, records_of}
-use Rattle.dimacs_records.specs.Spelling.{kind_of}
 use Rattle.dimacs_records.specs.Tests.{Passes, PassesEnd, end_context_of, context_after}
 use Rattle.dimacs_records.proofs.CanonicalLaws.{numbered_all}
-use Rattle.dimacs_claims.specs.declared.block.Label.{Label}
-use Rattle.dimacs_claims.specs.DistanceTexts.{AreBare, GivesDistances, IsBare, bare}
+use Rattle.dimacs_claims.specs.{declared.block.Label.{Label}, DistanceTexts.{AreBare, GivesDistances, IsBare, bare}}
 use Rattle.dimacs_claims.specs.Labels.{BlockValue, IsBlock, LabelsValue, with_block, with_label}
-use Rattle.dimacs_claims.specs.LabelTexts.{GivesLabels}
+use Rattle.dimacs_claims.specs.{LabelTexts.{GivesLabels}, inside.LabelsReading.{AreLabelsBegun}}
 use Rattle.dimacs_claims.specs.LabelsReading.{LabelsBegun, context, bare_context, end_context, labels_begun_records}
-use Rattle.dimacs_claims.specs.inside.LabelsReading.{AreLabelsBegun}
 use Rattle.dimacs_claims.proofs.BuilderLemmas.{end_context_by_records, in_last, plain_context_by_records, context_by_records}
 use Rattle.dimacs_claims.proofs.DistanceLaws.{bare_counted_in, bare_full, bare_labelled, bare_misplaced, bare_named, bare_problem_in, bare_short}
 use Rattle.dimacs_claims.proofs.LabelRecords.{HasLast, last_after, last_cases, say_taken}

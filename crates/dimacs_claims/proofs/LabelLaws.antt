@@ -1,33 +1,23 @@
 -- The records of labels have no fault, give only one value, and can be spelled.
 use Rattle.std.proofs.Common.{◌≡◌, ℕ, suc, ◌<◌, ◌≤◌, ◌+◌, ◌∷◌, ◌++◌, [], List, false, Option, Some, None, length, map, refl, ap, sym, ◌∙◌, subst, arith, append_assoc}
-use Rattle.std.specs.Prelude.{ℤ, IfOk, IfSome, Result, Ok, Err, codes, nat_le}
-use Rattle.std.specs.List.{All, list_any, flat_map}
-use Rattle.std.proofs.lemmas.Bool.{le-ltb, ne_eqb}
-use Rattle.std.proofs.lemmas.Bool.Decides.{nat_tests}
-use Rattle.std.proofs.lemmas.Int.{ints}
+use Rattle.std.proofs.{lemmas.Bool.{le-ltb, ne_eqb}, lemmas.Bool.Decides.{nat_tests}, lemmas.Int.{ints}}
 use Rattle.std.proofs.lemmas.List.{length-append, length-map, append-nil, map-append}
 use Rattle.std.proofs.lemmas.List.Elements.{All-nil, All-cons, All-head, All-map, All-tail, All-append}
+use Rattle.std.specs.{Prelude.{ℤ, IfOk, IfSome, Result, Ok, Err, codes, nat_le}, List.{All, list_any, flat_map}}
 use Rattle.dimacs_lines.specs.Limits.{most_nodes}
-use Rattle.dimacs_records.specs.declared.kinds.TextKind.{TextKind}
-use Rattle.dimacs_records.specs.declared.kinds.TextKind.TheVariants.{Labels}
-use Rattle.dimacs_records.specs.declared.records.Record.{Record}
+use Rattle.dimacs_records.specs.{declared.kinds.TextKind.{TextKind}, declared.kinds.TextKind.TheVariants.{Labels}}
+use Rattle.dimacs_records.specs.{declared.records.Record.{Record}, Blocks.{Block, is_short_block}, Ranges.{IsRadius}}
 use Rattle.dimacs_records.specs.declared.records.Record.TheVariants.{LabelsProblem, LabelsBlock, LabelsNode}
-use Rattle.dimacs_records.specs.Blocks.{Block, is_short_block}
-use Rattle.dimacs_records.specs.Forms.{form, Word, Nodes, Count, Id, Wide, Radius}
-use Rattle.dimacs_records.specs.Canonical.{CanBeSpelled}
-use Rattle.dimacs_records.specs.Ranges.{IsRadius}
-use Rattle.dimacs_records.specs.declared.faults.ReadError.{ReadError}
-use Rattle.dimacs_records.specs.Readings.{LineRecord, numbered, records_of, IsAllowed, IsComplete}
-use Rattle.dimacs_records.specs.Texts.{AreFaultless, Reads, SpellsValue}
+use Rattle.dimacs_records.specs.{Forms.{form, Word, Nodes, Count, Id, Wide, Radius}, Canonical.{CanBeSpelled}}
+use Rattle.dimacs_records.specs.{declared.faults.ReadError.{ReadError}, Texts.{AreFaultless, Reads, SpellsValue}}
+use Rattle.dimacs_records.specs.{Readings.{LineRecord, numbered, records_of, IsAllowed, IsComplete}, Faults.{Fault}}
 use Rattle.dimacs_records.proofs.CanonicalLaws.{canonical_spelled, numbered_all}
-use Rattle.dimacs_records.specs.Faults.{Fault}
 use Rattle.dimacs_claims.specs.declared.block.Label.{Label}
 use Rattle.dimacs_claims.specs.Labels.{BlockValue, LabelsValue, AreLabels, EachAfter, IsBlock, IsLabel, IsFresh, HasPred, IsWithinRadius, IsNewSource}
 use Rattle.dimacs_claims.specs.LabelTexts.{label_line, block_lines, label_records, GivesLabels, SpellsLabels, canonical_labels, FitText}
 use Rattle.dimacs_claims.proofs.BlockLemmas.{label_id, is_some-label, fresh_has_none, not_past, pred_has_label}
-use Rattle.dimacs_claims.proofs.LineCounts.{one_a_line}
+use Rattle.dimacs_claims.proofs.{LineCounts.{one_a_line}, LabelRecords.{source_of, say_labels}}
 use Rattle.dimacs_claims.proofs.LabelStates.{Say, opened, is_source, say_problem, say_block, say_label, first_problem, block_allowed, label_allowed, all_there}
-use Rattle.dimacs_claims.proofs.LabelRecords.{source_of, say_labels}
 
 -- each record is allowed after the earlier ones and those before it
 unfoldable pub AllAllowed : List Record → List Record → Type 0

@@ -1,22 +1,17 @@
 -- The records of labels.
 use Rattle.std.proofs.Common.{◌≡◌, ℕ, suc, ◌+◌, ◌∷◌, ◌++◌, [], List, Bool, true, false, Option, Some, None, length, map, refl, ap, ap₂, sym, ◌∙◌, arith, append_assoc, inl, inr, ◌⊎◌, zero}
-use Rattle.std.specs.Prelude.{ℤ, nat_lt, ◌==◌, ◌||◌}
-use Rattle.std.specs.List.{list_any, flat_map}
-use Rattle.std.specs.Ordering.{nat_cmp, eq_by_cmp}
-use Rattle.std.specs.Cmp.{nat_cmp_total, nat_eq_equiv, unsigned_tied}
-use Rattle.std.specs.FinSet as set
-use Rattle.std.proofs.lemmas.Bool.{lt-ltb, le-ltb, eq-eqb, or_parts, true≢false}
-use Rattle.std.proofs.lemmas.List.Folds.{list_any-append}
+use Rattle.std.proofs.{lemmas.Bool.{lt-ltb, le-ltb, eq-eqb, or_parts, true≢false}, lemmas.List.Folds.{list_any-append}}
 use Rattle.std.proofs.lemmas.List.{length-append, length-map, append-nil, map-append}
-use Rattle.dimacs_records.specs.declared.records.Record.{Record}
+use Rattle.std.specs.{Prelude.{ℤ, nat_lt, ◌==◌, ◌||◌}, List.{list_any, flat_map}, Ordering.{nat_cmp, eq_by_cmp}}
+use Rattle.std.specs.Cmp.{nat_cmp_total, nat_eq_equiv, unsigned_tied}
+use Rattle.dimacs_records.specs.{declared.records.Record.{Record}, Blocks.{Block, block_in, is_short_block}}
 use Rattle.dimacs_records.specs.declared.records.Record.TheVariants.{LabelsProblem, LabelsBlock}
-use Rattle.dimacs_records.specs.Blocks.{Block, block_in, is_short_block}
-use Rattle.dimacs_claims.specs.declared.block.Label.{Label}
-use Rattle.dimacs_claims.specs.Labels.{AreSources, BlockValue, IsNewSource, has_source}
+use Rattle.dimacs_claims.specs.{declared.block.Label.{Label}, Labels.{AreSources, BlockValue, IsNewSource, has_source}}
 use Rattle.dimacs_claims.specs.LabelTexts.{label_line, block_lines}
 use Rattle.dimacs_claims.specs.LabelsReading.{LabelsBegun, lines_of_short, lacking, lines_of_blocks, labels_begun_records}
 use Rattle.dimacs_claims.proofs.BlockLemmas.{label_id}
 use Rattle.dimacs_claims.proofs.LabelStates.{Say, opened, is_source, say_problem, say_block, say_label}
+use Rattle.std.specs.FinSet as set
 
 abbrev pub source_of : BlockValue → ℕ
 source_of b = b.source

@@ -1,21 +1,14 @@
 -- What is known of the earlier records of labels, and which records are allowed after them.
 use Rattle.std.proofs.Common.{◌≡◌, ℕ, ◌<◌, ◌≤◌, ◌+◌, ◌∷◌, ◌++◌, [], List, Bool, true, false, Option, Some, None, length, refl, ap, sym, ◌∙◌, arith}
-use Rattle.std.specs.Prelude.{ℤ, is_none, nat_le, ◌==◌, ◌||◌}
-use Rattle.std.specs.List.{list_any}
-use Rattle.std.proofs.Math.Bool.{or-false}
-use Rattle.std.proofs.lemmas.Bool.{le-ltb}
-use Rattle.std.proofs.lemmas.Bool.Decides.{nat_tests}
-use Rattle.std.proofs.lemmas.List.{length-append}
-use Rattle.std.proofs.lemmas.List.Elements.{filter-append}
-use Rattle.std.proofs.lemmas.List.Folds.{list_any-append}
-use Rattle.std.proofs.lemmas.List.Sums.{fold-append}
-use Rattle.dimacs_records.specs.declared.kinds.TextKind.TheVariants.{Labels}
-use Rattle.dimacs_records.specs.declared.records.Record.{Record}
+use Rattle.std.proofs.{Math.Bool.{or-false}, lemmas.Bool.{le-ltb}, lemmas.Bool.Decides.{nat_tests}}
+use Rattle.std.proofs.{lemmas.List.{length-append}, lemmas.List.Elements.{filter-append}}
+use Rattle.std.proofs.{lemmas.List.Folds.{list_any-append}, lemmas.List.Sums.{fold-append}}
+use Rattle.std.specs.{Prelude.{ℤ, is_none, nat_le, ◌==◌, ◌||◌}, List.{list_any}}
+use Rattle.dimacs_records.specs.{declared.kinds.TextKind.TheVariants.{Labels}, declared.records.Record.{Record}}
 use Rattle.dimacs_records.specs.declared.records.Record.TheVariants.{LabelsProblem, LabelsBlock, LabelsNode}
 use Rattle.dimacs_records.specs.Blocks.{Block, block_in, block_after, is_labelled, is_full_block, is_past_block, is_short_block}
-use Rattle.dimacs_records.specs.declared.order.Declared.{Declared}
+use Rattle.dimacs_records.specs.{declared.order.Declared.{Declared}, Readings.{IsAllowed, IsComplete}}
 use Rattle.dimacs_records.specs.Earlier.{declares, problem_in, problem_of, or_else, counted_in, is_counted, names}
-use Rattle.dimacs_records.specs.Readings.{IsAllowed, IsComplete}
 use Rattle.dimacs_records.proofs.ConditionLemmas.{is_allowed, is_complete}
 
 abbrev pub is_source : ℕ → ℕ → Bool

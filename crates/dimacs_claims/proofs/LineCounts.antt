@@ -1,8 +1,6 @@
 -- A text has no more records than lines.
 use Rattle.std.proofs.Common.{ℕ, suc, ◌≤◌, List, [], ◌∷◌, Option, None, Some, length, arith}
-use Rattle.dimacs_records.specs.declared.kinds.TextKind.{TextKind}
-use Rattle.dimacs_records.specs.declared.records.Record.{Record}
-use Rattle.dimacs_records.specs.Faults.{Spell}
+use Rattle.dimacs_records.specs.{declared.kinds.TextKind.{TextKind}, declared.records.Record.{Record}, Faults.{Spell}}
 use Rattle.dimacs_records.specs.Readings.{numbered}
 
 pub one_a_line : (kind : TextKind) (all : List (List ℕ)) (by_line : List (Option Record)) (line : ℕ) → Spell kind all by_line → length (numbered line by_line) ≤ length all

@@ -1,41 +1,29 @@
 -- Potentials, and one more record of potentials while their text is read.
 use Rattle.std.proofs.Common.{◌≡◌, ◌≢◌, ℕ, suc, ◌<◌, ◌≤◌, ◌∷◌, ◌++◌, [], List, Bool, true, false, Option, Some, None, length, map, cond, ◌+◌, ◌-◌, ◌==◌, ◌||◌, refl, ap, ap₂, sym, ◌∙◌, subst, arith}
-use Rattle.std.specs.Prelude.{ℤ, pos, codes, is_some, nat_lt, nat_le, not, count_by, unwrap_or}
-use Rattle.std.specs.List.{All, filter, list_any, range_with_len}
-use Rattle.std.specs.Ordering.{nat_cmp}
-use Rattle.std.specs.Cmp.{nat_cmp_total, unsigned_tied}
+use Rattle.std.proofs.{lemmas.List.{map-append, map-id, length-append, length-map}, lemmas.Simd.{map-map}}
+use Rattle.std.proofs.{lemmas.List.Elements.{All-nil, All-cons, All-map}, lemmas.Bool.{le-ltb, eqb-true}}
+use Rattle.std.proofs.{lemmas.Bool.Decides.{nat_tests}, lemmas.Int.{ints}}
+use Rattle.std.specs.{Prelude.{ℤ, pos, codes, is_some, nat_lt, nat_le, not, count_by, unwrap_or}, Ordering.{nat_cmp}}
+use Rattle.std.specs.{List.{All, filter, list_any, range_with_len}, Cmp.{nat_cmp_total, unsigned_tied}}
 use Rattle.std.specs.FinMap.{FinMap, empty, get, insert, from_entries, same_map, get-from_entries, nat_cmp-IsAntisymmetric}
 use Rattle.std.specs.FinMap.Entries.{find}
-use Rattle.std.proofs.lemmas.List.{map-append, map-id, length-append, length-map}
-use Rattle.std.proofs.lemmas.List.Elements.{All-nil, All-cons, All-map}
-use Rattle.std.proofs.lemmas.Simd.{map-map}
-use Rattle.std.proofs.lemmas.Bool.{le-ltb, eqb-true}
-use Rattle.std.proofs.lemmas.Bool.Decides.{nat_tests}
-use Rattle.std.proofs.lemmas.Int.{ints}
 use Rattle.dimacs_lines.specs.Limits.{most_count, most_nodes, IsNode}
-use Rattle.dimacs_records.specs.declared.kinds.TextKind.TheVariants as kinds
-use Rattle.dimacs_records.specs.declared.records.Record.{Record}
+use Rattle.dimacs_records.specs.{declared.records.Record.{Record}, declared.order.Context.{Context}, Ranges.{IsWide}}
 use Rattle.dimacs_records.specs.declared.records.Record.TheVariants.{PotentialsProblem, PotentialsNode}
-use Rattle.dimacs_records.specs.declared.order.Context.{Context}
-use Rattle.dimacs_records.specs.Earlier.{names, counted_in}
-use Rattle.dimacs_records.specs.Canonical.{CanBeSpelled, AreLines, records_of_line}
-use Rattle.dimacs_records.specs.Forms.{form, Word, Nodes, Count, Id, Wide}
+use Rattle.dimacs_records.specs.{Earlier.{names, counted_in}, Canonical.{CanBeSpelled, AreLines, records_of_line}}
+use Rattle.dimacs_records.specs.{Forms.{form, Word, Nodes, Count, Id, Wide}, Texts.{AreFaultless}, Spelling.{kind_of}}
 use Rattle.dimacs_records.specs.Readings.{LineRecord, records_of, IsAllowed, IsComplete}
-use Rattle.dimacs_records.specs.Texts.{AreFaultless}
-use Rattle.dimacs_records.proofs.CanonicalLaws.{canonical_spelled, numbered_all}
-use Rattle.dimacs_records.proofs.ConditionLemmas.{is_allowed, is_complete, allowed_at}
-use Rattle.dimacs_records.proofs.SplitLemmas.{image_at, All-at}
-use Rattle.dimacs_claims.specs.Cuts.{is_id}
-use Rattle.dimacs_records.specs.Ranges.{IsWide}
-use Rattle.dimacs_claims.specs.Potentials.{PotentialsValue, ArePotentials, GivesPotentials, SpellsPotentials, canonical_potentials, node_line, nonzero_ids, potential_of, potentials_records, with_values, zero_potentials}
 use Rattle.dimacs_records.specs.NodeValues.{NameNodes, has_value, is_nonzero, is_of, without_zeros}
-use Rattle.dimacs_claims.specs.PotentialsReading.{PotentialsBegun, ArePotentialsBegunBy, plain_context, context, has_line}
-use Rattle.dimacs_claims.specs.inside.PotentialsReading.{potentials_begun}
 use Rattle.dimacs_records.specs.Tests.{Passes, PassesEnd, plain_context_after, plain_context_of, context_after}
-use Rattle.dimacs_records.specs.Spelling.{kind_of}
-use Rattle.dimacs_claims.proofs.NodeLists.{All-passing, count_map, passing, passing_below, passing_few, passing_listed, passing_once, lines_of_passing}
+use Rattle.dimacs_records.proofs.{CanonicalLaws.{canonical_spelled, numbered_all}, SplitLemmas.{image_at, All-at}}
+use Rattle.dimacs_records.proofs.ConditionLemmas.{is_allowed, is_complete, allowed_at}
 use Rattle.dimacs_records.proofs.CountLemmas.{once_before, same_test}
 use Rattle.dimacs_records.proofs.NameLemmas.{has-from_entries, map_more, named_more, not_zero, without_zeros-named}
+use Rattle.dimacs_claims.specs.{Cuts.{is_id}, inside.PotentialsReading.{potentials_begun}}
+use Rattle.dimacs_claims.specs.Potentials.{PotentialsValue, ArePotentials, GivesPotentials, SpellsPotentials, canonical_potentials, node_line, nonzero_ids, potential_of, potentials_records, with_values, zero_potentials}
+use Rattle.dimacs_claims.specs.PotentialsReading.{PotentialsBegun, ArePotentialsBegunBy, plain_context, context, has_line}
+use Rattle.dimacs_claims.proofs.NodeLists.{All-passing, count_map, passing, passing_below, passing_few, passing_listed, passing_once, lines_of_passing}
+use Rattle.dimacs_records.specs.declared.kinds.TextKind.TheVariants as kinds
 
 any_names : (id : ℕ) (named : List (ℕ × ℤ)) → list_any (names id) (map node_line named) ≡ list_any (is_of id) named
 any_names id [] = refl

@@ -1,39 +1,26 @@
 -- The records of a solution.
 use Rattle.std.proofs.Common.{◌≡◌, ℕ, suc, ◌≤◌, ◌∷◌, ◌++◌, [], List, Bool, true, false, Option, Some, None, Result, Ok, Err, length, map, ◌+◌, refl, ap, sym, ◌∙◌, arith, append_assoc}
-use Rattle.std.specs.Prelude.{ℤ, pos, neg_ℤ, ◌^◌, codes, is_some, IfOk, IsErrAnd, ◌↔◌}
-use Rattle.std.specs.List.{All, list_any}
-use Rattle.std.specs.Result.{result_map_both}
-use Rattle.std.proofs.lemmas.Int.{ints}
-use Rattle.std.proofs.lemmas.List.{append-nil, length-append, length-map, map-append}
+use Rattle.std.proofs.{lemmas.Int.{ints}, lemmas.List.{append-nil, length-append, length-map, map-append}}
 use Rattle.std.proofs.lemmas.List.Elements.{All-nil, All-cons, All-head, All-map, All-tail}
-use Rattle.dimacs_lines.specs.Lines.{lines}
-use Rattle.dimacs_lines.specs.Limits.{most_lines}
-use Rattle.dimacs_lines.specs.Number.{IsWithin}
-use Rattle.dimacs_records.specs.declared.kinds.TextKind.TheVariants as kinds
-use Rattle.dimacs_records.specs.declared.records.Record.{Record}
-use Rattle.dimacs_records.specs.declared.records.Record.TheVariants as records
-use Rattle.dimacs_records.specs.declared.faults.ReadError.{ReadError}
-use Rattle.dimacs_records.specs.declared.faults.ReadError.TheVariants as read_errors
-use Rattle.dimacs_records.specs.Earlier.{counted_in, is_value, problem_in}
-use Rattle.dimacs_records.specs.Faults.{Spell}
-use Rattle.dimacs_records.specs.Spelling.{parts_of, texts_in}
-use Rattle.dimacs_records.specs.Forms.{form, Wide, Id, Whole}
-use Rattle.dimacs_records.specs.Canonical.{CanBeSpelled, FitAll, canonical_text}
+use Rattle.std.specs.{Prelude.{ℤ, pos, neg_ℤ, ◌^◌, codes, is_some, IfOk, IsErrAnd, ◌↔◌}, List.{All, list_any}}
+use Rattle.std.specs.Result.{result_map_both}
+use Rattle.dimacs_lines.specs.{Lines.{lines}, Limits.{most_lines}, Number.{IsWithin}}
+use Rattle.dimacs_records.specs.{declared.records.Record.{Record}, declared.faults.ReadError.{ReadError}}
+use Rattle.dimacs_records.specs.{Earlier.{counted_in, is_value, problem_in}, Faults.{Spell}}
+use Rattle.dimacs_records.specs.{Spelling.{parts_of, texts_in}, Forms.{form, Wide, Id, Whole}}
+use Rattle.dimacs_records.specs.{Canonical.{CanBeSpelled, FitAll, canonical_text}, Texts.{AreSpelled, AreFaultless}}
 use Rattle.dimacs_records.specs.Readings.{LineRecord, AreSpelledBefore, IsOfKind, ReadsLines, IsAllowed, on_line, records_of, numbered}
 use Rattle.dimacs_records.specs.Tests.{Passes, end_context_of, context_after}
-use Rattle.dimacs_records.specs.Texts.{AreSpelled, AreFaultless}
-use Rattle.dimacs_records.proofs.CanonicalLaws.{canonical_spelled}
-use Rattle.dimacs_records.proofs.ConditionLemmas.{is_allowed, is_complete}
-use Rattle.dimacs_records.proofs.FitLaws.{fits_of}
-use Rattle.dimacs_records.proofs.OrderLemmas.{allowed_by_records}
+use Rattle.dimacs_records.proofs.{CanonicalLaws.{canonical_spelled}, ConditionLemmas.{is_allowed, is_complete}}
+use Rattle.dimacs_records.proofs.{FitLaws.{fits_of}, OrderLemmas.{allowed_by_records}, SplitLemmas.{image_at}}
 use Rattle.dimacs_records.proofs.ReadLaws.{reads_exactly, spelled_of_faultless}
-use Rattle.dimacs_records.proofs.SplitLemmas.{image_at}
-use Rattle.dimacs_claims.specs.declared.solution.Entry.{Entry}
-use Rattle.dimacs_claims.specs.declared.solution.Solution.{Solution}
-use Rattle.dimacs_claims.specs.declared.solution.ValueLine.{ValueLine}
+use Rattle.dimacs_claims.specs.{declared.solution.Entry.{Entry}, declared.solution.Solution.{Solution}}
+use Rattle.dimacs_claims.specs.{declared.solution.ValueLine.{ValueLine}, inside.SolutionReading.{value_context}}
 use Rattle.dimacs_claims.specs.SolutionTexts.{SolutionValue, GivesSolution, SpellsSolution, IsLawful, IsLawfulEntry, canonical_solution, claimed, entry_line, entry_record, on_lines_from, renumbered, solution_records}
 use Rattle.dimacs_claims.specs.SolutionReading.{AreTaken, StandsForSolution, GivesPlaced, IsPlaced, IsPlacedLawful, AnswersAlike, ReadsLike}
-use Rattle.dimacs_claims.specs.inside.SolutionReading.{value_context}
+use Rattle.dimacs_records.specs.declared.kinds.TextKind.TheVariants as kinds
+use Rattle.dimacs_records.specs.declared.records.Record.TheVariants as records
+use Rattle.dimacs_records.specs.declared.faults.ReadError.TheVariants as read_errors
 
 abbrev IsSolutionLine : LineRecord → Type 0
 IsSolutionLine r = IsOfKind kinds.Solution r.spells

@@ -1,17 +1,13 @@
 -- Lemmas about potentials.
 use Rattle.std.proofs.Common.{◌≡◌, ◌≤◌, ℕ, ◌==◌, Bool, true, false, Option, Some, None, cond, refl, sym, ◌∙◌, ap, arith}
+use Rattle.std.proofs.{lemmas.Bool.{eqb-true}, lemmas.Int.{ints}}
 use Rattle.std.specs.Prelude.{ℤ, pos, unwrap_or, if◌then◌else◌, Result, Ok, Err, OnOk, OnErr}
-use Rattle.std.specs.Ordering.{nat_cmp, int_eq}
-use Rattle.std.specs.FinMap.{FinMap, get, insert, remove, get-empty}
-use Rattle.std.proofs.lemmas.Bool.{eqb-true}
-use Rattle.std.proofs.lemmas.Int.{ints}
+use Rattle.std.specs.{Ordering.{nat_cmp, int_eq}, FinMap.{FinMap, get, insert, remove, get-empty}}
 use Rattle.dimacs_lines.specs.Limits.{most_nodes, IsNode}
 use Rattle.dimacs_network.proofs.Nodes.{get-insert}
-use Rattle.dimacs_records.specs.Ranges.{IsWide}
+use Rattle.dimacs_records.specs.{Ranges.{IsWide}, NodeValues.{without_zeros}}
 use Rattle.dimacs_claims.specs.Potentials.{PotentialsValue, ArePotentials, IsPotential, potential_of, with_potential, zero_potentials}
-use Rattle.dimacs_records.specs.NodeValues.{without_zeros}
-use Rattle.dimacs_records.proofs.NameLemmas.{isnt_zero}
-use Rattle.dimacs_records.proofs.ZeroLemmas.{get-removed, without_zeros-insert}
+use Rattle.dimacs_records.proofs.{NameLemmas.{isnt_zero}, ZeroLemmas.{get-removed, without_zeros-insert}}
 
 pub zero_law : (nodes : ℕ) → nodes ≤ most_nodes → ArePotentials (zero_potentials nodes)
 zero_law nodes few = record { nodes_few = few; within = λ id n e. absurd (cc (get-empty nat_cmp id, e)) }

@@ -1,14 +1,10 @@
 -- A set of nodes while its text is read, and how such values are stored.
-use Rattle.std.specs.Prelude.{ℕ, ◌≡◌, ◌≤◌, List, length, refl, Some}
-use Rattle.std.specs.Coded.{Coded, code_by, coded×, coded_ℕ}
-use Rattle.std.specs.Ordering.{nat_cmp}
-use Rattle.std.specs.FinSet.{FinSet, from_list, contains}
-use Rattle.std.specs.FinSet as set
-use Rattle.dimacs_records.specs.declared.records.Record.{Record}
+use Rattle.std.specs.{Prelude.{ℕ, ◌≡◌, ◌≤◌, List, length, refl, Some}, Coded.{Coded, code_by, coded×, coded_ℕ}}
+use Rattle.std.specs.{Ordering.{nat_cmp}, FinSet.{FinSet, from_list, contains}}
+use Rattle.dimacs_records.specs.{declared.records.Record.{Record}, declared.order.Context.{Context}}
+use Rattle.dimacs_records.specs.{declared.records.Record.TheVariants.{CutNode}, Tests.{plain_context_of}}
 use Rattle.dimacs_claims.specs.Cuts.{CutValue, IsCut, AreNamed, cut_records, ids_in}
-use Rattle.dimacs_records.specs.declared.order.Context.{Context}
-use Rattle.dimacs_records.specs.declared.records.Record.TheVariants.{CutNode}
-use Rattle.dimacs_records.specs.Tests.{plain_context_of}
+use Rattle.std.specs.FinSet as set
 
 -- the declared count, and the nodes so far
 pub record CutBegun : Type 0 where

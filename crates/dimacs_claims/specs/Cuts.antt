@@ -1,18 +1,12 @@
 -- Sets of nodes, and the texts that spell them.
 use Rattle.std.specs.Prelude.{ℕ, ◌≡◌, ◌==◌, ◌≤◌, Bool, true, List, ◌∷◌, map, length, count_by, [], codes}
-use Rattle.std.specs.Fmt.{decimal}
-use Rattle.std.specs.List.{All, filter, range_with_len}
-use Rattle.std.specs.Ordering.{nat_cmp}
+use Rattle.std.specs.{Fmt.{decimal}, List.{All, filter, range_with_len}, Ordering.{nat_cmp}}
 use Rattle.std.specs.FinSet.{FinSet, contains, empty, insert, from_list}
-use Rattle.dimacs_lines.specs.Limits.{most_nodes, IsNode}
-use Rattle.dimacs_lines.specs.Lines.{lines}
-use Rattle.dimacs_records.specs.declared.kinds.TextKind.TheVariants as kinds
-use Rattle.dimacs_records.specs.declared.records.Record.{Record}
-use Rattle.dimacs_records.specs.declared.records.Record.TheVariants.{CutProblem, CutNode}
-use Rattle.dimacs_records.specs.Canonical.{canonical_text}
-use Rattle.dimacs_records.specs.Printed.{shown}
+use Rattle.dimacs_lines.specs.{Limits.{most_nodes, IsNode}, Lines.{lines}}
+use Rattle.dimacs_records.specs.{declared.records.Record.{Record}, Canonical.{canonical_text}, Printed.{shown}}
+use Rattle.dimacs_records.specs.{declared.records.Record.TheVariants.{CutProblem, CutNode}, Texts.{SpellsValue}}
 use Rattle.dimacs_records.specs.Readings.{LineRecord, records_of}
-use Rattle.dimacs_records.specs.Texts.{SpellsValue}
+use Rattle.dimacs_records.specs.declared.kinds.TextKind.TheVariants as kinds
 
 -- a number of nodes, and a set of them
 pub record CutValue : Type 0 where

@@ -1,17 +1,11 @@
 -- The texts of distances: labels whose predecessors are their sources, without PRED and RADIUS.
-use Rattle.std.specs.Prelude.{ℕ, ◌≡◌, List, ◌∷◌, None, map, length, [], codes}
-use Rattle.std.specs.Fmt.{decimal}
-use Rattle.std.specs.List.{All}
+use Rattle.std.specs.{Prelude.{ℕ, ◌≡◌, List, ◌∷◌, None, map, length, [], codes}, Fmt.{decimal}, List.{All}}
 use Rattle.dimacs_lines.specs.Lines.{lines}
-use Rattle.dimacs_records.specs.declared.kinds.TextKind.TheVariants.{Distances}
-use Rattle.dimacs_records.specs.declared.records.Record.{Record}
+use Rattle.dimacs_records.specs.{declared.kinds.TextKind.TheVariants.{Distances}, declared.records.Record.{Record}}
 use Rattle.dimacs_records.specs.declared.records.Record.TheVariants.{LabelsProblem, LabelsBlock, LabelsNode, DistancesProblem, DistancesBlock, DistancesNode}
-use Rattle.dimacs_records.specs.Canonical.{canonical_text}
-use Rattle.dimacs_records.specs.Printed.{shown}
-use Rattle.dimacs_records.specs.Readings.{LineRecord, records_of}
+use Rattle.dimacs_records.specs.{Canonical.{canonical_text}, Printed.{shown}, Readings.{LineRecord, records_of}}
 use Rattle.dimacs_records.specs.Texts.{SpellsValue}
-use Rattle.dimacs_claims.specs.declared.block.Label.{Label}
-use Rattle.dimacs_claims.specs.Labels.{BlockValue, LabelsValue, AreLabels}
+use Rattle.dimacs_claims.specs.{declared.block.Label.{Label}, Labels.{BlockValue, LabelsValue, AreLabels}}
 use Rattle.dimacs_claims.specs.LabelTexts.{label_records}
 
 -- the block has no radius, and the source is the predecessor of each label

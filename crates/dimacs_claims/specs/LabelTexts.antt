@@ -1,18 +1,11 @@
 -- The texts that spell labels.
-use Rattle.std.specs.Prelude.{ℕ, ◌≡◌, ◌≤◌, List, ◌∷◌, map, length, [], codes}
-use Rattle.std.specs.Fmt.{decimal}
-use Rattle.std.specs.List.{flat_map}
-use Rattle.dimacs_lines.specs.Lines.{lines}
-use Rattle.dimacs_lines.specs.Limits.{most_lines}
-use Rattle.dimacs_records.specs.declared.kinds.TextKind.TheVariants as kinds
-use Rattle.dimacs_records.specs.declared.records.Record.{Record}
+use Rattle.std.specs.{Prelude.{ℕ, ◌≡◌, ◌≤◌, List, ◌∷◌, map, length, [], codes}, Fmt.{decimal}, List.{flat_map}}
+use Rattle.dimacs_lines.specs.{Lines.{lines}, Limits.{most_lines}}
+use Rattle.dimacs_records.specs.{declared.records.Record.{Record}, Canonical.{canonical_text}, Printed.{shown}}
 use Rattle.dimacs_records.specs.declared.records.Record.TheVariants.{LabelsProblem, LabelsBlock, LabelsNode}
-use Rattle.dimacs_records.specs.Canonical.{canonical_text}
-use Rattle.dimacs_records.specs.Printed.{shown}
-use Rattle.dimacs_records.specs.Readings.{LineRecord, records_of}
-use Rattle.dimacs_records.specs.Texts.{SpellsValue}
-use Rattle.dimacs_claims.specs.declared.block.Label.{Label}
-use Rattle.dimacs_claims.specs.Labels.{BlockValue, LabelsValue, AreLabels}
+use Rattle.dimacs_records.specs.{Readings.{LineRecord, records_of}, Texts.{SpellsValue}}
+use Rattle.dimacs_claims.specs.{declared.block.Label.{Label}, Labels.{BlockValue, LabelsValue, AreLabels}}
+use Rattle.dimacs_records.specs.declared.kinds.TextKind.TheVariants as kinds
 
 abbrev pub label_line : Label → Record
 label_line l = LabelsNode l.id l.dist l.pred

@@ -1,11 +1,10 @@
 -- Labels: claimed distances with predecessors.
 use Rattle.std.specs.Prelude.{ℕ, ◌≡◌, ◌≢◌, ◌≤◌, ◌⊎◌, ◌==◌, if◌then◌else◌, List, [], ◌∷◌, ◌++◌, length, slice_get, Option, Some, None, IfSome, ℤ, ◌≤ℤ◌, ◌-◌, ◌^◌, pos, Bool}
-use Rattle.std.specs.List.{All, Contains, list_any}
-use Rattle.std.specs.Ordering.{nat_cmp}
-use Rattle.std.specs.FinSet as set
+use Rattle.std.specs.{List.{All, Contains, list_any}, Ordering.{nat_cmp}}
 use Rattle.dimacs_lines.specs.Limits.{most_count, most_nodes, IsNode}
 use Rattle.dimacs_records.specs.Ranges.{IsRadius, IsWhole, IsWide}
 use Rattle.dimacs_claims.specs.declared.block.Label.{Label}
+use Rattle.std.specs.FinSet as set
 
 -- the labels of all nodes claimed to be reachable from the source, or of those within a radius
 pub record BlockValue : Type 0 where

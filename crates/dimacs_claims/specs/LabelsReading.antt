@@ -1,14 +1,11 @@
 -- Labels while their text is read.
 use Rattle.std.specs.Prelude.{ℕ, ◌+◌, List, [], ◌∷◌, ◌++◌, map, length, Some, None, false, is_none, not}
 use Rattle.std.specs.List.{list_any}
-use Rattle.dimacs_records.specs.declared.records.Record.{Record}
+use Rattle.dimacs_records.specs.{declared.records.Record.{Record}, declared.order.Context.{Context}, Earlier.{names}}
 use Rattle.dimacs_records.specs.declared.records.Record.TheVariants.{LabelsProblem, LabelsBlock, LabelsNode, DistancesBlock, DistancesNode}
-use Rattle.dimacs_claims.specs.Labels.{BlockValue}
-use Rattle.dimacs_claims.specs.LabelTexts.{label_line}
-use Rattle.dimacs_records.specs.declared.order.Context.{Context}
 use Rattle.dimacs_records.specs.Blocks.{block_in, is_full_block, is_labelled, is_past_block, is_short_block}
-use Rattle.dimacs_records.specs.Earlier.{names}
 use Rattle.dimacs_records.specs.Tests.{plain_context_of}
+use Rattle.dimacs_claims.specs.{Labels.{BlockValue}, LabelTexts.{label_line}}
 
 -- the declared numbers, the blocks so far, and how many labels the last block still lacks
 pub record LabelsBegun : Type 0 where

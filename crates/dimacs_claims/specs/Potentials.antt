@@ -1,20 +1,13 @@
 -- Node potentials, and the texts that spell them.
 use Rattle.std.specs.Prelude.{ℕ, ℤ, ◌≡◌, ◌≢◌, ◌≤◌, List, ◌∷◌, Some, map, length, if◌then◌else◌, pos, unwrap_or, [], codes}
-use Rattle.std.specs.Fmt.{decimal}
-use Rattle.std.specs.List.{filter, range_with_len}
-use Rattle.std.specs.Ordering.{nat_cmp, int_eq}
+use Rattle.std.specs.{Fmt.{decimal}, List.{filter, range_with_len}, Ordering.{nat_cmp, int_eq}}
 use Rattle.std.specs.FinMap.{FinMap, empty, get, insert, remove, from_entries}
-use Rattle.dimacs_lines.specs.Limits.{most_nodes, IsNode}
-use Rattle.dimacs_lines.specs.Lines.{lines}
-use Rattle.dimacs_records.specs.declared.kinds.TextKind.TheVariants as kinds
-use Rattle.dimacs_records.specs.declared.records.Record.{Record}
+use Rattle.dimacs_lines.specs.{Limits.{most_nodes, IsNode}, Lines.{lines}}
+use Rattle.dimacs_records.specs.{declared.records.Record.{Record}, Canonical.{canonical_text}, Printed.{shown}}
 use Rattle.dimacs_records.specs.declared.records.Record.TheVariants.{PotentialsProblem, PotentialsNode}
-use Rattle.dimacs_records.specs.Canonical.{canonical_text}
-use Rattle.dimacs_records.specs.Printed.{shown}
-use Rattle.dimacs_records.specs.Readings.{LineRecord, records_of}
-use Rattle.dimacs_records.specs.Texts.{SpellsValue}
-use Rattle.dimacs_records.specs.Ranges.{IsWide}
+use Rattle.dimacs_records.specs.{Readings.{LineRecord, records_of}, Texts.{SpellsValue}, Ranges.{IsWide}}
 use Rattle.dimacs_records.specs.NodeValues.{NameNodes, has_value, is_nonzero}
+use Rattle.dimacs_records.specs.declared.kinds.TextKind.TheVariants as kinds
 
 -- a number of nodes, and the potentials other than 0
 pub record PotentialsValue : Type 0 where

@@ -1,15 +1,10 @@
 -- Potentials while their text is read, and how such values are stored.
-use Rattle.std.specs.Prelude.{ℕ, ℤ, ◌≡◌, ◌≤◌, List, length, refl, Bool, Some, is_some}
-use Rattle.std.specs.Coded.{Coded, code_by, coded×, coded_ℕ, coded_ℤ}
-use Rattle.std.specs.Ordering.{nat_cmp}
-use Rattle.std.specs.FinMap.{FinMap, from_entries, get}
-use Rattle.std.specs.FinMap as map
-use Rattle.dimacs_records.specs.declared.records.Record.{Record}
+use Rattle.std.specs.{Prelude.{ℕ, ℤ, ◌≡◌, ◌≤◌, List, length, refl, Bool, Some, is_some}, Ordering.{nat_cmp}}
+use Rattle.std.specs.{Coded.{Coded, code_by, coded×, coded_ℕ, coded_ℤ}, FinMap.{FinMap, from_entries, get}}
+use Rattle.dimacs_records.specs.{declared.records.Record.{Record}, NodeValues.{NameNodes}, Tests.{plain_context_of}}
+use Rattle.dimacs_records.specs.{declared.order.Context.{Context}, declared.records.Record.TheVariants.{PotentialsNode}}
 use Rattle.dimacs_claims.specs.Potentials.{PotentialsValue, potentials_records}
-use Rattle.dimacs_records.specs.NodeValues.{NameNodes}
-use Rattle.dimacs_records.specs.declared.order.Context.{Context}
-use Rattle.dimacs_records.specs.declared.records.Record.TheVariants.{PotentialsNode}
-use Rattle.dimacs_records.specs.Tests.{plain_context_of}
+use Rattle.std.specs.FinMap as map
 
 -- the declared numbers, how many lines came, and the potentials on them
 pub record PotentialsBegun : Type 0 where

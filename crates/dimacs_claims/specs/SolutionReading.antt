@@ -1,15 +1,11 @@
 -- A solution while its text is read.
 use Rattle.std.specs.Prelude.{ℕ, ℤ, ◌≡◌, List, map, Option, None, Some, Result, Ok, Err, IfOk}
 use Rattle.dimacs_lines.specs.Lines.{lines}
-use Rattle.dimacs_records.specs.declared.faults.ReadError.{ReadError}
-use Rattle.dimacs_records.specs.declared.kinds.TextKind.TheVariants as kinds
-use Rattle.dimacs_records.specs.declared.records.Record.TheVariants.{SolutionValue}
-use Rattle.dimacs_records.specs.Faults.{Fault}
-use Rattle.dimacs_records.specs.Readings.{LineRecord, on_line}
-use Rattle.dimacs_records.specs.Texts.{Reads}
-use Rattle.dimacs_claims.specs.declared.solution.Entry.{Entry}
-use Rattle.dimacs_claims.specs.declared.solution.ValueLine.{ValueLine}
+use Rattle.dimacs_records.specs.{declared.faults.ReadError.{ReadError}, Faults.{Fault}, Readings.{LineRecord, on_line}}
+use Rattle.dimacs_records.specs.{declared.records.Record.TheVariants.{SolutionValue}, Texts.{Reads}}
+use Rattle.dimacs_claims.specs.{declared.solution.Entry.{Entry}, declared.solution.ValueLine.{ValueLine}}
 use Rattle.dimacs_claims.specs.SolutionTexts.{StandsAmong, GivesSolution, SpellsSolution, IsLawful, entry_line}
+use Rattle.dimacs_records.specs.declared.kinds.TextKind.TheVariants as kinds
 use Rattle.dimacs_claims.specs.SolutionTexts as texts
 
 -- the records of these entries, and among them the record of the value, if there is one

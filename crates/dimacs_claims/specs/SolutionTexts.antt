@@ -1,19 +1,12 @@
 -- Solutions, and the texts that spell them.
-use Rattle.std.specs.Prelude.{ℕ, suc, ◌+◌, ◌≡◌, ◌≤◌, List, [], ◌∷◌, ◌++◌, map, length, ℤ, codes}
+use Rattle.std.specs.{Prelude.{ℕ, suc, ◌+◌, ◌≡◌, ◌≤◌, List, [], ◌∷◌, ◌++◌, map, length, ℤ, codes}, List.{All}}
 use Rattle.std.specs.Fmt.{decimal, signed_decimal}
-use Rattle.std.specs.List.{All}
-use Rattle.dimacs_lines.specs.Lines.{lines}
-use Rattle.dimacs_lines.specs.Limits.{most_lines}
+use Rattle.dimacs_lines.specs.{Lines.{lines}, Limits.{most_lines}}
+use Rattle.dimacs_records.specs.{declared.records.Record.{Record}, Canonical.{canonical_text}, Printed.{shown}}
+use Rattle.dimacs_records.specs.{Ranges.{IsId, IsWhole, IsWide}, Readings.{LineRecord, on_line}, Texts.{SpellsValue}}
+use Rattle.dimacs_claims.specs.{declared.solution.Entry.{Entry}, declared.solution.Solution.{Solution}}
 use Rattle.dimacs_records.specs.declared.kinds.TextKind.TheVariants as kinds
-use Rattle.dimacs_records.specs.declared.records.Record.{Record}
 use Rattle.dimacs_records.specs.declared.records.Record.TheVariants as records
-use Rattle.dimacs_records.specs.Canonical.{canonical_text}
-use Rattle.dimacs_records.specs.Printed.{shown}
-use Rattle.dimacs_records.specs.Ranges.{IsId, IsWhole, IsWide}
-use Rattle.dimacs_records.specs.Readings.{LineRecord, on_line}
-use Rattle.dimacs_records.specs.Texts.{SpellsValue}
-use Rattle.dimacs_claims.specs.declared.solution.Entry.{Entry}
-use Rattle.dimacs_claims.specs.declared.solution.Solution.{Solution}
 
 -- a value or cost, and the flows of arcs, each with its line
 pub record SolutionValue : Type 0 where

@@ -2,14 +2,10 @@
 
 ghost use Rattle.std.specs.Prelude.{◌≡◌, ◌≤◌, ◌<◌, ◌+◌, ℕ, List, None, Some, OnOk, OnErr, if◌then◌else◌, length, refl};
 ghost use Rattle.std.specs.FinSet as set;
-ghost use Rattle.dimacs_lines.specs.Limits.{most_nodes, IsNode};
-ghost use Rattle.dimacs_lines.specs.Lines.{lines};
-ghost use Rattle.dimacs_lines.specs.Puts.{Puts};
+ghost use Rattle.dimacs_lines.specs.{Limits.{most_nodes, IsNode}, Lines.{lines}, Puts.{Puts}};
 ghost use Rattle.dimacs_records.specs.declared.kinds.TextKind.TheVariants as kinds;
-ghost use Rattle.dimacs_records.specs.declared.records.Record.TheVariants.{CutNode};
-ghost use Rattle.dimacs_records.specs.Faults.{Fault};
+ghost use Rattle.dimacs_records.specs.{declared.records.Record.TheVariants.{CutNode}, Faults.{Fault}, Texts.{Reads}};
 ghost use Rattle.dimacs_records.specs.Readings.{CountsRead};
-ghost use Rattle.dimacs_records.specs.Texts.{Reads};
 ghost use Rattle.dimacs_claims.specs.Cuts.{CutValue, IsCut, GivesCut, SpellsCut, canonical_cut, empty_cut, ids_in, with_node};
 ghost use Rattle.dimacs_claims.specs.CutReading.{IsCutBegunBy, plain_context, context};
 

@@ -2,14 +2,9 @@
 
 ghost use Rattle.std.specs.Prelude.{◌≡◌, ◌<◌, ◌≤◌, [], ℕ, List, Some, OnOk, OnErr, IfOk, IfSome, length, map, refl};
 ghost use Rattle.std.specs.List.{All};
-ghost use Rattle.dimacs_lines.specs.Limits.{most_count, most_nodes};
-ghost use Rattle.dimacs_lines.specs.Lines.{lines};
-ghost use Rattle.dimacs_lines.specs.Puts.{Puts};
+ghost use Rattle.dimacs_lines.specs.{Limits.{most_count, most_nodes}, Lines.{lines}, Puts.{Puts}};
 ghost use Rattle.dimacs_records.specs.declared.kinds.TextKind.TheVariants as kinds;
-ghost use Rattle.dimacs_records.specs.Faults.{Fault};
-ghost use Rattle.dimacs_records.specs.Ranges.{IsWide};
-ghost use Rattle.dimacs_records.specs.Readings.{CountsRead};
-ghost use Rattle.dimacs_records.specs.Texts.{Reads};
+ghost use Rattle.dimacs_records.specs.{Faults.{Fault}, Ranges.{IsWide}, Readings.{CountsRead}, Texts.{Reads}};
 ghost use Rattle.dimacs_claims.specs.DistanceTexts.{AreBare, GivesDistances, IsBare, SpellsDistances, bare, canonical_distances};
 ghost use Rattle.dimacs_claims.specs.Labels.{AreLabels, IsBlock, IsNewSource, LabelsValue, label_at, with_block};
 ghost use Rattle.dimacs_claims.specs.LabelTexts.{FitText};

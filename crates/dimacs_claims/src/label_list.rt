@@ -2,9 +2,7 @@
 
 ghost use Rattle.std.specs.Prelude.{◌≡◌, ◌<◌, ◌++◌, ◌∷◌, [], ◌↔◌, All, length, slice_get, slice_index_or, IsTrue, OnOk, OnErr};
 ghost use Rattle.dimacs_network.specs.Lists.{items_left};
-ghost use Rattle.dimacs_claims.specs.Labels.{no_label};
-ghost use Rattle.dimacs_claims.specs.ShortDistances.{IsShort};
-ghost use Rattle.dimacs_claims.specs.declared.block.Label.{Label};
+ghost use Rattle.dimacs_claims.specs.{Labels.{no_label}, ShortDistances.{IsShort}, declared.block.Label.{Label}};
 
 use crate::block::Label;
 use dimacs_lines::Memory;

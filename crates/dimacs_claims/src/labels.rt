@@ -1,27 +1,20 @@
 //! Labels: claimed distances with predecessors.
 
 ghost use Rattle.std.specs.Prelude.{◌≡◌, ◌<◌, ◌≤◌, ◌++◌, ◌∷◌, [], ℕ, ℤ, List, Option, Some, None, OnOk, OnErr, IfOk, IfSome, IsTrue, is_some, length, map, option_map, refl, slice_get, take};
-ghost use Rattle.dimacs_lines.specs.Limits.{most_count, most_nodes};
-ghost use Rattle.dimacs_lines.specs.Lines.{lines};
-ghost use Rattle.dimacs_lines.specs.OutputBuffers.{Appends};
+ghost use Rattle.dimacs_lines.specs.{Limits.{most_count, most_nodes}, Lines.{lines}, OutputBuffers.{Appends}};
 ghost use Rattle.dimacs_lines.specs.Puts.{Puts};
 ghost use Rattle.dimacs_records.specs.declared.kinds.TextKind.TheVariants as kinds;
-ghost use Rattle.dimacs_records.specs.declared.records.Record.TheVariants.{LabelsBlock};
-ghost use Rattle.dimacs_records.specs.Canonical.{canonical_text};
-ghost use Rattle.dimacs_records.specs.Faults.{Fault};
-ghost use Rattle.dimacs_records.specs.Readings.{CountsRead, LineRecord, records_of};
+ghost use Rattle.dimacs_records.specs.{declared.records.Record.TheVariants.{LabelsBlock}, Canonical.{canonical_text}};
+ghost use Rattle.dimacs_records.specs.{Faults.{Fault}, Readings.{CountsRead, LineRecord, records_of}, Texts.{Reads}};
 ghost use Rattle.dimacs_records.specs.Tests.{Passes, PassesEnd};
-ghost use Rattle.dimacs_records.specs.Texts.{Reads};
 ghost use Rattle.dimacs_claims.specs.inside.ById.{AreIndexed};
 ghost use Rattle.dimacs_claims.specs.Labels as claims;
 ghost use Rattle.dimacs_claims.specs.Labels.{AreLabels, AreSources, BlockValue, IsBlock, IsNewSource, LabelsValue, distance_in, label_at, with_block, with_label};
 ghost use Rattle.std.specs.FinSet as set;
-ghost use Rattle.std.specs.List.{All};
-ghost use Rattle.std.specs.Ordering.{nat_cmp};
+ghost use Rattle.std.specs.{List.{All}, Ordering.{nat_cmp}};
 ghost use Rattle.dimacs_records.specs.Ranges.{IsRadius, IsWide};
-ghost use Rattle.dimacs_claims.specs.DistanceTexts.{bare};
+ghost use Rattle.dimacs_claims.specs.{DistanceTexts.{bare}, inside.Lines.{in_kind, line_in_kind}};
 ghost use Rattle.dimacs_claims.specs.LabelTexts.{FitText, GivesLabels, SpellsLabels, block_lines, canonical_labels, label_line, label_records};
-ghost use Rattle.dimacs_claims.specs.inside.Lines.{in_kind, line_in_kind};
 ghost use Rattle.dimacs_claims.specs.LabelsReading.{labels_begun_records, plain_context, context, end_context};
 ghost use Rattle.dimacs_claims.specs.inside.LabelsReading.{AreLabelled, AreLabelsBegun};
 

@@ -1,17 +1,11 @@
 //! Node potentials.
 
 ghost use Rattle.std.specs.Prelude.{◌≡◌, ◌≤◌, ◌<◌, ◌+◌, ℕ, List, None, Some, OnOk, OnErr, if◌then◌else◌, length, refl};
-ghost use Rattle.dimacs_lines.specs.Limits.{most_nodes, IsNode};
-ghost use Rattle.dimacs_lines.specs.Lines.{lines};
-ghost use Rattle.dimacs_lines.specs.Puts.{Puts};
+ghost use Rattle.dimacs_lines.specs.{Limits.{most_nodes, IsNode}, Lines.{lines}, Puts.{Puts}};
 ghost use Rattle.dimacs_records.specs.declared.kinds.TextKind.TheVariants as kinds;
-ghost use Rattle.dimacs_records.specs.declared.records.Record.TheVariants.{PotentialsNode};
-ghost use Rattle.dimacs_records.specs.Faults.{Fault};
-ghost use Rattle.dimacs_records.specs.Readings.{CountsRead};
-ghost use Rattle.dimacs_records.specs.Texts.{Reads};
-ghost use Rattle.dimacs_records.specs.Ranges.{IsWide};
+ghost use Rattle.dimacs_records.specs.{declared.records.Record.TheVariants.{PotentialsNode}, Faults.{Fault}};
+ghost use Rattle.dimacs_records.specs.{Readings.{CountsRead}, Texts.{Reads}, Ranges.{IsWide}, NodeValues.{is_nonzero}};
 ghost use Rattle.dimacs_claims.specs.Potentials.{PotentialsValue, ArePotentials, GivesPotentials, SpellsPotentials, canonical_potentials, nonzero_ids, potential_of, with_potential, zero_potentials};
-ghost use Rattle.dimacs_records.specs.NodeValues.{is_nonzero};
 ghost use Rattle.dimacs_claims.specs.PotentialsReading.{ArePotentialsBegunBy, plain_context, context};
 
 use dimacs_lines::{DeviceFault, Memory, Sink, Source};

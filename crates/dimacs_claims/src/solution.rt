@@ -1,14 +1,11 @@
 //! Solutions: a value or cost, and the flows of arcs.
 
 ghost use Rattle.std.specs.Prelude.{◌≡◌, ◌<◌, ℕ, List, [], Some, IfOk, length, map, option_map, slice_get};
-ghost use Rattle.dimacs_claims.specs.declared.solution.Entry.{Entry};
 ghost use Rattle.std.specs.Result.{result_map_both};
-ghost use Rattle.dimacs_lines.specs.Lines.{lines};
-ghost use Rattle.dimacs_lines.specs.Puts.{Puts};
+ghost use Rattle.dimacs_claims.specs.declared.solution.Entry.{Entry};
+ghost use Rattle.dimacs_lines.specs.{Lines.{lines}, Puts.{Puts}};
 ghost use Rattle.dimacs_records.specs.declared.kinds.TextKind.TheVariants as kinds;
-ghost use Rattle.dimacs_records.specs.Faults.{Fault};
-ghost use Rattle.dimacs_records.specs.Readings.{CountsRead};
-ghost use Rattle.dimacs_records.specs.Texts.{Reads};
+ghost use Rattle.dimacs_records.specs.{Faults.{Fault}, Readings.{CountsRead}, Texts.{Reads}};
 ghost use Rattle.dimacs_claims.specs.SolutionTexts.{SolutionValue, IsLawful, SpellsSolution, canonical_solution, claimed, entry_line, entry_record, renumbered};
 ghost use Rattle.dimacs_claims.specs.SolutionReading.{GivesPlaced, IsPlaced, IsPlacedLawful, ReadsLike, StandsForSolution};
 ghost use Rattle.dimacs_claims.specs.inside.SolutionReading.{value_context};

@@ -1,9 +1,8 @@
 //! How each kind of claim and certificate is read, written and shown.
 
 ghost use Rattle.dimacs_records.specs.declared.kinds.TextKind.TheVariants as kinds;
-ghost use Rattle.dimacs_claims.specs.Cuts.{CutValue, SpellsCut, canonical_cut, shown_cut};
+ghost use Rattle.dimacs_claims.specs.{Cuts.{CutValue, SpellsCut, canonical_cut, shown_cut}, Labels.{LabelsValue}};
 ghost use Rattle.dimacs_claims.specs.DistanceTexts.{SpellsDistances, canonical_distances, shown_distances};
-ghost use Rattle.dimacs_claims.specs.Labels.{LabelsValue};
 ghost use Rattle.dimacs_claims.specs.LabelTexts.{SpellsLabels, canonical_labels, shown_labels};
 ghost use Rattle.dimacs_claims.specs.Potentials.{PotentialsValue, SpellsPotentials, canonical_potentials, shown_potentials};
 ghost use Rattle.dimacs_claims.specs.SolutionTexts.{SolutionValue, SpellsSolution, canonical_solution, claimed, shown_solution};

@@ -1,22 +1,16 @@
 -- The distances of a block by node, copied from the last label to the first.
 use Rattle.std.proofs.Common.{◌≡◌, ◌≢◌, inl, inr, ℕ, zero, suc, ◌+◌, ◌<◌, ◌≤◌, true, List, drop, length, get_or, Option, None, Some, IsSome, ℤ, ◌<ℤ◌, pos, refl, sym, ap, subst, ◌∙◌, ◌∷◌, [], arith}
-use Rattle.std.specs.Prelude.{IfSome, int_lt}
-use Rattle.std.specs.Option.{ForSome}
-use Rattle.std.proofs.lemmas.Int.{ints}
-use Rattle.std.proofs.lemmas.Bool.{cases_eq}
-use Rattle.std.proofs.lemmas.Bool.Decides.{eqb_tells}
-use Rattle.std.proofs.lemmas.List.{drop_all}
-use Rattle.std.proofs.lemmas.List.Elements.{All-cons, All-get_or, All-nil}
+use Rattle.std.proofs.{lemmas.Int.{ints}, lemmas.Bool.{cases_eq}, lemmas.Bool.Decides.{eqb_tells}}
+use Rattle.std.proofs.{lemmas.List.{drop_all}, lemmas.List.Elements.{All-cons, All-get_or, All-nil}}
+use Rattle.std.specs.{Prelude.{IfSome, int_lt}, Option.{ForSome}}
 use Rattle.dimacs_lines.specs.Limits.{IsNode}
 use Rattle.dimacs_records.specs.Ranges.{IsWide}
 use Rattle.dimacs_claims.specs.declared.block.Label.{Label}
 use Rattle.dimacs_claims.specs.Labels.{BlockValue, IsBlock, IsLabel, distance_in, label, no_label}
-use Rattle.dimacs_claims.proofs.BlockLemmas.{label_at_wide}
-use Rattle.dimacs_claims.proofs.ByIdLemmas.{distance_in-from, distance_in-past}
+use Rattle.dimacs_claims.proofs.{BlockLemmas.{label_at_wide}, ByIdLemmas.{distance_in-from, distance_in-past}}
 use Rattle.dimacs_judging.specs.Distances.{below}
 use Rattle.dimacs_decide.specs.inside.TightTrees.{node_at}
-use Rattle.dimacs_decide.proofs.ClaimLemmas.{some_value}
-use Rattle.dimacs_decide.proofs.TightLemmas.{placed}
+use Rattle.dimacs_decide.proofs.{ClaimLemmas.{some_value}, TightLemmas.{placed}}
 
 -- a distance below the end is the distance in its number
 pub below_end : (d end : ℤ) → d <ℤ end → below end d ≡ Some d

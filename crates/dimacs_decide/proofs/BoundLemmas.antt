@@ -1,12 +1,9 @@
 -- Whether a flow keeps the bounds of all arcs.
 use Rattle.std.proofs.Common.{◌≡◌, ◌≢◌, ◌↔◌, IsTrue, true, false, List, length, ℤ, refl, arith}
-use Rattle.std.proofs.lemmas.Bool.{false≢true}
-use Rattle.std.proofs.lemmas.Slice.Zip.{AllZip-long}
+use Rattle.std.proofs.{lemmas.Bool.{false≢true}, lemmas.Slice.Zip.{AllZip-long}}
 use Rattle.dimacs_network.specs.declared.network.ArcView.{ArcView}
 use Rattle.dimacs_records.specs.declared.reasons.Reason.{Reason}
-use Rattle.dimacs_judging.specs.declared.verdict.Where.{Where}
-use Rattle.dimacs_judging.specs.FlowTests.{bound_row}
-use Rattle.dimacs_judging.specs.Tests.{Clear, FirstOfRow}
+use Rattle.dimacs_judging.specs.{declared.verdict.Where.{Where}, FlowTests.{bound_row}, Tests.{Clear, FirstOfRow}}
 use Rattle.dimacs_judging.proofs.Passing.{bounds_clear, bounds_hold}
 use Rattle.dimacs_decide.specs.Bounds.{KeepsBounds}
 

@@ -1,21 +1,14 @@
 -- Cancelling a cycle.
 use Rattle.std.proofs.Common.{◌≡◌, ◌≢◌, inl, inr, ℕ, suc, zero, ◌+◌, ◌-◌, ◌<◌, ◌==◌, List, length, set, ℤ, pos, neg_ℤ, ◌+ℤ◌, ◌-ℤ◌, ◌*ℤ◌, ◌≤ℤ◌, ◌<ℤ◌, refl, sym, ap, subst, ◌∙◌, arith, add-one, All}
-use Rattle.std.proofs.lemmas.Int.{ints}
-use Rattle.std.proofs.lemmas.Bool.{cases_eq, cases_order}
+use Rattle.std.proofs.{lemmas.Int.{ints}, lemmas.Bool.{cases_eq, cases_order}, lemmas.Slice.Zip.{AllZip-long}}
 use Rattle.std.proofs.lemmas.List.{get_or-set_other, get_or-set_same}
-use Rattle.std.proofs.lemmas.Slice.Zip.{AllZip-long}
-use Rattle.dimacs_network.specs.declared.network.ArcView.{ArcView}
-use Rattle.dimacs_methods.specs.declared.potentials.claim.ResidualArc.{ResidualArc}
-use Rattle.dimacs_judging.specs.Flows.{net, cost}
-use Rattle.dimacs_judging.specs.Rows.{amount_at}
-use Rattle.dimacs_network.specs.Arcs.{arc_at, no_arc}
-use Rattle.dimacs_judging.proofs.Products.{mul_add, mul_neg, mul_comm, mul_le, mul_zero}
-use Rattle.dimacs_judging.proofs.Passing.{pair_at}
-use Rattle.dimacs_network.specs.declared.adjacency_lists.Side.{Side}
+use Rattle.dimacs_network.specs.{declared.network.ArcView.{ArcView}, Arcs.{arc_at, no_arc}}
+use Rattle.dimacs_network.specs.{declared.adjacency_lists.Side.{Side}, AdjacencyLists.{end_of, other_end}}
 use Rattle.dimacs_network.specs.declared.adjacency_lists.Side.TheVariants.{Tail, Head}
-use Rattle.dimacs_network.specs.AdjacencyLists.{end_of, other_end}
-use Rattle.dimacs_decide.specs.Bounds.{KeepsBounds}
-use Rattle.dimacs_decide.specs.inside.Heights.{gain_at}
+use Rattle.dimacs_methods.specs.declared.potentials.claim.ResidualArc.{ResidualArc}
+use Rattle.dimacs_judging.specs.{Flows.{net, cost}, Rows.{amount_at}}
+use Rattle.dimacs_judging.proofs.{Products.{mul_add, mul_neg, mul_comm, mul_le, mul_zero}, Passing.{pair_at}}
+use Rattle.dimacs_decide.specs.{Bounds.{KeepsBounds}, inside.Heights.{gain_at}}
 use Rattle.dimacs_decide.specs.inside.ResidualCapacities.{carried_after, residual_capacity_at, residual_capacity_on}
 use Rattle.dimacs_decide.specs.inside.Cancelling.{IsCancelling, HasCapacityFor}
 use Rattle.dimacs_decide.specs.inside.Cycles.{IsSaving, LeadsFrom, ending_of, gain_after, node_after, residual_at}

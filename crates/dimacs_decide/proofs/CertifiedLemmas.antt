@@ -1,18 +1,13 @@
 -- Decisions about a claimed flow.
 use Rattle.std.proofs.Common.{List, ℤ}
 use Rattle.dimacs_claims.specs.SolutionTexts.{SolutionValue}
-use Rattle.dimacs_instance.specs.MaxFlows.{MaxValue}
-use Rattle.dimacs_instance.specs.MinFlows.{MinValue}
-use Rattle.dimacs_judging.specs.MaxJudge.{IsMaxClaim}
-use Rattle.dimacs_judging.specs.MinJudge.{IsMinClaim}
-use Rattle.dimacs_decide.specs.declared.maximum.MaxDecision.{MaxDecision}
-use Rattle.dimacs_decide.specs.declared.maximum.MaxDecision.TheVariants as of_max
-use Rattle.dimacs_decide.specs.declared.least.MinDecision.{MinDecision}
-use Rattle.dimacs_decide.specs.declared.least.MinDecision.TheVariants as of_min
-use Rattle.dimacs_decide.specs.CertifiedMax.{CertifiesMax}
-use Rattle.dimacs_decide.specs.CertifiedMin.{CertifiesMin}
-use Rattle.dimacs_decide.specs.MaxDecision.{DecidesMax}
+use Rattle.dimacs_instance.specs.{MaxFlows.{MaxValue}, MinFlows.{MinValue}}
+use Rattle.dimacs_judging.specs.{MaxJudge.{IsMaxClaim}, MinJudge.{IsMinClaim}}
+use Rattle.dimacs_decide.specs.{declared.maximum.MaxDecision.{MaxDecision}, declared.least.MinDecision.{MinDecision}}
+use Rattle.dimacs_decide.specs.{CertifiedMax.{CertifiesMax}, CertifiedMin.{CertifiesMin}, MaxDecision.{DecidesMax}}
 use Rattle.dimacs_decide.specs.MinDecision.{DecidesMin}
+use Rattle.dimacs_decide.specs.declared.maximum.MaxDecision.TheVariants as of_max
+use Rattle.dimacs_decide.specs.declared.least.MinDecision.TheVariants as of_min
 
 -- ---- maximum
 pub max_certified : (i : MaxValue) (s : SolutionValue) (x : List ℤ) (decision : MaxDecision) → IsMaxClaim i s x → DecidesMax i x decision → CertifiesMax i s decision

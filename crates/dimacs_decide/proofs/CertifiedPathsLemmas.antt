@@ -1,25 +1,18 @@
 -- Blocks of claimed distances, block by block.
 use Rattle.std.proofs.Common.{◌≡◌, ◌≢◌, inl, inr, ℕ, suc, zero, ◌+◌, ◌<◌, ◌≤◌, List, [], ◌∷◌, ◌++◌, All, take, drop, length, get_or, Option, Some, None, Result, ℤ, Ok, Err, refl, sym, ap, subst, ◌∙◌, arith}
-use Rattle.std.specs.List.{AllZip}
-use Rattle.std.specs.Result.{IsErrAnd}
-use Rattle.std.proofs.Math.Path.{fun_ext}
-use Rattle.std.proofs.lemmas.Bool.{cases_order}
+use Rattle.std.proofs.{Math.Path.{fun_ext}, lemmas.Bool.{cases_order}}
 use Rattle.std.proofs.lemmas.List.{drop_more, get_or-take, get_or_default, length-take-le, take-append-drop}
 use Rattle.std.proofs.lemmas.List.Elements.{All-cons, All-from_get_or, All-get_or, All-head, All-map, All-nil, All-tail, All-weaker, AllZip-get_or, all_zip_more, length_all_zip}
+use Rattle.std.specs.{List.{AllZip}, Result.{IsErrAnd}}
 use Rattle.dimacs_lines.specs.Limits.{IsNode}
 use Rattle.dimacs_network.specs.Arcs.{JoinsNodes, NetworkValue}
 use Rattle.dimacs_records.specs.declared.reasons.Reason.{Reason}
 use Rattle.dimacs_claims.specs.Labels.{AreLabels, BlockValue, EachAfter, IsBlock, IsNewSource, LabelsValue, label, label_in}
-use Rattle.dimacs_judging.specs.declared.verdict.Where.{Where}
-use Rattle.dimacs_judging.specs.declared.verdict.JudgeError.{JudgeError}
-use Rattle.dimacs_judging.specs.declared.verdict.JudgeError.TheVariants.{Refused, Memory}
-use Rattle.dimacs_judging.specs.Answers.{block_of}
-use Rattle.dimacs_judging.specs.Labels.{LabelsOk}
-use Rattle.dimacs_judging.specs.QueryTests.{HasBlock, HasFullBlock}
-use Rattle.dimacs_judging.specs.Tests.{First}
+use Rattle.dimacs_judging.specs.{declared.verdict.Where.{Where}, declared.verdict.JudgeError.{JudgeError}}
+use Rattle.dimacs_judging.specs.{declared.verdict.JudgeError.TheVariants.{Refused, Memory}, Answers.{block_of}}
+use Rattle.dimacs_judging.specs.{Labels.{LabelsOk}, QueryTests.{HasBlock, HasFullBlock}, Tests.{First}}
 use Rattle.dimacs_judging.specs.inside.Labels.{block_at}
-use Rattle.dimacs_judging.proofs.BlockNumbers.{block_found}
-use Rattle.dimacs_judging.proofs.Firsts.{AllOneWay, one_first}
+use Rattle.dimacs_judging.proofs.{BlockNumbers.{block_found}, Firsts.{AllOneWay, one_first}}
 use Rattle.dimacs_judging.proofs.RowLists.{all_one_way-append, first_after, first_in_front}
 use Rattle.dimacs_decide.specs.CertifiedPaths.{AreAllDistances, AreLabelsOfAll, CertifiesPaths, block_source, distances_rows, sources_of}
 use Rattle.dimacs_decide.specs.Distances.{AreDistancesFrom, claim_rows}

@@ -1,33 +1,23 @@
 -- Claimed distances: what shows that they are right, or wrong.
 use Rattle.std.proofs.Common.{◌≡◌, ◌≢◌, inl, inr, ℕ, ◌+◌, ◌≤◌, Bool, true, false, List, [], ◌∷◌, ◌++◌, All, Contains, Option, Some, None, IsSome, Result, Ok, Err, ℤ, pos, ◌+ℤ◌, ◌≤ℤ◌, refl, sym, ap, subst, ◌∙◌, arith}
-use Rattle.std.specs.Result.{IsErrAnd}
-use Rattle.std.proofs.lemmas.Bool.{cases_Bool}
-use Rattle.std.proofs.lemmas.Bool.Decides.{eqb_tells}
-use Rattle.std.proofs.lemmas.Int.{ints, by_lt_z}
+use Rattle.std.proofs.{lemmas.Bool.{cases_Bool}, lemmas.Bool.Decides.{eqb_tells}, lemmas.Int.{ints, by_lt_z}}
 use Rattle.std.proofs.lemmas.List.Elements.{All-nil, All-cons, All-contains, All-get_or, All-from_get_or, Contains-get_or}
-use Rattle.dimacs_network.specs.declared.network.ArcView.{ArcView}
-use Rattle.dimacs_network.specs.Arcs.{JoinsNodes, NetworkValue, arc_at, no_arc}
+use Rattle.std.specs.Result.{IsErrAnd}
+use Rattle.dimacs_network.specs.{declared.network.ArcView.{ArcView}, Arcs.{JoinsNodes, NetworkValue, arc_at, no_arc}}
 use Rattle.dimacs_lines.specs.Limits.{IsNode}
 use Rattle.dimacs_records.specs.declared.reasons.Reason.{Reason}
 use Rattle.dimacs_records.specs.declared.reasons.Reason.TheVariants.{Escapes, NotShortest, NoTightArc}
 use Rattle.dimacs_claims.specs.Labels.{BlockValue, IsBlock, LabelsValue, label, label_in}
-use Rattle.dimacs_judging.specs.declared.verdict.Where.{Where}
-use Rattle.dimacs_judging.specs.declared.verdict.Where.TheVariants.{Arc, Node}
-use Rattle.dimacs_judging.specs.declared.verdict.JudgeError.{JudgeError}
-use Rattle.dimacs_judging.specs.declared.verdict.JudgeError.TheVariants.{Refused, Memory}
-use Rattle.dimacs_judging.specs.Answers.{block_of}
-use Rattle.dimacs_judging.specs.CertificateTests.{RelaxFails}
-use Rattle.dimacs_judging.specs.Labels.{HasTightArc, IsRelaxed, LabelsOk}
-use Rattle.dimacs_judging.specs.QueryTests.{HasFullBlock}
+use Rattle.dimacs_judging.specs.{declared.verdict.Where.{Where}, declared.verdict.Where.TheVariants.{Arc, Node}}
+use Rattle.dimacs_judging.specs.{declared.verdict.JudgeError.{JudgeError}, Answers.{block_of}}
+use Rattle.dimacs_judging.specs.{declared.verdict.JudgeError.TheVariants.{Refused, Memory}, QueryTests.{HasFullBlock}}
+use Rattle.dimacs_judging.specs.{CertificateTests.{RelaxFails}, Labels.{HasTightArc, IsRelaxed, LabelsOk}}
 use Rattle.dimacs_judging.specs.Tests.{AllClear, Clear, First, FirstOfRow, FirstAlone}
 use Rattle.dimacs_judging.specs.Walks.{Dist, IsDistance, IsWalk, weight}
-use Rattle.dimacs_judging.proofs.Distances.{labels_are_distances}
+use Rattle.dimacs_judging.proofs.{Distances.{labels_are_distances}, LabelsPassing.{stays_near}, Reasons.{one_relax}}
 use Rattle.dimacs_judging.proofs.Firsts.{AllOneWay, arc_one_way, node_one_way, one_first, one_test_one_way}
-use Rattle.dimacs_judging.proofs.LabelsPassing.{stays_near}
-use Rattle.dimacs_judging.proofs.Reasons.{one_relax}
 use Rattle.dimacs_decide.specs.Distances.{AreDistancesFrom, AreLabelsOf, DecidesDistances, IsTight, IsTightlyReached, claim_row, claim_rows, reach_row, source_row}
-use Rattle.dimacs_decide.specs.inside.DistanceBlocks.{DecidesBlock, IsBlockOf}
-use Rattle.dimacs_decide.specs.TightTails.{IsRelaxedBy}
+use Rattle.dimacs_decide.specs.{inside.DistanceBlocks.{DecidesBlock, IsBlockOf}, TightTails.{IsRelaxedBy}}
 use Rattle.dimacs_decide.specs.inside.TightTrees.{IsTightTree, IsWholeTightTree, ReachesAll}
 
 -- ---- walks joined end to end

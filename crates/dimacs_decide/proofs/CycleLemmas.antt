@@ -1,17 +1,13 @@
 -- Cycles of residual arcs.
 use Rattle.std.proofs.Common.{◌≡◌, ◌≢◌, ◌⊎◌, inl, inr, ℕ, suc, zero, ◌+◌, ◌-◌, ◌*◌, ◌<◌, ◌≤◌, Bool, true, false, List, length, All, ℤ, pos, neg_ℤ, ◌+ℤ◌, ◌≤ℤ◌, ◌<ℤ◌, refl, sym, ap, subst, ◌∙◌, arith}
+use Rattle.std.proofs.{lemmas.Int.{ints}, lemmas.Bool.{cases_order, false≢true}}
 use Rattle.std.specs.Prelude.{slice_index}
-use Rattle.std.proofs.lemmas.Int.{ints}
-use Rattle.std.proofs.lemmas.Bool.{cases_order, false≢true}
-use Rattle.dimacs_network.specs.declared.network.ArcView.{ArcView}
+use Rattle.dimacs_network.specs.{declared.network.ArcView.{ArcView}, Arcs.{arc_at}}
 use Rattle.dimacs_methods.specs.declared.potentials.claim.ResidualArc.{ResidualArc}
-use Rattle.dimacs_network.specs.Arcs.{arc_at}
-use Rattle.dimacs_decide.specs.declared.heights.HeightLabel.{HeightLabel}
+use Rattle.dimacs_decide.specs.{declared.heights.HeightLabel.{HeightLabel}, inside.Traces.{IsCycle}}
 use Rattle.dimacs_decide.specs.inside.Cycles.{IsSaving, IsWalked, LeadsFrom, beginning_of, ending_of, gain_after, gain_of, node_after, residual_at}
 use Rattle.dimacs_decide.specs.inside.Heights.{AreHeights, IsRaised, height_of}
-use Rattle.dimacs_decide.specs.inside.Traces.{IsCycle}
-use Rattle.dimacs_decide.proofs.HeightLemmas.{arc_bounds, gain_least, gain_most}
-use Rattle.dimacs_decide.proofs.TraceLemmas.{below_some}
+use Rattle.dimacs_decide.proofs.{HeightLemmas.{arc_bounds, gain_least, gain_most}, TraceLemmas.{below_some}}
 use Rattle.dimacs_instance.specs.MinFlows.{HasBounds}
 
 -- ---- a cycle of raised nodes, in the order of the cycle

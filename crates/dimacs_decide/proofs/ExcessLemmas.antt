@@ -2,11 +2,9 @@
 use Rattle.std.proofs.Common.{◌≡◌, ℕ, suc, zero, ◌+◌, ◌-◌, ◌*◌, ◌^◌, ◌≤◌, List, ℤ, pos, negsuc, ◌+ℤ◌, ◌≤ℤ◌, refl, ap, arith}
 use Rattle.std.proofs.lemmas.Int.{ints}
 use Rattle.dimacs_instance.specs.MinFlows.{MinValue, positive_part}
-use Rattle.dimacs_judging.specs.Flows.{sum_nodes}
-use Rattle.dimacs_judging.specs.inside.Ranges.{IsOfSize}
+use Rattle.dimacs_judging.specs.{Flows.{sum_nodes}, inside.Ranges.{IsOfSize}}
 use Rattle.dimacs_judging.proofs.Sums.{sum_nodes-same}
-use Rattle.dimacs_decide.specs.FeasibilityDecision.{imbalance_at, total_excess}
-use Rattle.dimacs_decide.specs.inside.Imbalances.{AreImbalances}
+use Rattle.dimacs_decide.specs.{FeasibilityDecision.{imbalance_at, total_excess}, inside.Imbalances.{AreImbalances}}
 
 -- the sum of the excesses of the nodes below this one, which is bounded
 pub record IsExcessBelow (imbalance : ℕ → ℤ) (id : ℕ) (sum : ℤ) : Type 0 where

@@ -1,28 +1,20 @@
 -- What excesses show of a flow that keeps the bounds.
 use Rattle.std.proofs.Common.{◌≡◌, ◌≢◌, inl, inr, ℕ, ◌+◌, ◌<◌, ◌≤◌, ◌==◌, ◌&&◌, Bool, true, false, not, List, [], ◌∷◌, All, ℤ, pos, negsuc, ◌+ℤ◌, ◌-ℤ◌, ◌≤ℤ◌, ◌<ℤ◌, refl, sym, ap, subst, ◌∙◌, arith, eq-eqb}
-use Rattle.std.proofs.lemmas.Int.{ints}
-use Rattle.std.proofs.lemmas.Bool.{cases_eq, cases_order, false≢true, ne_eqb}
+use Rattle.std.proofs.{lemmas.Int.{ints}, lemmas.Bool.{cases_eq, cases_order, false≢true, ne_eqb}}
 use Rattle.std.proofs.lemmas.List.Elements.{All-head, All-tail}
 use Rattle.std.specs.List.{AllZip}
 use Rattle.dimacs_network.proofs.Nodes.{contains-insert}
 use Rattle.dimacs_lines.specs.Limits.{IsNode}
 use Rattle.dimacs_claims.specs.Cuts.{CutValue, empty_cut, with_node}
-use Rattle.dimacs_network.specs.declared.network.ArcView.{ArcView}
-use Rattle.dimacs_network.specs.Arcs.{JoinsNodes}
+use Rattle.dimacs_network.specs.{declared.network.ArcView.{ArcView}, Arcs.{JoinsNodes}}
 use Rattle.dimacs_instance.specs.MinFlows.{IsMin, MinValue, positive_part, supply_of}
-use Rattle.dimacs_judging.specs.Cuts.{enters, leaves, members}
-use Rattle.dimacs_judging.specs.Feasible.{FeasibleMin}
-use Rattle.dimacs_judging.specs.Flows.{net, when}
-use Rattle.dimacs_judging.specs.InfeasibleJudge.{ShowsNoFlow}
-use Rattle.dimacs_judging.specs.ViolatedSets.{Violated}
-use Rattle.dimacs_judging.proofs.Duality.{across_is, violated_has_no_flow}
-use Rattle.dimacs_judging.proofs.Sums.{sum_nodes-zero}
-use Rattle.dimacs_decide.specs.Bounds.{KeepsBounds}
-use Rattle.dimacs_decide.specs.FeasibilityDecision.{imbalance_at, total_excess}
-use Rattle.dimacs_decide.specs.inside.Augmentation.{IsSent, IsStuck}
+use Rattle.dimacs_judging.specs.{Cuts.{enters, leaves, members}, Feasible.{FeasibleMin}, Flows.{net, when}}
+use Rattle.dimacs_judging.specs.{InfeasibleJudge.{ShowsNoFlow}, ViolatedSets.{Violated}}
+use Rattle.dimacs_judging.proofs.{Duality.{across_is, violated_has_no_flow}, Sums.{sum_nodes-zero}}
+use Rattle.dimacs_decide.specs.{Bounds.{KeepsBounds}, FeasibilityDecision.{imbalance_at, total_excess}}
+use Rattle.dimacs_decide.specs.{inside.Augmentation.{IsSent, IsStuck}, inside.Imbalances.{AreImbalances, AreSigns}}
 use Rattle.dimacs_decide.specs.declared.imbalance.ImbalanceSigns.{ImbalanceSigns}
 use Rattle.dimacs_decide.specs.declared.imbalance.ImbalanceSigns.TheVariants.{Even, Excess, Deficit}
-use Rattle.dimacs_decide.specs.inside.Imbalances.{AreImbalances, AreSigns}
 use Rattle.dimacs_decide.proofs.SumLemmas.{across_of, sum_nodes-less, sum_nodes-split}
 
 -- ---- positive parts

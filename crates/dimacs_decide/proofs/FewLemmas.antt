@@ -1,26 +1,17 @@
 -- Blocks that label few nodes.
 use Rattle.std.proofs.Common.{◌≡◌, ◌≢◌, inl, inr, true, false, ℕ, zero, suc, ◌+◌, ◌-◌, ◌<◌, ◌≤◌, Bool, List, [], ◌∷◌, length, get_or, Option, Some, None, is_some, ℤ, refl, sym, ap, subst, ◌∙◌, arith}
-use Rattle.std.specs.Prelude.{IfSome}
-use Rattle.std.specs.Option.{ForSome}
-use Rattle.dimacs_records.specs.Ranges.{IsWide}
-use Rattle.std.proofs.lemmas.Bool.{cases_eq, cases_lt, cases_order}
-use Rattle.std.proofs.lemmas.Bool.Decides.{eqb_tells}
+use Rattle.std.proofs.{lemmas.Bool.{cases_eq, cases_lt, cases_order}, lemmas.Bool.Decides.{eqb_tells}}
 use Rattle.std.proofs.lemmas.List.Elements.{All-cons, All-nil}
-use Rattle.dimacs_network.specs.declared.network.ArcView.{ArcView}
-use Rattle.dimacs_network.specs.declared.adjacency_lists.Side.TheVariants.{Tail}
-use Rattle.dimacs_network.specs.AdjacencyLists.{IsLast}
-use Rattle.dimacs_network.specs.Arcs.{arc_at}
-use Rattle.dimacs_records.specs.declared.reasons.Reason.{Reason}
+use Rattle.std.specs.{Prelude.{IfSome}, Option.{ForSome}}
+use Rattle.dimacs_records.specs.{Ranges.{IsWide}, declared.reasons.Reason.{Reason}}
+use Rattle.dimacs_network.specs.{declared.network.ArcView.{ArcView}, declared.adjacency_lists.Side.TheVariants.{Tail}}
+use Rattle.dimacs_network.specs.{AdjacencyLists.{IsLast}, Arcs.{arc_at}}
 use Rattle.dimacs_claims.specs.Labels.{BlockValue, IsBlock, distance_in, label, no_label}
-use Rattle.dimacs_claims.proofs.BlockLemmas.{label_at_wide}
-use Rattle.dimacs_claims.proofs.ByIdLemmas.{distance_in-at, fresh_apart}
-use Rattle.dimacs_judging.specs.CertificateTests.{RelaxFails}
-use Rattle.dimacs_judging.specs.Tests.{Clear}
-use Rattle.dimacs_decide.specs.Distances.{claim_row}
+use Rattle.dimacs_claims.proofs.{BlockLemmas.{label_at_wide}, ByIdLemmas.{distance_in-at, fresh_apart}}
+use Rattle.dimacs_judging.specs.{CertificateTests.{RelaxFails}, Tests.{Clear}}
+use Rattle.dimacs_decide.specs.{Distances.{claim_row}, inside.TightTrees.{ReachesAll, node_at}}
 use Rattle.dimacs_decide.specs.inside.FewLabels.{AreNamed, ArcsHoldFrom, ArePlaced, IsUnreached}
-use Rattle.dimacs_decide.specs.inside.TightTrees.{ReachesAll, node_at}
-use Rattle.dimacs_decide.proofs.ClaimLemmas.{some_value}
-use Rattle.dimacs_decide.proofs.TightLemmas.{none_of, placed}
+use Rattle.dimacs_decide.proofs.{ClaimLemmas.{some_value}, TightLemmas.{none_of, placed}}
 
 abbrev pub id_at : BlockValue → ℕ → ℕ
 id_at b k = (get_or b.labels k no_label).id

@@ -1,11 +1,9 @@
 -- Flows that leave less and less excess.
-use Rattle.std.proofs.Common.{◌<◌, List, [], ◌∷◌, All, map, ℤ, pos, negsuc, ◌≤ℤ◌, ◌<ℤ◌, arith}
-use Rattle.std.proofs.lemmas.Int.{ints}
+use Rattle.std.proofs.{Common.{◌<◌, List, [], ◌∷◌, All, map, ℤ, pos, negsuc, ◌≤ℤ◌, ◌<ℤ◌, arith}, lemmas.Int.{ints}}
 use Rattle.std.proofs.lemmas.List.Elements.{All-head, All-tail}
 use Rattle.dimacs_network.specs.declared.network.ArcView.{ArcView}
 use Rattle.dimacs_instance.specs.MinFlows.{HasBounds, MinValue, positive_part}
-use Rattle.dimacs_decide.specs.Bounds.{KeepsBounds}
-use Rattle.dimacs_decide.specs.FeasibilityDecision.{total_excess}
+use Rattle.dimacs_decide.specs.{Bounds.{KeepsBounds}, FeasibilityDecision.{total_excess}}
 use Rattle.dimacs_decide.proofs.ExcessLemmas.{excess_some}
 
 pub lowest_keeps : (arcs : List ArcView) → All HasBounds arcs → KeepsBounds arcs (map (λ (a : ArcView). a.low) arcs)

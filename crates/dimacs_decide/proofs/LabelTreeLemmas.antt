@@ -1,18 +1,14 @@
 -- Labels of nodes that lead back to the source, and one more.
 use Rattle.std.proofs.Common.{◌≡◌, ◌≢◌, inl, inr, ℕ, suc, ◌+◌, ◌<◌, ◌≤◌, ◌==◌, Bool, true, false, not, cond, [], ◌∷◌, length, Option, Some, None, IsSome, is_some, ℤ, pos, refl, sym, ap, subst, ◌∙◌, arith}
-use Rattle.std.proofs.lemmas.Bool.{cases_eq, ne_eqb}
-use Rattle.std.proofs.lemmas.Bool.Decides.{eqb_tells}
-use Rattle.std.proofs.lemmas.List.{length-append}
+use Rattle.std.proofs.{lemmas.Bool.{cases_eq, ne_eqb}, lemmas.Bool.Decides.{eqb_tells}, lemmas.List.{length-append}}
 use Rattle.std.proofs.lemmas.List.Elements.{All-nil, All-push}
 use Rattle.dimacs_lines.specs.Limits.{most_count, most_nodes, IsNode}
 use Rattle.dimacs_claims.specs.declared.block.Label.{Label}
 use Rattle.dimacs_claims.specs.Labels.{BlockValue, IsBlock, distance_in, label, with_label}
 use Rattle.dimacs_claims.proofs.BlockLemmas.{each_after_nil, each_after_push}
-use Rattle.dimacs_decide.specs.inside.TightTrees.{absent}
-use Rattle.dimacs_decide.proofs.ClaimLemmas.{same_option}
-use Rattle.dimacs_decide.proofs.CountLemmas.{count_all, one_fewer}
-use Rattle.dimacs_decide.specs.Predecessors.{IsNext, LeadsBack}
+use Rattle.dimacs_decide.specs.{inside.TightTrees.{absent}, Predecessors.{IsNext, LeadsBack}}
 use Rattle.dimacs_decide.specs.inside.LabelTrees.{AreLabelled, AreLabelledBelow, IsLabelTree, Keeps, Places}
+use Rattle.dimacs_decide.proofs.{ClaimLemmas.{same_option}, CountLemmas.{count_all, one_fewer}}
 
 one_labelled : (labelled after : ℕ → Bool) (at : ℕ) → ((v : ℕ) → v ≢ at → after v ≡ labelled v) → (n : ℕ) → at < n → labelled at ≡ false → after at ≡ true → absent after n + 1 ≡ absent labelled n
 one_labelled labelled after at others n h old new = one_fewer (λ v. not (labelled v)) (λ v. not (after v)) at (λ v ne. ap not (others v ne)) n h (ap not old) (ap not new)

@@ -1,30 +1,19 @@
 -- What heights and cycles show of a flow.
 use Rattle.std.proofs.Common.{◌≡◌, ◌≢◌, inl, inr, ℕ, ◌+◌, ◌<◌, ◌≤◌, ◌==◌, cond, if◌then◌else◌, Bool, true, false, List, length, Some, ℤ, pos, ◌<ℤ◌, refl, sym, ap, subst, ◌∙◌, arith, eq-eqb}
-use Rattle.std.proofs.lemmas.Int.{ints}
-use Rattle.std.proofs.lemmas.Bool.{cases_order, ne_eqb}
-use Rattle.std.proofs.lemmas.Bool.Decides.{Decides-int_eq}
+use Rattle.std.proofs.{lemmas.Int.{ints}, lemmas.Bool.{cases_order, ne_eqb}, lemmas.Bool.Decides.{Decides-int_eq}}
 use Rattle.std.proofs.lemmas.Slice.Zip.{AllZip-long}
-use Rattle.std.specs.Prelude.{unwrap_or}
-use Rattle.std.specs.Ordering.{int_eq}
-use Rattle.std.specs.FinMap.{get, insert, remove}
+use Rattle.std.specs.{Prelude.{unwrap_or}, Ordering.{int_eq}, FinMap.{get, insert, remove}}
 use Rattle.dimacs_network.proofs.Nodes.{get-empty, get-insert}
 use Rattle.dimacs_lines.specs.Limits.{IsNode}
 use Rattle.dimacs_claims.specs.Potentials.{PotentialsValue, potential_of, with_potential, zero_potentials}
 use Rattle.dimacs_instance.specs.MinFlows.{MinValue, IsMin}
-use Rattle.dimacs_judging.specs.Feasible.{FeasibleMin}
-use Rattle.dimacs_judging.specs.Flows.{cost, net}
-use Rattle.dimacs_judging.specs.Optimum.{Least}
+use Rattle.dimacs_judging.specs.{Feasible.{FeasibleMin}, Flows.{cost, net}, Optimum.{Least}, Rows.{amount_at}}
 use Rattle.dimacs_judging.specs.Potentials.{IsSlackAt, Slack}
-use Rattle.dimacs_judging.specs.Rows.{amount_at}
-use Rattle.dimacs_network.specs.Arcs.{no_arc, arc_at}
-use Rattle.dimacs_judging.proofs.Duality.{slack_is_least}
-use Rattle.dimacs_judging.proofs.Passing.{pair_at, pairs_from}
-use Rattle.dimacs_network.specs.declared.adjacency_lists.Side.TheVariants.{Tail, Head}
-use Rattle.dimacs_decide.specs.Bounds.{KeepsBounds}
-use Rattle.dimacs_decide.specs.declared.heights.HeightLabel.{HeightLabel}
+use Rattle.dimacs_network.specs.{Arcs.{no_arc, arc_at}, declared.adjacency_lists.Side.TheVariants.{Tail, Head}}
+use Rattle.dimacs_judging.proofs.{Duality.{slack_is_least}, Passing.{pair_at, pairs_from}}
+use Rattle.dimacs_decide.specs.{Bounds.{KeepsBounds}, declared.heights.HeightLabel.{HeightLabel}}
 use Rattle.dimacs_decide.specs.inside.Heights.{AreSettled, height_of}
-use Rattle.dimacs_decide.proofs.HeightLemmas.{settled_slack}
-use Rattle.dimacs_decide.proofs.SideLemmas.{near_within}
+use Rattle.dimacs_decide.proofs.{HeightLemmas.{settled_slack}, SideLemmas.{near_within}}
 
 -- ---- setting potentials
 pub potential_set : (p : PotentialsValue) (id : ℕ) (n : ℤ) → n ≢ pos 0 → (v : ℕ) → potential_of (with_potential p id n) v ≡ cond (v == id) n (potential_of p v)

@@ -1,20 +1,13 @@
 -- The lightest arc between each two nodes stands for all of them.
 use Rattle.std.proofs.Common.{◌≡◌, inl, inr, ℕ, ◌<◌, List, [], ◌∷◌, All, Contains, length, get_or, Option, None, Bool, ℤ, ◌+ℤ◌, ◌≤ℤ◌, ◌<ℤ◌, refl, sym, ap, subst, ◌∙◌, arith}
-use Rattle.std.proofs.lemmas.Int.{ints}
-use Rattle.std.proofs.lemmas.List.{get_or_default, get_or-map, length-map}
+use Rattle.std.proofs.{lemmas.Int.{ints}, lemmas.List.{get_or_default, get_or-map, length-map}}
 use Rattle.std.proofs.lemmas.List.Elements.{All-contains, All-weaker, Contains-get_or}
-use Rattle.dimacs_network.specs.declared.network.ArcView.{ArcView}
-use Rattle.dimacs_network.specs.Arcs.{JoinsNodes, arc_at, no_arc}
+use Rattle.dimacs_network.specs.{declared.network.ArcView.{ArcView}, Arcs.{JoinsNodes, arc_at, no_arc}}
 use Rattle.dimacs_records.specs.declared.reasons.Reason.{Reason}
 use Rattle.dimacs_claims.specs.Labels.{BlockValue}
-use Rattle.dimacs_judging.specs.CertificateTests.{RelaxFails}
-use Rattle.dimacs_judging.specs.Labels.{HasTightArc}
-use Rattle.dimacs_judging.specs.Tests.{Clear}
-use Rattle.dimacs_judging.specs.Walks.{IsWalk}
+use Rattle.dimacs_judging.specs.{CertificateTests.{RelaxFails}, Labels.{HasTightArc}, Tests.{Clear}, Walks.{IsWalk}}
 use Rattle.dimacs_judging.specs.LightestArcs.{AreCovering, Covers, arcs_in}
-use Rattle.dimacs_decide.specs.Distances.{claim_row}
-use Rattle.dimacs_decide.specs.inside.FewLabels.{AreLightest}
-use Rattle.dimacs_decide.specs.inside.TightTrees.{IsTightTree}
+use Rattle.dimacs_decide.specs.{Distances.{claim_row}, inside.FewLabels.{AreLightest}, inside.TightTrees.{IsTightTree}}
 
 -- ---- which arcs
 pub all_lightest : (arcs : List ArcView) → AreLightest arcs arcs

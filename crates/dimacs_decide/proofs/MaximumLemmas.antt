@@ -1,18 +1,13 @@
 -- Flow sent from the source to the sink, and a set that no more can leave.
 use Rattle.std.proofs.Common.{◌≡◌, inl, inr, ℕ, ◌==◌, Bool, true, false, List, [], ◌∷◌, All, ℤ, pos, ◌+ℤ◌, ◌≤ℤ◌, ◌<ℤ◌, sym, ap, ◌∙◌, arith, eq-eqb}
-use Rattle.std.proofs.lemmas.Int.{ints}
-use Rattle.std.proofs.lemmas.Bool.{cases_Bool, cases_eq, ne_eqb}
+use Rattle.std.proofs.{lemmas.Int.{ints}, lemmas.Bool.{cases_Bool, cases_eq, ne_eqb}}
 use Rattle.std.proofs.lemmas.List.Elements.{All-head, All-tail, All-weaker}
 use Rattle.std.specs.List.{AllZip}
 use Rattle.dimacs_network.specs.declared.network.ArcView.{ArcView}
-use Rattle.dimacs_instance.specs.MaxFlows.{HasCapacityAlone, IsMax, MaxValue}
-use Rattle.dimacs_instance.specs.MinFlows.{HasBounds}
-use Rattle.dimacs_judging.specs.Cuts.{CutTight, IsTightAt}
-use Rattle.dimacs_judging.specs.Feasible.{FeasibleMax, value}
-use Rattle.dimacs_judging.specs.Optimum.{Maximum}
+use Rattle.dimacs_instance.specs.{MaxFlows.{HasCapacityAlone, IsMax, MaxValue}, MinFlows.{HasBounds}}
+use Rattle.dimacs_judging.specs.{Cuts.{CutTight, IsTightAt}, Feasible.{FeasibleMax, value}, Optimum.{Maximum}}
 use Rattle.dimacs_judging.proofs.Duality.{tight_is_maximum}
-use Rattle.dimacs_decide.specs.Bounds.{KeepsBounds}
-use Rattle.dimacs_decide.specs.inside.Augmentation.{IsSent, IsShut, IsShutAt}
+use Rattle.dimacs_decide.specs.{Bounds.{KeepsBounds}, inside.Augmentation.{IsSent, IsShut, IsShutAt}}
 use Rattle.dimacs_decide.specs.inside.Imbalances.{AreEnds}
 
 -- ---- the lower bounds are 0

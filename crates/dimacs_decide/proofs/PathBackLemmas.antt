@@ -1,12 +1,9 @@
 -- The path back from a node.
 use Rattle.std.proofs.Common.{◌≡◌, ◌≢◌, ◌⊎◌, inl, inr, ℕ, suc, zero, ◌+◌, ◌-◌, ◌<◌, ◌≤◌, ◌==◌, Bool, true, false, not, cond, List, [], ◌∷◌, ◌++◌, All, length, Option, Some, None, IsSome, is_some, ℤ, pos, refl, sym, ap, subst, ◌∙◌, arith}
-use Rattle.std.proofs.lemmas.Bool.{cases_Bool, cases_lt, ne_eqb}
-use Rattle.std.proofs.lemmas.Bool.Decides.{eqb_tells}
-use Rattle.std.proofs.lemmas.List.{length-append}
-use Rattle.std.proofs.lemmas.List.Elements.{All-cons, All-head, All-nil, All-tail}
+use Rattle.std.proofs.{lemmas.Bool.{cases_Bool, cases_lt, ne_eqb}, lemmas.Bool.Decides.{eqb_tells}}
+use Rattle.std.proofs.{lemmas.List.{length-append}, lemmas.List.Elements.{All-cons, All-head, All-nil, All-tail}}
 use Rattle.dimacs_lines.specs.Limits.{IsNode}
-use Rattle.dimacs_decide.specs.Predecessors.{LeadsBack, back}
-use Rattle.dimacs_decide.specs.inside.TightTrees.{absent}
+use Rattle.dimacs_decide.specs.{Predecessors.{LeadsBack, back}, inside.TightTrees.{absent}}
 use Rattle.dimacs_decide.specs.inside.LabelTrees.{AreOff, ComesFirst, EndsPath, IsPathBack, Leads, Places}
 use Rattle.dimacs_decide.proofs.CountLemmas.{count_all, count_some, one_fewer}
 

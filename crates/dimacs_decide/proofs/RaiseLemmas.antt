@@ -1,23 +1,17 @@
 -- Augmentation flow along a path whose ranks fall from its end to its root.
 use Rattle.std.proofs.Common.{◌≡◌, ◌≢◌, ℕ, suc, zero, ◌==◌, ◌<◌, ℤ, pos, ◌+ℤ◌, ◌-ℤ◌, ◌≤ℤ◌, ◌<ℤ◌, Bool, true, false, neg_ℤ, List, [], ◌∷◌, length, get_or, set, refl, sym, ap, subst, ◌∙◌, arith, w64, SFits}
-use Rattle.std.proofs.lemmas.Int.{ints}
-use Rattle.std.proofs.lemmas.List.{get_or-set_other, get_or-set_same}
+use Rattle.std.proofs.{lemmas.Int.{ints}, lemmas.List.{get_or-set_other, get_or-set_same}}
 use Rattle.std.proofs.lemmas.Slice.Zip.{AllZip-long}
 use Rattle.std.specs.List.{AllZip}
-use Rattle.dimacs_network.specs.declared.network.ArcView.{ArcView}
-use Rattle.dimacs_records.specs.Ranges.{IsWhole}
-use Rattle.dimacs_judging.specs.Flows.{sum_arcs, when, net}
-use Rattle.dimacs_judging.specs.Rows.{amount_at}
-use Rattle.dimacs_network.specs.Arcs.{no_arc, arc_at}
-use Rattle.dimacs_judging.proofs.Passing.{pair_at}
-use Rattle.dimacs_network.specs.declared.adjacency_lists.Side.{Side}
+use Rattle.dimacs_network.specs.{declared.network.ArcView.{ArcView}, Arcs.{no_arc, arc_at}}
+use Rattle.dimacs_network.specs.{declared.adjacency_lists.Side.{Side}, AdjacencyLists.{end_of, other_end}}
 use Rattle.dimacs_network.specs.declared.adjacency_lists.Side.TheVariants.{Tail, Head}
-use Rattle.dimacs_decide.specs.declared.search.Visit.{Visit}
-use Rattle.dimacs_network.specs.AdjacencyLists.{end_of, other_end}
+use Rattle.dimacs_records.specs.Ranges.{IsWhole}
+use Rattle.dimacs_judging.specs.{Flows.{sum_arcs, when, net}, Rows.{amount_at}}
+use Rattle.dimacs_judging.proofs.Passing.{pair_at}
+use Rattle.dimacs_decide.specs.{declared.search.Visit.{Visit}, Bounds.{KeepsBounds}, inside.Raising.{Pushed, IsRaising}}
 use Rattle.dimacs_decide.specs.inside.ResidualCapacities.{carried_after, residual_capacity_at}
-use Rattle.dimacs_decide.specs.Bounds.{KeepsBounds}
 use Rattle.dimacs_decide.specs.inside.Residual.{IsReachedBy, rank_of, residual_capacity_of, parent_arc_of}
-use Rattle.dimacs_decide.specs.inside.Raising.{Pushed, IsRaising}
 
 -- ---- one amount changes
 pub sum_arcs-set : (f : ArcView → ℤ → ℤ) (arcs : List ArcView) (y : List ℤ) (k : ℕ) (z : ℤ) → k < length arcs → k < length y

@@ -1,19 +1,14 @@
 -- One more node reached.
 use Rattle.std.proofs.Common.{◌≡◌, ◌⊎◌, inl, inr, ℕ, suc, zero, ◌+◌, ◌-◌, ◌<◌, ◌≤◌, ◌==◌, List, [], ◌∷◌, ◌++◌, length, ℤ, pos, ◌≤ℤ◌, ◌<ℤ◌, refl, sym, ap, subst, ◌∙◌, arith}
-use Rattle.std.specs.Prelude.{slice_index, Some, None}
-use Rattle.std.proofs.lemmas.Int.{ints}
-use Rattle.std.proofs.lemmas.Bool.{cases_eq, cases_order}
+use Rattle.std.proofs.{lemmas.Int.{ints}, lemmas.Bool.{cases_eq, cases_order}, Math.Seq.{get_or-append_seam}}
 use Rattle.std.proofs.lemmas.List.{length-append, get_or_append_left}
-use Rattle.std.proofs.Math.Seq.{get_or-append_seam}
-use Rattle.dimacs_network.specs.declared.network.ArcView.{ArcView}
-use Rattle.dimacs_lines.specs.Limits.{IsNode}
-use Rattle.dimacs_network.specs.Arcs.{arc_at}
-use Rattle.dimacs_network.specs.declared.adjacency_lists.Side.{Side}
+use Rattle.std.specs.Prelude.{slice_index, Some, None}
+use Rattle.dimacs_network.specs.{declared.network.ArcView.{ArcView}, Arcs.{arc_at}}
+use Rattle.dimacs_network.specs.{declared.adjacency_lists.Side.{Side}, AdjacencyLists.{end_of, other_end, IsLast}}
 use Rattle.dimacs_network.specs.declared.adjacency_lists.Side.TheVariants.{Tail, Head}
-use Rattle.dimacs_decide.specs.declared.search.Visit.{Visit}
-use Rattle.dimacs_network.specs.AdjacencyLists.{end_of, other_end, IsLast}
+use Rattle.dimacs_lines.specs.Limits.{IsNode}
+use Rattle.dimacs_decide.specs.{declared.search.Visit.{Visit}, inside.ResidualCapacities.{residual_capacity_on}}
 use Rattle.dimacs_decide.specs.inside.Residual.{unvisited, rank_of, residual_capacity_of, parent_arc_of, IsReachedBy, unreached, IsSideFollowed, IsDone, IsQueued, IsResidualSearch, IsNext, Becomes, Reaches, Grows, IsExplored}
-use Rattle.dimacs_decide.specs.inside.ResidualCapacities.{residual_capacity_on}
 use Rattle.dimacs_decide.proofs.CountLemmas.{count_most, one_zero_fewer}
 
 -- ---- growing

@@ -1,23 +1,17 @@
 -- The result of a search, and the flow after sending.
 use Rattle.std.proofs.Common.{◌≡◌, inl, inr, ℕ, suc, zero, ◌+◌, ◌<◌, ◌≤◌, ◌&&◌, Bool, true, false, not, nat_lt, List, length, All, ℤ, pos, ◌+ℤ◌, ◌-ℤ◌, ◌≤ℤ◌, ◌<ℤ◌, Some, refl, sym, subst, ◌∙◌, arith, eq-eqb}
-use Rattle.std.proofs.lemmas.Int.{ints, by_lt_z}
-use Rattle.std.proofs.lemmas.Bool.{cases_order, lt-ltb, ne_eqb, false≢true}
+use Rattle.std.proofs.{lemmas.Int.{ints, by_lt_z}, lemmas.Bool.{cases_order, lt-ltb, ne_eqb, false≢true}}
 use Rattle.std.proofs.lemmas.Slice.Zip.{AllZip-long}
 use borrow.Author.Tests.{ltb-true}
-use Rattle.std.specs.FinSet.{contains-empty}
-use Rattle.std.specs.Ordering.{nat_cmp}
+use Rattle.std.specs.{FinSet.{contains-empty}, Ordering.{nat_cmp}}
 use Rattle.dimacs_network.proofs.Nodes.{contains-insert}
 use Rattle.dimacs_claims.specs.Cuts.{CutValue, empty_cut, with_node}
 use Rattle.dimacs_lines.specs.Limits.{IsNode}
-use Rattle.dimacs_network.specs.declared.network.ArcView.{ArcView}
-use Rattle.dimacs_network.specs.Arcs.{JoinsNodes, no_arc, arc_at}
-use Rattle.dimacs_judging.specs.Cuts.{members}
-use Rattle.dimacs_judging.specs.Rows.{amount_at}
-use Rattle.dimacs_judging.proofs.Passing.{pair_at, pairs_from}
+use Rattle.dimacs_network.specs.{declared.network.ArcView.{ArcView}, Arcs.{JoinsNodes, no_arc, arc_at}}
 use Rattle.dimacs_network.specs.declared.adjacency_lists.Side.TheVariants.{Tail, Head}
-use Rattle.dimacs_decide.specs.Bounds.{KeepsBounds}
-use Rattle.dimacs_decide.specs.declared.search.Visit.{Visit}
-use Rattle.dimacs_decide.specs.inside.Raising.{Shifts}
+use Rattle.dimacs_judging.specs.{Cuts.{members}, Rows.{amount_at}}
+use Rattle.dimacs_judging.proofs.Passing.{pair_at, pairs_from}
+use Rattle.dimacs_decide.specs.{Bounds.{KeepsBounds}, declared.search.Visit.{Visit}, inside.Raising.{Shifts}}
 use Rattle.dimacs_decide.specs.inside.Residual.{HaveImbalance, IsDone, IsExplored, IsResidualTree, is_in, rank_of, residual_capacity_of}
 use Rattle.dimacs_decide.specs.inside.Augmentation.{IsSent, IsShut, IsShutAt}
 use Rattle.dimacs_decide.proofs.SideLemmas.{far_within, near_within}

@@ -1,17 +1,12 @@
 -- Entries for every arc in order carry their flows.
 use Rattle.std.proofs.Common.{inl, inr, ◌≡◌, ℕ, suc, zero, ◌+◌, ◌<◌, ◌==◌, Bool, true, pos, List, [], ◌∷◌, ◌++◌, length, map, take, get_or, count_by, refl, sym, ap, ◌∙◌, arith, subst, eq-eqb, below_more}
+use Rattle.std.proofs.{Math.ListN.{get_or-map}, Math.Seq.{get_or-append_seam}, lemmas.Bool.{cases_Bool, and_from}}
+use Rattle.std.proofs.{lemmas.List.{get_or_append_left, length-map}, lemmas.List.FromFn.{fill_by_all}}
 use Rattle.std.specs.List.{filter}
-use Rattle.std.proofs.Math.ListN.{get_or-map}
-use Rattle.std.proofs.Math.Seq.{get_or-append_seam}
-use Rattle.std.proofs.lemmas.Bool.{cases_Bool, and_from}
-use Rattle.std.proofs.lemmas.List.{get_or_append_left, length-map}
-use Rattle.std.proofs.lemmas.List.FromFn.{fill_by_all}
 use Rattle.dimacs_records.proofs.CountLemmas.{count_by-cons, count_yes, count_no}
 use Rattle.dimacs_claims.specs.declared.solution.Entry.{Entry}
-use Rattle.dimacs_network.specs.declared.network.ArcView.{ArcView}
-use Rattle.dimacs_network.specs.Arcs.{joins, no_arc, arc_at}
-use Rattle.dimacs_judging.specs.Claims.{is_between, entry_at, no_entry, claimed_of, HasArc, Carries}
-use Rattle.dimacs_judging.specs.Rows.{amount_at}
+use Rattle.dimacs_network.specs.{declared.network.ArcView.{ArcView}, Arcs.{joins, no_arc, arc_at}}
+use Rattle.dimacs_judging.specs.{Claims.{is_between, entry_at, no_entry, claimed_of, HasArc, Carries}, Rows.{amount_at}}
 use Rattle.dimacs_decide.specs.Entries.{IsEntryOf, AreEntriesOf}
 
 -- ---- one more entry, for the next arc

@@ -1,15 +1,12 @@
 -- Sums over nodes and over arcs.
 use Rattle.std.proofs.Common.{◌≡◌, inl, inr, ℕ, suc, zero, ◌*◌, ◌==◌, ◌&&◌, Bool, true, false, not, List, [], ◌∷◌, All, length, ℤ, pos, neg_ℤ, ◌+ℤ◌, ◌-ℤ◌, ◌*ℤ◌, ◌≤ℤ◌, ◌<ℤ◌, refl, subst, arith}
-use Rattle.std.proofs.lemmas.Int.{ints}
-use Rattle.std.proofs.lemmas.Bool.{cases_eq}
-use Rattle.std.proofs.lemmas.List.Elements.{All-head, All-tail}
+use Rattle.std.proofs.{lemmas.Int.{ints}, lemmas.Bool.{cases_eq}, lemmas.List.Elements.{All-head, All-tail}}
 use Rattle.std.specs.List.{AllZip}
 use Rattle.dimacs_records.specs.Ranges.{IsWhole}
 use Rattle.dimacs_lines.specs.Limits.{IsNode}
 use Rattle.dimacs_network.specs.declared.network.ArcView.{ArcView}
 use Rattle.dimacs_instance.specs.MinFlows.{HasBounds}
-use Rattle.dimacs_judging.specs.Cuts.{enters, leaves}
-use Rattle.dimacs_judging.specs.Flows.{net, sum_arcs, sum_nodes, when}
+use Rattle.dimacs_judging.specs.{Cuts.{enters, leaves}, Flows.{net, sum_arcs, sum_nodes, when}}
 use Rattle.dimacs_judging.specs.ViolatedSets.{sum_where}
 use Rattle.dimacs_judging.proofs.Duality.{across}
 use Rattle.dimacs_decide.specs.Bounds.{KeepsBounds}

@@ -1,10 +1,8 @@
 -- What passed tests show.
-use Rattle.std.proofs.Common.{List, Result, Ok, Err, refl}
+use Rattle.std.proofs.{Common.{List, Result, Ok, Err, refl}, lemmas.Bool.{false≢true}}
 use Rattle.std.specs.Prelude.{IsTrue, is_ok}
-use Rattle.std.proofs.lemmas.Bool.{false≢true}
 use Rattle.dimacs_records.specs.declared.reasons.Reason.{Reason}
-use Rattle.dimacs_judging.specs.declared.verdict.Where.{Where}
-use Rattle.dimacs_judging.specs.Tests.{Row, Decides}
+use Rattle.dimacs_judging.specs.{declared.verdict.Where.{Where}, Tests.{Row, Decides}}
 
 -- if no test fails, the statement holds
 pub holds : {P : Type 0} (rows : List Row) (tested : Result Unit (Where × Reason)) → Decides P rows tested → IsTrue (is_ok tested) → P

@@ -1,22 +1,17 @@
 -- The search over tight arcs.
 use Rattle.std.proofs.Common.{◌≡◌, ◌≢◌, inl, inr, ℕ, suc, zero, ◌+◌, ◌-◌, ◌<◌, ◌≤◌, ◌==◌, Bool, true, false, not, cond, List, [], ◌∷◌, ◌++◌, All, Contains, length, get_or, Option, Some, None, is_some, ℤ, pos, ◌+ℤ◌, refl, sym, ap, subst, ◌∙◌, arith}
-use Rattle.std.proofs.lemmas.Bool.{cases_eq, cases_order}
-use Rattle.std.proofs.lemmas.Bool.Decides.{eqb_tells}
+use Rattle.std.proofs.{lemmas.Bool.{cases_eq, cases_order}, lemmas.Bool.Decides.{eqb_tells}}
 use Rattle.std.proofs.lemmas.List.{length-append, get_or_append_left}
 use Rattle.std.proofs.lemmas.List.Elements.{All-nil, All-push, All-head, All-tail, All-weaker, All-contains, All-from_get_or}
 use Rattle.dimacs_lines.specs.Limits.{most_count, most_nodes, IsNode}
-use Rattle.dimacs_network.specs.declared.network.ArcView.{ArcView}
-use Rattle.dimacs_network.specs.AdjacencyLists.{IsLast}
+use Rattle.dimacs_network.specs.{declared.network.ArcView.{ArcView}, AdjacencyLists.{IsLast}, Arcs.{arc_at, no_arc}}
 use Rattle.dimacs_network.specs.declared.adjacency_lists.Side.TheVariants.{Tail}
 use Rattle.dimacs_claims.specs.declared.block.Label.{Label}
 use Rattle.dimacs_claims.specs.Labels.{BlockValue, IsBlock, distance_in, label, no_label, with_label}
-use Rattle.dimacs_judging.specs.Labels.{HasTightArc}
-use Rattle.dimacs_network.specs.Arcs.{arc_at, no_arc}
-use Rattle.dimacs_judging.specs.Walks.{IsWalk}
+use Rattle.dimacs_judging.specs.{Labels.{HasTightArc}, Walks.{IsWalk}}
 use Rattle.dimacs_decide.specs.Distances.{IsTight, IsTightlyReached}
 use Rattle.dimacs_decide.specs.inside.TightTrees.{IsFollowed, IsTightTree, IsWholeTightTree, TreeGrows, absent, node_at}
-use Rattle.dimacs_decide.proofs.ClaimLemmas.{walk_one}
-use Rattle.dimacs_decide.proofs.CountLemmas.{count_all, one_fewer}
+use Rattle.dimacs_decide.proofs.{ClaimLemmas.{walk_one}, CountLemmas.{count_all, one_fewer}}
 
 -- ---- counting
 one_reached : (reached after : ℕ → Bool) (at : ℕ) → ((v : ℕ) → v ≢ at → after v ≡ reached v) → (n : ℕ) → at < n → reached at ≡ false → after at ≡ true → absent after n + 1 ≡ absent reached n

@@ -1,22 +1,17 @@
 -- Going down from raised nodes.
 use Rattle.std.proofs.Common.{◌≡◌, ◌≢◌, ◌⊎◌, inl, inr, ℕ, suc, zero, ◌+◌, ◌-◌, ◌<◌, ◌≤◌, ◌==◌, true, false, List, [], ◌∷◌, ◌++◌, length, ℤ, pos, ◌+ℤ◌, ◌≤ℤ◌, refl, sym, ap, subst, ◌∙◌, arith, eq-eqb, All}
-use Rattle.std.specs.Prelude.{slice_index}
-use Rattle.std.proofs.lemmas.Int.{ints}
-use Rattle.std.proofs.lemmas.Bool.{cases_eq, cases_order, ne_eqb}
+use Rattle.std.proofs.{lemmas.Int.{ints}, lemmas.Bool.{cases_eq, cases_order, ne_eqb}, Math.Seq.{get_or-append_seam}}
 use Rattle.std.proofs.lemmas.List.{length-append, get_or_append_left}
-use Rattle.std.proofs.Math.Seq.{get_or-append_seam}
-use Rattle.dimacs_network.specs.declared.network.ArcView.{ArcView}
-use Rattle.dimacs_network.specs.Arcs.{JoinsNodes, arc_at}
-use Rattle.dimacs_instance.specs.MinFlows.{HasBounds}
-use Rattle.dimacs_network.specs.declared.adjacency_lists.Side.{Side}
+use Rattle.std.specs.Prelude.{slice_index}
+use Rattle.dimacs_network.specs.{declared.network.ArcView.{ArcView}, Arcs.{JoinsNodes, arc_at}}
+use Rattle.dimacs_network.specs.{declared.adjacency_lists.Side.{Side}, AdjacencyLists.{end_of, other_end}}
 use Rattle.dimacs_network.specs.declared.adjacency_lists.Side.TheVariants.{Tail, Head}
-use Rattle.dimacs_network.specs.AdjacencyLists.{end_of, other_end}
+use Rattle.dimacs_instance.specs.MinFlows.{HasBounds}
 use Rattle.dimacs_decide.specs.declared.heights.HeightLabel.{HeightLabel}
 use Rattle.dimacs_decide.specs.inside.Heights.{AreHeights, BelowBound, below_of, bound, height_of}
 use Rattle.dimacs_decide.specs.inside.Traces.{IsCycle, IsFollowing, IsTrace}
 use Rattle.dimacs_decide.proofs.CountLemmas.{all_zero, one_zero_fewer, some_zero}
-use Rattle.dimacs_decide.proofs.SideLemmas.{far_within, near_within}
-use Rattle.dimacs_decide.proofs.HeightLemmas.{arc_bounds, gain_most}
+use Rattle.dimacs_decide.proofs.{SideLemmas.{far_within, near_within}, HeightLemmas.{arc_bounds, gain_most}}
 
 -- ---- the node below
 pub below_none : (arcs : List ArcView) (l : HeightLabel) → l.arc_number ≡ 0 → below_of arcs l ≡ 0

@@ -2,9 +2,7 @@
 use Rattle.std.specs.Prelude.{List, ℤ, ◌<ℤ◌}
 use Rattle.dimacs_claims.specs.SolutionTexts.{SolutionValue}
 use Rattle.dimacs_instance.specs.MaxFlows.{MaxValue}
-use Rattle.dimacs_judging.specs.Feasible.{FeasibleMax, value}
-use Rattle.dimacs_judging.specs.MaxJudge.{IsMaxClaim, ShowsMaximum}
-use Rattle.dimacs_judging.specs.Optimum.{Maximum}
+use Rattle.dimacs_judging.specs.{Feasible.{FeasibleMax, value}, MaxJudge.{IsMaxClaim, ShowsMaximum}, Optimum.{Maximum}}
 use Rattle.dimacs_decide.specs.declared.maximum.MaxDecision.{MaxDecision}
 use Rattle.dimacs_decide.specs.declared.maximum.MaxDecision.TheVariants.{Optimal, Better}
 

@@ -4,9 +4,7 @@ use Rattle.dimacs_lines.specs.Limits.{IsNode}
 use Rattle.dimacs_network.specs.Arcs.{NetworkValue}
 use Rattle.dimacs_instance.specs.QueryTexts.{Sources}
 use Rattle.dimacs_claims.specs.Labels.{BlockValue, LabelsValue, label}
-use Rattle.dimacs_judging.specs.Answers.{distance_from}
-use Rattle.dimacs_judging.specs.PathsJudge.{PassesPaths}
-use Rattle.dimacs_judging.specs.Tests.{Row, FirstAlone}
+use Rattle.dimacs_judging.specs.{Answers.{distance_from}, PathsJudge.{PassesPaths}, Tests.{Row, FirstAlone}}
 use Rattle.dimacs_judging.specs.declared.verdict.JudgeError.{JudgeError}
 use Rattle.dimacs_judging.specs.declared.verdict.JudgeError.TheVariants.{Refused, Memory}
 use Rattle.dimacs_decide.specs.Distances.{AreDistancesFrom, claim_rows}

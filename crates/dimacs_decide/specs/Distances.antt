@@ -1,18 +1,13 @@
 -- Claimed distances from a source, and decisions about them.
 use Rattle.std.specs.Prelude.{ℕ, ◌≡◌, ◌≢◌, List, [], ◌∷◌, length, All, Option, Some, None, IsSome, ℤ, pos, ◌+ℤ◌, Result, Ok, Err}
-use Rattle.dimacs_network.specs.declared.network.ArcView.{ArcView}
-use Rattle.dimacs_network.specs.Arcs.{NetworkValue, arc_at}
+use Rattle.dimacs_network.specs.{declared.network.ArcView.{ArcView}, Arcs.{NetworkValue, arc_at}}
 use Rattle.dimacs_instance.specs.QueryTexts.{Sources}
 use Rattle.dimacs_lines.specs.Limits.{IsNode}
 use Rattle.dimacs_records.specs.declared.reasons.Reason.TheVariants.{NoTightArc, NotShortest}
 use Rattle.dimacs_claims.specs.Labels.{LabelsValue}
-use Rattle.dimacs_judging.specs.CertificateTests.{RelaxFails}
-use Rattle.dimacs_judging.specs.Answers.{distance_from}
-use Rattle.dimacs_judging.specs.PathsJudge.{PassesPaths}
-use Rattle.dimacs_judging.specs.Rows.{arc_row, node_row, one_test}
-use Rattle.dimacs_judging.specs.Tests.{Row, FirstAlone}
-use Rattle.dimacs_judging.specs.Walks.{IsDistance, IsWalk}
-use Rattle.dimacs_judging.specs.declared.verdict.Where.TheVariants.{Node}
+use Rattle.dimacs_judging.specs.{CertificateTests.{RelaxFails}, Answers.{distance_from}, PathsJudge.{PassesPaths}}
+use Rattle.dimacs_judging.specs.{Rows.{arc_row, node_row, one_test}, Tests.{Row, FirstAlone}}
+use Rattle.dimacs_judging.specs.{Walks.{IsDistance, IsWalk}, declared.verdict.Where.TheVariants.{Node}}
 use Rattle.dimacs_judging.specs.declared.verdict.JudgeError.{JudgeError}
 use Rattle.dimacs_judging.specs.declared.verdict.JudgeError.TheVariants.{Refused, Memory}
 

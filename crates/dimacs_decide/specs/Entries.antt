@@ -1,14 +1,9 @@
 -- Solutions with an entry for every arc.
 use Rattle.std.specs.Prelude.{ℕ, ◌≡◌, ◌+◌, ◌<◌, List, length, ℤ}
-use Rattle.dimacs_claims.specs.declared.solution.Entry.{Entry}
-use Rattle.dimacs_claims.specs.SolutionTexts.{SolutionValue}
-use Rattle.dimacs_network.specs.declared.network.ArcView.{ArcView}
-use Rattle.dimacs_instance.specs.MaxFlows.{MaxValue}
-use Rattle.dimacs_instance.specs.MinFlows.{MinValue}
-use Rattle.dimacs_judging.specs.Claims.{entry_at}
-use Rattle.dimacs_judging.specs.MaxJudge.{IsMaxClaim}
-use Rattle.dimacs_judging.specs.MinJudge.{IsMinClaim}
-use Rattle.dimacs_network.specs.Arcs.{arc_at}
+use Rattle.dimacs_claims.specs.{declared.solution.Entry.{Entry}, SolutionTexts.{SolutionValue}}
+use Rattle.dimacs_network.specs.{declared.network.ArcView.{ArcView}, Arcs.{arc_at}}
+use Rattle.dimacs_instance.specs.{MaxFlows.{MaxValue}, MinFlows.{MinValue}}
+use Rattle.dimacs_judging.specs.{Claims.{entry_at}, MaxJudge.{IsMaxClaim}, MinJudge.{IsMinClaim}}
 
 -- this is the arc's entry, on this line
 pub record IsEntryOf (a : ArcView) (on_line : ℕ) (e : Entry) : Type 0 where

@@ -1,7 +1,6 @@
 -- Decisions about an instance.
 use Rattle.dimacs_instance.specs.MinFlows.{MinValue}
-use Rattle.dimacs_judging.specs.Feasible.{FeasibleMin}
-use Rattle.dimacs_judging.specs.InfeasibleJudge.{ShowsNoFlow}
+use Rattle.dimacs_judging.specs.{Feasible.{FeasibleMin}, InfeasibleJudge.{ShowsNoFlow}}
 use Rattle.dimacs_decide.specs.declared.infeasible.Feasibility.{Feasibility}
 use Rattle.dimacs_decide.specs.declared.infeasible.Feasibility.TheVariants.{Feasible, Infeasible}
 

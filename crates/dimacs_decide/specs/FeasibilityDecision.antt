@@ -1,11 +1,8 @@
 -- Decisions about a flow that keeps the bounds.
 use Rattle.std.specs.Prelude.{ℕ, List, ℤ, pos, ◌-ℤ◌, ◌<ℤ◌}
 use Rattle.dimacs_instance.specs.MinFlows.{MinValue, positive_part, supply_of}
-use Rattle.dimacs_judging.specs.Feasible.{FeasibleMin}
-use Rattle.dimacs_judging.specs.Flows.{net, sum_nodes}
-use Rattle.dimacs_judging.specs.InfeasibleJudge.{ShowsNoFlow}
-use Rattle.dimacs_decide.specs.Bounds.{KeepsBounds}
-use Rattle.dimacs_decide.specs.declared.feasible.FeasibilityDecision.{FeasibilityDecision}
+use Rattle.dimacs_judging.specs.{Feasible.{FeasibleMin}, Flows.{net, sum_nodes}, InfeasibleJudge.{ShowsNoFlow}}
+use Rattle.dimacs_decide.specs.{Bounds.{KeepsBounds}, declared.feasible.FeasibilityDecision.{FeasibilityDecision}}
 use Rattle.dimacs_decide.specs.declared.feasible.FeasibilityDecision.TheVariants.{Balanced, Infeasible, LessExcess}
 
 -- the imbalance of a node: its supply less its balance; an excess if positive, a deficit if negative

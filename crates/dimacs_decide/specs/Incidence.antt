@@ -1,8 +1,7 @@
 -- Adjacency lists in both directions.
 use Rattle.std.specs.Prelude.{List}
-use Rattle.dimacs_network.specs.declared.network.ArcView.{ArcView}
+use Rattle.dimacs_network.specs.{declared.network.ArcView.{ArcView}, declared.adjacency_lists.Side.{Side}}
 use Rattle.dimacs_network.specs.declared.adjacency_lists.AdjacencyLists.{AdjacencyLists}
-use Rattle.dimacs_network.specs.declared.adjacency_lists.Side.{Side}
 use Rattle.dimacs_network.specs.declared.adjacency_lists.Side.TheVariants.{Tail, Head}
 use Rattle.dimacs_network.specs.AdjacencyLists.{AreAdjacencyLists}
 use Rattle.dimacs_decide.specs.declared.incidence.Incidence.{Incidence}

@@ -1,9 +1,7 @@
 -- Decisions about the value of a flow.
 use Rattle.std.specs.Prelude.{◌≡◌, List, ℤ, ◌<ℤ◌}
 use Rattle.dimacs_instance.specs.MaxFlows.{MaxValue}
-use Rattle.dimacs_judging.specs.Cuts.{CutTight, members}
-use Rattle.dimacs_judging.specs.Feasible.{FeasibleMax, value}
-use Rattle.dimacs_judging.specs.Optimum.{Maximum}
+use Rattle.dimacs_judging.specs.{Cuts.{CutTight, members}, Feasible.{FeasibleMax, value}, Optimum.{Maximum}}
 use Rattle.dimacs_decide.specs.declared.maximum.MaxDecision.{MaxDecision}
 use Rattle.dimacs_decide.specs.declared.maximum.MaxDecision.TheVariants.{Optimal, Better}
 

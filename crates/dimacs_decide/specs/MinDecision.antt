@@ -2,10 +2,7 @@
 use Rattle.std.specs.Prelude.{◌≡◌, List, ℤ, ◌<ℤ◌}
 use Rattle.dimacs_claims.specs.Potentials.{potential_of}
 use Rattle.dimacs_instance.specs.MinFlows.{MinValue}
-use Rattle.dimacs_judging.specs.Feasible.{FeasibleMin}
-use Rattle.dimacs_judging.specs.Flows.{cost}
-use Rattle.dimacs_judging.specs.Optimum.{Least}
-use Rattle.dimacs_judging.specs.Potentials.{Slack}
+use Rattle.dimacs_judging.specs.{Feasible.{FeasibleMin}, Flows.{cost}, Optimum.{Least}, Potentials.{Slack}}
 use Rattle.dimacs_decide.specs.declared.least.MinDecision.{MinDecision}
 use Rattle.dimacs_decide.specs.declared.least.MinDecision.TheVariants.{Optimal, Better}
 

@@ -1,10 +1,8 @@
 -- Predecessors of nodes, and where they lead.
 use Rattle.std.specs.Prelude.{ℕ, zero, suc, ◌≡◌, ◌≢◌, ◌<◌, List, get_or, Option, None, IsSome, ℤ}
 use Rattle.dimacs_records.specs.declared.reasons.Reason.TheVariants.{PredUnknown}
-use Rattle.dimacs_claims.specs.declared.block.Label.{Label}
-use Rattle.dimacs_claims.specs.Labels.{distance_in}
-use Rattle.dimacs_judging.specs.Rows.{node_row}
-use Rattle.dimacs_judging.specs.Tests.{Row}
+use Rattle.dimacs_claims.specs.{declared.block.Label.{Label}, Labels.{distance_in}}
+use Rattle.dimacs_judging.specs.{Rows.{node_row}, Tests.{Row}}
 
 -- the predecessor of node v is item v - 1; 0 past the end
 abbrev pub pred_by_node : List ℕ → ℕ → ℕ

@@ -1,10 +1,8 @@
 //! The claimed distances of a block, looked up in constant time.
 
-ghost use Rattle.std.specs.Prelude.{◌≡◌, ℕ, All, IfOk};
-ghost use Rattle.std.specs.Option.{ForSome};
+ghost use Rattle.std.specs.{Prelude.{◌≡◌, ℕ, All, IfOk}, Option.{ForSome}};
 ghost use Rattle.dimacs_records.specs.Ranges.{IsWide};
-ghost use Rattle.dimacs_claims.specs.Labels.{IsBlock, label};
-ghost use Rattle.dimacs_claims.specs.declared.block.Label.{Label};
+ghost use Rattle.dimacs_claims.specs.{Labels.{IsBlock, label}, declared.block.Label.{Label}};
 ghost use Rattle.dimacs_judging.specs.Distances.{Fits};
 ghost use Rattle.dimacs_network.specs.DenseTables.{value_at};
 

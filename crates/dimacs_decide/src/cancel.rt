@@ -3,8 +3,7 @@
 ghost use Rattle.std.specs.Prelude.{ℕ, ◌≡◌, ◌≤ℤ◌, ◌<ℤ◌, pos, All, length};
 ghost use Rattle.dimacs_instance.specs.MinFlows.{HasBounds};
 ghost use Rattle.dimacs_judging.specs.Flows.{cost, net};
-ghost use Rattle.dimacs_decide.specs.Bounds.{KeepsBounds};
-ghost use Rattle.dimacs_decide.specs.inside.Cancelling.{HasCapacityFor};
+ghost use Rattle.dimacs_decide.specs.{Bounds.{KeepsBounds}, inside.Cancelling.{HasCapacityFor}};
 ghost use Rattle.dimacs_decide.specs.inside.Cycles.{IsSaving};
 
 use crate::residual_capacity::{residual_capacity_from, send_from};

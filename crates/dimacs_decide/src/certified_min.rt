@@ -1,11 +1,8 @@
 //! Certifies that a claimed flow costs least.
 
 ghost use Rattle.std.specs.Prelude.{◌≡◌};
-ghost use Rattle.dimacs_claims.specs.SolutionReading.{IsPlaced};
-ghost use Rattle.dimacs_claims.specs.SolutionTexts.{SolutionValue, claimed};
-ghost use Rattle.dimacs_judging.specs.MinJudge.{min_claim_rows};
-ghost use Rattle.dimacs_judging.specs.Places.{ArePlaced};
-ghost use Rattle.dimacs_judging.specs.Tests.{Settles};
+ghost use Rattle.dimacs_claims.specs.{SolutionReading.{IsPlaced}, SolutionTexts.{SolutionValue, claimed}};
+ghost use Rattle.dimacs_judging.specs.{MinJudge.{min_claim_rows}, Places.{ArePlaced}, Tests.{Settles}};
 ghost use Rattle.dimacs_decide.specs.CertifiedMin.{CertifiesMin};
 
 use crate::least::{MinDecision, decide_min};

@@ -4,10 +4,8 @@ ghost use Rattle.std.specs.Prelude.{◌≡◌, ◌≤◌, ◌-◌, IsTrue, All, 
 ghost use Rattle.dimacs_lines.specs.Limits.{most_nodes};
 ghost use Rattle.dimacs_instance.specs.MinFlows.{HasBounds};
 ghost use Rattle.dimacs_network.specs.Tables.{value_of};
-ghost use Rattle.dimacs_decide.specs.Bounds.{KeepsBounds};
-ghost use Rattle.dimacs_decide.specs.inside.Cycles.{IsSaving, LeadsFrom, ending_of};
-ghost use Rattle.dimacs_decide.specs.inside.Heights.{AreHeights};
-ghost use Rattle.dimacs_decide.specs.inside.Traces.{IsCycle};
+ghost use Rattle.dimacs_decide.specs.{Bounds.{KeepsBounds}, inside.Cycles.{IsSaving, LeadsFrom, ending_of}};
+ghost use Rattle.dimacs_decide.specs.{inside.Heights.{AreHeights}, inside.Traces.{IsCycle}};
 
 use crate::heights::{HeightLabel, gain};
 use crate::residual_capacity::residual_capacity_from;

@@ -3,15 +3,11 @@
 ghost use Rattle.std.specs.Prelude.{◌≤◌, ◌+ℤ◌, ◌<ℤ◌, ◌↔◌, IsTrue, None};
 ghost use Rattle.dimacs_lines.specs.Limits.{most_nodes, IsNode};
 ghost use Rattle.dimacs_records.specs.Ranges.{IsWide};
-ghost use Rattle.dimacs_network.specs.AdjacencyLists.{AreAdjacencyLists};
+ghost use Rattle.dimacs_network.specs.{AdjacencyLists.{AreAdjacencyLists}, Tables.{value_of}};
 ghost use Rattle.dimacs_network.specs.declared.adjacency_lists.Side.TheVariants.{Tail};
-ghost use Rattle.dimacs_judging.specs.Tests.{TestsRow};
-ghost use Rattle.dimacs_judging.specs.inside.Tests.{NamesReason};
-ghost use Rattle.dimacs_judging.specs.CertificateTests.{RelaxFails};
-ghost use Rattle.dimacs_network.specs.Tables.{value_of};
+ghost use Rattle.dimacs_judging.specs.{Tests.{TestsRow}, inside.Tests.{NamesReason}, CertificateTests.{RelaxFails}};
 ghost use Rattle.dimacs_decide.specs.Distances.{DecidesDistances, claim_row, reach_row, source_row};
-ghost use Rattle.dimacs_decide.specs.inside.DistanceBlocks.{DecidesBlock};
-ghost use Rattle.dimacs_decide.specs.inside.TightTrees.{IsWholeTightTree};
+ghost use Rattle.dimacs_decide.specs.{inside.DistanceBlocks.{DecidesBlock}, inside.TightTrees.{IsWholeTightTree}};
 
 use crate::claim::DistanceClaim;
 use crate::tight_tree::{TightTree, tight_tree};

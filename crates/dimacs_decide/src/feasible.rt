@@ -4,10 +4,8 @@ ghost use Rattle.std.specs.Prelude.{◌≡◌, ◌≤◌, ◌+◌, ◌<ℤ◌, �
 ghost use Rattle.dimacs_lines.specs.Limits.{most_nodes, IsNode};
 ghost use Rattle.dimacs_judging.specs.Cuts.{members};
 ghost use Rattle.dimacs_network.specs.Tables.{value_of};
-ghost use Rattle.dimacs_decide.specs.Bounds.{KeepsBounds};
-ghost use Rattle.dimacs_decide.specs.FeasibilityDecision.{DecidesFeasible};
-ghost use Rattle.dimacs_decide.specs.Incidence.{IsIncidenceOf};
-ghost use Rattle.dimacs_decide.specs.inside.Imbalances.{AreImbalances, IsNodeTest};
+ghost use Rattle.dimacs_decide.specs.{Bounds.{KeepsBounds}, FeasibilityDecision.{DecidesFeasible}};
+ghost use Rattle.dimacs_decide.specs.{Incidence.{IsIncidenceOf}, inside.Imbalances.{AreImbalances, IsNodeTest}};
 
 use crate::imbalance::{ImbalanceSigns, imbalance_signs, imbalances};
 use crate::incidence::Incidence;

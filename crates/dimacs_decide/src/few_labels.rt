@@ -2,14 +2,12 @@
 
 ghost use Rattle.std.specs.Prelude.{◌≡◌, ◌≤◌, ℕ, IfOk, IfSome, IsTrue, is_some, length, true};
 ghost use Rattle.dimacs_lines.specs.Limits.{most_count};
-ghost use Rattle.dimacs_network.specs.AdjacencyLists.{AreAdjacencyLists};
+ghost use Rattle.dimacs_network.specs.{AdjacencyLists.{AreAdjacencyLists}, Tables.{value_of}};
 ghost use Rattle.dimacs_network.specs.declared.adjacency_lists.Side.TheVariants.{Tail};
 ghost use Rattle.dimacs_instance.specs.Graph.{IsGraph};
 ghost use Rattle.dimacs_claims.specs.Labels.{IsBlock, label};
 ghost use Rattle.dimacs_judging.specs.Tests.{Clear};
-ghost use Rattle.dimacs_network.specs.Tables.{value_of};
-ghost use Rattle.dimacs_decide.specs.Distances.{AreDistancesFrom, claim_row};
-ghost use Rattle.dimacs_decide.specs.inside.DistanceBlocks.{IsBlockFor};
+ghost use Rattle.dimacs_decide.specs.{Distances.{AreDistancesFrom, claim_row}, inside.DistanceBlocks.{IsBlockFor}};
 ghost use Rattle.dimacs_decide.specs.inside.FewLabels.{AreFree, AreLightest, ArcsHoldFrom, IsUnreached, arcs_followed};
 ghost use Rattle.dimacs_decide.specs.inside.TightTrees.{ReachesAll};
 

@@ -4,8 +4,7 @@ ghost use Rattle.std.specs.Prelude.{◌≢◌, ◌≤◌, ◌+◌, ◌^◌, ◌�
 ghost use Rattle.dimacs_lines.specs.Limits.{most_nodes};
 ghost use Rattle.dimacs_judging.specs.inside.Ranges.{IsOfSize};
 ghost use Rattle.dimacs_network.specs.Tables.{value_of};
-ghost use Rattle.dimacs_decide.specs.Bounds.{KeepsBounds};
-ghost use Rattle.dimacs_decide.specs.inside.Imbalances.{AreImbalances, AreSigns};
+ghost use Rattle.dimacs_decide.specs.{Bounds.{KeepsBounds}, inside.Imbalances.{AreImbalances, AreSigns}};
 
 use dimacs_instance::MinInstance;
 use dimacs_judging::{Balances, Flow};

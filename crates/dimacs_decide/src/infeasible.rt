@@ -2,8 +2,7 @@
 
 ghost use Rattle.std.specs.Prelude.{◌≡◌, ◌≤ℤ◌, map, IfOk, IsTrue};
 ghost use Rattle.dimacs_network.specs.declared.network.ArcView.{ArcView};
-ghost use Rattle.dimacs_decide.specs.Bounds.{KeepsBounds};
-ghost use Rattle.dimacs_decide.specs.Feasibility.{DecidesInfeasible};
+ghost use Rattle.dimacs_decide.specs.{Bounds.{KeepsBounds}, Feasibility.{DecidesInfeasible}};
 ghost use Rattle.dimacs_decide.specs.FeasibilityDecision as theory;
 
 use crate::bounds::keeps_bounds;

@@ -6,10 +6,8 @@ ghost use Rattle.dimacs_lines.specs.Limits.{most_nodes, IsNode};
 ghost use Rattle.dimacs_claims.specs.Potentials.{potential_of};
 ghost use Rattle.dimacs_records.specs.Ranges.{IsWide};
 ghost use Rattle.dimacs_judging.specs.Feasible.{FeasibleMin};
-ghost use Rattle.dimacs_network.specs.Tables.{value_of};
-ghost use Rattle.dimacs_network.specs.declared.adjacency_lists.Side.TheVariants.{Tail};
-ghost use Rattle.dimacs_decide.specs.MinDecision.{DecidesMin};
-ghost use Rattle.dimacs_decide.specs.inside.Cycles.{IsSaving};
+ghost use Rattle.dimacs_network.specs.{Tables.{value_of}, declared.adjacency_lists.Side.TheVariants.{Tail}};
+ghost use Rattle.dimacs_decide.specs.{MinDecision.{DecidesMin}, inside.Cycles.{IsSaving}};
 ghost use Rattle.dimacs_decide.specs.inside.Heights.{AreStartHeights, BelowBound, bound, height_of};
 
 use crate::cancel::cancel;

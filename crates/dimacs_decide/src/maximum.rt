@@ -3,11 +3,9 @@
 
 ghost use Rattle.std.specs.Prelude.{◌≢◌, ◌<◌, ◌↔◌, ℕ, List, ℤ, IfOk, IsTrue};
 ghost use Rattle.dimacs_lines.specs.Limits.{IsNode};
-ghost use Rattle.dimacs_network.specs.declared.network.ArcView.{ArcView};
+ghost use Rattle.dimacs_network.specs.{declared.network.ArcView.{ArcView}, Tables.{value_of}};
 ghost use Rattle.dimacs_judging.specs.Feasible.{FeasibleMax};
-ghost use Rattle.dimacs_network.specs.Tables.{value_of};
-ghost use Rattle.dimacs_decide.specs.MaxDecision.{DecidesMax};
-ghost use Rattle.dimacs_decide.specs.inside.Residual.{IsResidualSearch, rank_of};
+ghost use Rattle.dimacs_decide.specs.{MaxDecision.{DecidesMax}, inside.Residual.{IsResidualSearch, rank_of}};
 ghost use Rattle.dimacs_decide.specs.inside.Imbalances.{AreEnds};
 
 use crate::incidence::Incidence;

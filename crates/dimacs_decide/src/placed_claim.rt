@@ -1,7 +1,6 @@
 //! The distances that a block with few labels claims, looked up by a table that many blocks share.
 
-ghost use Rattle.std.specs.Prelude.{◌≡◌, ℕ, IfOk};
-ghost use Rattle.std.specs.Option.{ForSome};
+ghost use Rattle.std.specs.{Prelude.{◌≡◌, ℕ, IfOk}, Option.{ForSome}};
 ghost use Rattle.dimacs_records.specs.Ranges.{IsWide};
 ghost use Rattle.dimacs_claims.specs.Labels.{IsBlock, label};
 ghost use Rattle.dimacs_network.specs.Tables.{value_of};

@@ -4,10 +4,8 @@ ghost use Rattle.std.specs.Prelude.{◌≡◌, ℕ, All, IfOk, IfSome, IsSome, l
 ghost use Rattle.dimacs_lines.specs.Limits.{IsNode};
 ghost use Rattle.dimacs_records.specs.Ranges.{IsWide};
 ghost use Rattle.dimacs_network.specs.Arcs.{JoinsNodes};
-ghost use Rattle.dimacs_decide.specs.Distances.{AreDistancesFrom};
-ghost use Rattle.dimacs_decide.specs.inside.DistanceBlocks.{IsBlockOf};
-ghost use Rattle.dimacs_decide.specs.Predecessors.{pred_by_node};
-ghost use Rattle.dimacs_decide.specs.TightTails.{AreTightTails, IsRelaxedBy};
+ghost use Rattle.dimacs_decide.specs.{Distances.{AreDistancesFrom}, inside.DistanceBlocks.{IsBlockOf}};
+ghost use Rattle.dimacs_decide.specs.{Predecessors.{pred_by_node}, TightTails.{AreTightTails, IsRelaxedBy}};
 ghost use Rattle.dimacs_decide.specs.inside.TightTails.{IsArcTest, IsWeightTest};
 
 use crate::claim::DistanceClaim;

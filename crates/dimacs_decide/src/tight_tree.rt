@@ -3,13 +3,10 @@
 ghost use Rattle.std.specs.Prelude.{◌≡◌, ◌<◌, ◌≤◌, ◌+ℤ◌, ◌↔◌, ℕ, is_some, IsTrue, All, length, false, true, Some, IfOk, IfSome, OnOk, MatchOption, pos};
 ghost use Rattle.dimacs_lines.specs.Limits.{most_nodes, IsNode};
 ghost use Rattle.dimacs_records.specs.Ranges.{IsWide};
-ghost use Rattle.dimacs_network.specs.Arcs.{JoinsNodes, arc_at};
-ghost use Rattle.dimacs_network.specs.AdjacencyLists.{AreAdjacencyLists};
-ghost use Rattle.dimacs_network.specs.declared.adjacency_lists.Side.TheVariants.{Tail};
+ghost use Rattle.dimacs_network.specs.{Arcs.{JoinsNodes, arc_at}, AdjacencyLists.{AreAdjacencyLists}};
+ghost use Rattle.dimacs_network.specs.{declared.adjacency_lists.Side.TheVariants.{Tail}, Tables.{value_of}};
 ghost use Rattle.dimacs_claims.specs.Labels.{label};
-ghost use Rattle.dimacs_network.specs.Tables.{value_of};
-ghost use Rattle.dimacs_decide.specs.Distances.{IsTight};
-ghost use Rattle.dimacs_decide.specs.inside.FewLabels.{IsUnreached};
+ghost use Rattle.dimacs_decide.specs.{Distances.{IsTight}, inside.FewLabels.{IsUnreached}};
 ghost use Rattle.dimacs_decide.specs.inside.TightTrees.{IsFollowed, IsTightTree, IsWholeTightTree, TreeGrows, node_at};
 
 use crate::claim::DistanceClaim;

@@ -1,41 +1,30 @@
 -- The arcs of a text that is read into arrays.
 use Rattle.std.proofs.Common.{◌≡◌, ◌≤◌, ◌∙◌, ◌∷◌, ◌++◌, ℕ, List, [], Option, None, Some, Ok, Err, refl, ap, ap₂, sym, map, length, inl, inr, ℤ}
-use Rattle.std.specs.List.{All, cons_option, filter_map}
 use Rattle.std.proofs.lemmas.List.{append-nil, length-map, map-append}
 use Rattle.std.proofs.lemmas.List.Elements.{All-head, All-tail, filter_map-append}
-use Rattle.dimacs_records.specs.declared.records.Record.{Record}
-use Rattle.dimacs_records.specs.declared.faults.ReadError.{ReadError}
-use Rattle.dimacs_records.specs.declared.faults.ReadError.TheVariants as read_errors
-use Rattle.dimacs_records.specs.declared.kinds.TextKind.{TextKind}
-use Rattle.dimacs_records.specs.Faults.{Fault, Spell}
+use Rattle.std.specs.List.{All, cons_option, filter_map}
+use Rattle.dimacs_records.specs.{declared.records.Record.{Record}, declared.faults.ReadError.{ReadError}}
+use Rattle.dimacs_records.specs.{declared.kinds.TextKind.{TextKind}, Faults.{Fault, Spell}}
 use Rattle.dimacs_records.specs.Readings.{IsReadWhole, LineRecord, ReadsLines, RefusesLine, numbered, on_line, records_of}
 use Rattle.dimacs_records.specs.Texts.{AreFaultless, AreSpelled, Reads, SpellsValue}
-use Rattle.dimacs_records.proofs.ReadLaws.{reads_exactly, spelled_of_faultless, spells_one_value}
-use Rattle.dimacs_network.specs.declared.network.ArcView.{ArcView}
-use Rattle.dimacs_network.specs.Arcs.{NetworkValue}
-use Rattle.dimacs_instance.specs.Graph.{GivesGraph, HasWeightAlone, graph_arc}
-use Rattle.dimacs_instance.specs.MaxFlows.{HasCapacityAlone, MaxValue}
-use Rattle.dimacs_instance.specs.MaxTexts.{GivesMax, max_arc}
-use Rattle.dimacs_instance.specs.MinFlows.{MinValue}
-use Rattle.dimacs_instance.specs.MinTexts.{GivesMin, min_arc, min_node}
-use Rattle.dimacs_lines.specs.Lines.{lines}
-use Rattle.dimacs_lines.specs.Limits.{most_count}
 use Rattle.dimacs_records.specs.declared.kinds.TextKind.TheVariants.{Graph, Max, Min}
+use Rattle.dimacs_records.proofs.ReadLaws.{reads_exactly, spelled_of_faultless, spells_one_value}
+use Rattle.dimacs_network.specs.{declared.network.ArcView.{ArcView}, Arcs.{NetworkValue}}
+use Rattle.dimacs_instance.specs.{Graph.{GivesGraph, HasWeightAlone, graph_arc}, MaxFlows.{HasCapacityAlone, MaxValue}}
+use Rattle.dimacs_instance.specs.{MaxTexts.{GivesMax, max_arc}, MinFlows.{MinValue}}
+use Rattle.dimacs_instance.specs.{MinTexts.{GivesMin, min_arc, min_node}, declared.summaries.min.MinNodes.{MinNodes}}
 use Rattle.dimacs_instance.specs.declared.summaries.graph.GraphSummary.{GraphSummary}
 use Rattle.dimacs_instance.specs.declared.summaries.max.MaxSummary.{MaxSummary}
-use Rattle.dimacs_instance.specs.declared.summaries.min.MinNodes.{MinNodes}
 use Rattle.dimacs_instance.specs.Summaries.{HasNodes, SumsUpGraph, SumsUpMax}
-use Rattle.dimacs_instance.proofs.GraphLemmas.{graph_faultless, one_graph}
-use Rattle.dimacs_instance.proofs.MaxTextLemmas.{max_faultless, one_max}
+use Rattle.dimacs_lines.specs.{Lines.{lines}, Limits.{most_count}}
+use Rattle.dimacs_instance.proofs.{GraphLemmas.{graph_faultless, one_graph}, MaxTextLemmas.{max_faultless, one_max}}
 use Rattle.dimacs_instance.proofs.MinTextLemmas.{min_faultless, one_min}
-use Rattle.dimacs_fill.specs.GraphFilled.{ReadsGraphInto}
-use Rattle.dimacs_fill.specs.MaxFilled.{ReadsMaxInto}
-use Rattle.dimacs_fill.specs.MinFilled.{ReadsMinInto, supplies_of}
-use Rattle.dimacs_fill.specs.declared.arc_reading.ArcColumns.{ArcColumns}
-use Rattle.dimacs_fill.specs.inside.Arcs.{arc_in, arcs_in}
+use Rattle.dimacs_fill.specs.{GraphFilled.{ReadsGraphInto}, MaxFilled.{ReadsMaxInto}, inside.Arcs.{arc_in, arcs_in}}
+use Rattle.dimacs_fill.specs.{MinFilled.{ReadsMinInto, supplies_of}, declared.arc_reading.ArcColumns.{ArcColumns}}
 use Rattle.dimacs_fill.specs.Filling.{caps_of, costs_of, filled, heads_of, lows_of, tails_of}
 use Rattle.dimacs_fill.specs.inside.Columns.{AreLater, Hold, HoldArcs}
 use Rattle.dimacs_fill.proofs.ColumnLemmas.{filled_by}
+use Rattle.dimacs_records.specs.declared.faults.ReadError.TheVariants as read_errors
 
 -- ---- the arcs of records
 max_arcs : (arcs : List ArcView) → All HasCapacityAlone arcs → filter_map arc_in (map max_arc arcs) ≡ arcs

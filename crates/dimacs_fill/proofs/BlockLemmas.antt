@@ -1,19 +1,16 @@
 -- The items of a block, label by label.
 use Rattle.std.proofs.Common.{◌≡◌, ◌≢◌, inl, inr, ℕ, ℤ, pos, ◌+◌, ◌-◌, ◌<◌, ◌≤◌, ◌==◌, ◌⊎◌, ◌^◌, List, [], ◌∷◌, ◌++◌, All, length, get_or, map, take, drop, true, false, cond, is_some, Option, None, Some, refl, sym, ap, ◌∙◌, arith}
-use Rattle.std.specs.Prelude.{Contains, if◌then◌else◌, slice_set}
-use Rattle.std.specs.List.{range_with_len}
-use Rattle.std.proofs.lemmas.Bool.{cases_eq, cases_lt, ne_eqb}
-use Rattle.std.proofs.lemmas.Bool.Decides.{eqb_tells}
+use Rattle.std.proofs.{lemmas.Bool.{cases_eq, cases_lt, ne_eqb}, lemmas.Bool.Decides.{eqb_tells}}
 use Rattle.std.proofs.Math.ListN.{get_or-append}
 use Rattle.std.proofs.lemmas.List.{drop_more, ext_get_or, get_or-append_right, get_or-drop, get_or-set_other, get_or-set_same, get_or-take, length-append, length-drop, length-set, length-take, take-append-drop, take_all, take_more}
 use Rattle.std.proofs.lemmas.List.Elements.{All-contains_itself, All-get_or, All-head, All-tail, All-weaker}
 use Rattle.std.proofs.lemmas.List.FromFn.{get_or-map-range_with_len, length-map-range_with_len}
+use Rattle.std.specs.{Prelude.{Contains, if◌then◌else◌, slice_set}, List.{range_with_len}}
 use Rattle.dimacs_lines.specs.Limits.{IsNode}
 use Rattle.dimacs_claims.specs.declared.block.Label.{Label}
 use Rattle.dimacs_claims.specs.Labels.{BlockValue, IsBlock, IsFresh, IsLabel, label, no_label, with_label}
 use Rattle.dimacs_claims.proofs.BlockLemmas.{fresh_has_none, label-with_label}
-use Rattle.dimacs_fill.specs.BlockFilled.{distances_of, item_of, pred_in, preds_of}
-use Rattle.dimacs_fill.specs.Filling.{filled}
+use Rattle.dimacs_fill.specs.{BlockFilled.{distances_of, item_of, pred_in, preds_of}, Filling.{filled}}
 
 -- ---- the items of an array that was filled
 module _ {X : Type 0} (items old : List X) where

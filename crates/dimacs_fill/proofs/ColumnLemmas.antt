@@ -1,12 +1,10 @@
 -- Arrays that get item after item.
 use Rattle.std.proofs.Common.{◌≡◌, ◌∙◌, ◌++◌, ◌∷◌, ◌<◌, ◌≤◌, ◌-◌, inl, inr, ℕ, List, [], refl, ap, sym, length, take, drop, map, arith}
-use Rattle.std.specs.Prelude.{slice_set}
-use Rattle.std.specs.Borrow.{MutBor}
 use Rattle.std.proofs.lemmas.Bool.{cases_lt}
 use Rattle.std.proofs.lemmas.List.{drop-drop, drop-set-lt, length-append, length-map, length-set, map-append, set_past, take-append-drop, take-append-le, take_all, take_more_set}
+use Rattle.std.specs.{Prelude.{slice_set}, Borrow.{MutBor}}
 use Rattle.dimacs_network.specs.declared.network.ArcView.{ArcView}
-use Rattle.dimacs_fill.specs.declared.arc_reading.ArcColumns.{ArcColumns}
-use Rattle.dimacs_fill.specs.Filling.{filled}
+use Rattle.dimacs_fill.specs.{declared.arc_reading.ArcColumns.{ArcColumns}, Filling.{filled}}
 use Rattle.dimacs_fill.specs.inside.Columns.{AreLater, BeginsWith, KeepsFrom}
 
 module _ {X : Type 0} where

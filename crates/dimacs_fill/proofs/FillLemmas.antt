@@ -1,12 +1,8 @@
 -- An array is filled from its front.
 use Rattle.std.proofs.Common.{◌≡◌, ◌∙◌, ◌++◌, ◌<◌, ◌≤◌, ◌+◌, ◌⊎◌, inl, inr, ℕ, zero, suc, List, [], ◌∷◌, Some, refl, ap, sym, length, map, take, drop, slice_get, slice_set, add-one, min, Bool, true, false, arith}
-use Rattle.std.specs.Prelude.{nat_le}
-use Rattle.std.specs.Prelude.{unwrap_or}
-use Rattle.std.proofs.lemmas.List.{drop_all, length-map, take_all}
+use Rattle.std.proofs.{lemmas.List.{drop_all, length-map, take_all}, lemmas.Option.{slice_get-map, slice_get_read}}
 use Rattle.std.proofs.lemmas.List.FromFn.{get_or-map-range_with_len, length-map-range_with_len}
-use Rattle.std.proofs.lemmas.Option.{slice_get-map, slice_get_read}
-use Rattle.std.specs.List.{range_with_len}
-use Rattle.std.specs.Option.{option_map}
+use Rattle.std.specs.{Prelude.{nat_le, unwrap_or}, List.{range_with_len}, Option.{option_map}}
 use Rattle.dimacs_fill.specs.Filling.{AreItems}
 
 module _ {X : Type 0} where

@@ -1,9 +1,6 @@
 -- Sets of nodes in the arrays of a caller.
-use Rattle.std.specs.Prelude.{ℕ, List, map, Result, if◌then◌else◌}
-use Rattle.std.specs.FinSet.{contains}
-use Rattle.std.specs.List.{range_with_len}
-use Rattle.dimacs_records.specs.declared.faults.ReadError.{ReadError}
-use Rattle.dimacs_records.specs.declared.kinds.TextKind.TheVariants.{Cut}
+use Rattle.std.specs.{Prelude.{ℕ, List, map, Result, if◌then◌else◌}, FinSet.{contains}, List.{range_with_len}}
+use Rattle.dimacs_records.specs.{declared.faults.ReadError.{ReadError}, declared.kinds.TextKind.TheVariants.{Cut}}
 use Rattle.dimacs_claims.specs.Cuts.{CutValue, SpellsCut, empty_cut}
 use Rattle.dimacs_fill.specs.Filling.{Array, IsFilled, ReadsInto}
 

@@ -2,12 +2,9 @@
 use Rattle.std.specs.Prelude.{ℕ, ◌≡◌, ◌<◌, ◌++◌, List, length, take, drop, map, Some, slice_get, ℤ, IfErr, IfOk, Result, Ok, Err}
 use Rattle.dimacs_lines.specs.Lines.{lines}
 use Rattle.dimacs_network.specs.declared.network.ArcView.{ArcView}
-use Rattle.dimacs_records.specs.declared.faults.ReadError.{ReadError}
-use Rattle.dimacs_records.specs.declared.kinds.TextKind.{TextKind}
-use Rattle.dimacs_records.specs.Faults.{Fault}
-use Rattle.dimacs_records.specs.Texts.{Reads}
-use Rattle.dimacs_fill.specs.declared.error.FillError.{FillError}
-use Rattle.dimacs_fill.specs.declared.error.FillError.TheVariants.{Unread}
+use Rattle.dimacs_records.specs.{declared.faults.ReadError.{ReadError}, declared.kinds.TextKind.{TextKind}}
+use Rattle.dimacs_records.specs.{Faults.{Fault}, Texts.{Reads}}
+use Rattle.dimacs_fill.specs.{declared.error.FillError.{FillError}, declared.error.FillError.TheVariants.{Unread}}
 
 -- as many of the items as fit, then the rest of the array as it was
 abbrev pub filled : {X : Type 0} → List X → List X → List X

@@ -1,7 +1,6 @@
 -- Graphs in the arrays of a caller.
 use Rattle.std.specs.Prelude.{ℕ, ℤ, List, length, Result}
-use Rattle.dimacs_records.specs.declared.faults.ReadError.{ReadError}
-use Rattle.dimacs_records.specs.declared.kinds.TextKind.TheVariants.{Graph}
+use Rattle.dimacs_records.specs.{declared.faults.ReadError.{ReadError}, declared.kinds.TextKind.TheVariants.{Graph}}
 use Rattle.dimacs_network.specs.Arcs.{NetworkValue}
 use Rattle.dimacs_instance.specs.Graph.{SpellsGraph}
 use Rattle.dimacs_fill.specs.declared.graph.GraphSizes.{GraphSizes}

@@ -1,9 +1,7 @@
 -- Maximum flow instances in the arrays of a caller.
 use Rattle.std.specs.Prelude.{ℕ, ℤ, List, length, Result}
-use Rattle.dimacs_records.specs.declared.faults.ReadError.{ReadError}
-use Rattle.dimacs_records.specs.declared.kinds.TextKind.TheVariants.{Max}
-use Rattle.dimacs_instance.specs.MaxFlows.{MaxValue}
-use Rattle.dimacs_instance.specs.MaxTexts.{SpellsMax}
+use Rattle.dimacs_records.specs.{declared.faults.ReadError.{ReadError}, declared.kinds.TextKind.TheVariants.{Max}}
+use Rattle.dimacs_instance.specs.{MaxFlows.{MaxValue}, MaxTexts.{SpellsMax}}
 use Rattle.dimacs_fill.specs.declared.max.MaxSizes.{MaxSizes}
 use Rattle.dimacs_fill.specs.Filling.{Array, IsFilled, ReadsArcsInto, tails_of, heads_of, caps_of}
 

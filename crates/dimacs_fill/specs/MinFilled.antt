@@ -1,10 +1,7 @@
 -- Minimum cost flow instances in the arrays of a caller.
-use Rattle.std.specs.Prelude.{ℕ, ℤ, List, length, map, Result}
-use Rattle.std.specs.List.{range_with_len}
-use Rattle.dimacs_records.specs.declared.faults.ReadError.{ReadError}
-use Rattle.dimacs_records.specs.declared.kinds.TextKind.TheVariants.{Min}
-use Rattle.dimacs_instance.specs.MinFlows.{MinValue, supply_of}
-use Rattle.dimacs_instance.specs.MinTexts.{SpellsMin}
+use Rattle.std.specs.{Prelude.{ℕ, ℤ, List, length, map, Result}, List.{range_with_len}}
+use Rattle.dimacs_records.specs.{declared.faults.ReadError.{ReadError}, declared.kinds.TextKind.TheVariants.{Min}}
+use Rattle.dimacs_instance.specs.{MinFlows.{MinValue, supply_of}, MinTexts.{SpellsMin}}
 use Rattle.dimacs_fill.specs.declared.min.MinSizes.{MinSizes}
 use Rattle.dimacs_fill.specs.Filling.{Array, IsFilled, ReadsArcsInto, tails_of, heads_of, lows_of, caps_of, costs_of}
 

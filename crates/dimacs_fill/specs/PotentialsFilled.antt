@@ -1,14 +1,11 @@
 -- Potentials in the arrays of a caller.
-use Rattle.std.specs.Prelude.{ℕ, ℤ, ◌≡◌, ◌<◌, List, map, Result, Ok, Err}
-use Rattle.std.specs.List.{range_with_len}
+use Rattle.std.specs.{Prelude.{ℕ, ℤ, ◌≡◌, ◌<◌, List, map, Result, Ok, Err}, List.{range_with_len}}
 use Rattle.dimacs_lines.specs.Limits.{IsNode}
-use Rattle.dimacs_records.specs.declared.kinds.TextKind.TheVariants as kinds
-use Rattle.dimacs_records.specs.declared.reasons.Reason.TheVariants.{NumberRange}
-use Rattle.dimacs_records.specs.Ranges.{IsWhole}
+use Rattle.dimacs_records.specs.{declared.reasons.Reason.TheVariants.{NumberRange}, Ranges.{IsWhole}}
 use Rattle.dimacs_claims.specs.Potentials.{PotentialsValue, SpellsPotentials, potential_of}
-use Rattle.dimacs_fill.specs.declared.error.FillError.{FillError}
-use Rattle.dimacs_fill.specs.declared.error.FillError.TheVariants.{Unread, Node}
+use Rattle.dimacs_fill.specs.{declared.error.FillError.{FillError}, declared.error.FillError.TheVariants.{Unread, Node}}
 use Rattle.dimacs_fill.specs.Filling.{Array, IsFilled, IsKept, ReadsFitting}
+use Rattle.dimacs_records.specs.declared.kinds.TextKind.TheVariants as kinds
 
 -- the potential of each node, by ID
 abbrev pub numbers_of : PotentialsValue → List ℤ

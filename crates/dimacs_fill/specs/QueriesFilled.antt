@@ -1,10 +1,9 @@
 -- Queries in the arrays of a caller.
 use Rattle.std.specs.Prelude.{ℕ, true, false, List, [], length, map, Result}
 use Rattle.dimacs_records.specs.declared.faults.ReadError.{ReadError}
-use Rattle.dimacs_records.specs.declared.kinds.TextKind.TheVariants as kinds
 use Rattle.dimacs_instance.specs.QueryTexts.{QueriesValue, Sources, Pairs, SpellsQueries}
-use Rattle.dimacs_fill.specs.declared.queries.QuerySizes.{QuerySizes}
-use Rattle.dimacs_fill.specs.Filling.{Array, IsFilled, ReadsInto}
+use Rattle.dimacs_fill.specs.{declared.queries.QuerySizes.{QuerySizes}, Filling.{Array, IsFilled, ReadsInto}}
+use Rattle.dimacs_records.specs.declared.kinds.TextKind.TheVariants as kinds
 
 abbrev pub query_sizes : QueriesValue → QuerySizes
 query_sizes (Sources ids) = record { pairs = false; count = length ids }

@@ -2,10 +2,8 @@
 
 ghost use Rattle.std.specs.Prelude.{◌≡◌, ◌∷◌, ◌++◌, [], ℕ, List, slice_set};
 ghost use Rattle.dimacs_network.specs.declared.network.ArcView.{ArcView};
-ghost use Rattle.dimacs_records.specs.Readings.{records_of};
-ghost use Rattle.dimacs_records.specs.Takings.{StandsFor};
-ghost use Rattle.dimacs_fill.specs.inside.Arcs.{arcs_in, arc_in};
-ghost use Rattle.dimacs_fill.specs.inside.Columns.{AreLater, HoldArcs, columns, names};
+ghost use Rattle.dimacs_records.specs.{Readings.{records_of}, Takings.{StandsFor}};
+ghost use Rattle.dimacs_fill.specs.{inside.Arcs.{arcs_in, arc_in}, inside.Columns.{AreLater, HoldArcs, columns, names}};
 
 use dimacs_network::ArcView;
 use dimacs_records::{Builder, CountedReading, Reading, Record, TakeError};

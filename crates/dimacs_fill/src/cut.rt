@@ -2,8 +2,7 @@
 
 ghost use Rattle.std.specs.Prelude.{◌≡◌, ◌+◌, ◌<◌, ◌^◌, ℕ, List, Some};
 ghost use Rattle.dimacs_records.specs.Readings.{CountsRead};
-ghost use Rattle.dimacs_fill.specs.CutFilled.{ReadsCutInto, byte_of, inside_of};
-ghost use Rattle.dimacs_fill.specs.Filling.{filled};
+ghost use Rattle.dimacs_fill.specs.{CutFilled.{ReadsCutInto, byte_of, inside_of}, Filling.{filled}};
 
 use crate::filling::fill;
 use dimacs_claims::{Cut, read_cut};

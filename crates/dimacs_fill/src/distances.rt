@@ -1,8 +1,7 @@
 //! Reading distances into arrays.
 
 ghost use Rattle.std.specs.Prelude.{◌≡◌, ℕ, List, Some, IfErr};
-ghost use Rattle.dimacs_fill.specs.BlockFilled.{FillsDistances, ReadsDistancesInto};
-ghost use Rattle.dimacs_fill.specs.Filling.{IsKept};
+ghost use Rattle.dimacs_fill.specs.{BlockFilled.{FillsDistances, ReadsDistancesInto}, Filling.{IsKept}};
 
 use crate::block::{fill_distances, fitting_block};
 use crate::error::FillError;

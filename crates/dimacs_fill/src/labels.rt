@@ -1,8 +1,7 @@
 //! Reading labels into arrays.
 
 ghost use Rattle.std.specs.Prelude.{◌≡◌, ℕ, List, Some, IfErr};
-ghost use Rattle.dimacs_fill.specs.BlockFilled.{FillsLabels, ReadsLabelsInto};
-ghost use Rattle.dimacs_fill.specs.Filling.{IsKept};
+ghost use Rattle.dimacs_fill.specs.{BlockFilled.{FillsLabels, ReadsLabelsInto}, Filling.{IsKept}};
 
 use crate::block::{fill_distances, fill_predecessors, fitting_block, radius_item};
 use crate::error::FillError;

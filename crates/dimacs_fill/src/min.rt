@@ -1,12 +1,10 @@
 //! Reading minimum cost flow instances into arrays.
 
-ghost use Rattle.std.specs.Prelude.{ℕ, ◌≡◌, ◌+◌, ◌<◌, List, Some, map};
-ghost use Rattle.std.specs.List.{range_with_len};
+ghost use Rattle.std.specs.{Prelude.{ℕ, ◌≡◌, ◌+◌, ◌<◌, List, Some, map}, List.{range_with_len}};
 ghost use Rattle.dimacs_lines.specs.Limits.{most_nodes};
 ghost use Rattle.dimacs_instance.specs.MinFlows.{supply_of};
 ghost use Rattle.dimacs_records.specs.Readings.{CountsRead};
-ghost use Rattle.dimacs_fill.specs.Filling.{filled};
-ghost use Rattle.dimacs_fill.specs.MinFilled.{ReadsMinInto};
+ghost use Rattle.dimacs_fill.specs.{Filling.{filled}, MinFilled.{ReadsMinInto}};
 
 use crate::arc_reading::ArcReading;
 use crate::filling::fill;

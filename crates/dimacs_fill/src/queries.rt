@@ -3,8 +3,7 @@
 ghost use Rattle.std.specs.Prelude.{◌≡◌, ◌<◌, ℕ, List, Some, length, map, option_map, slice_get};
 ghost use Rattle.dimacs_instance.specs.QueryTexts.{asked};
 ghost use Rattle.dimacs_records.specs.Readings.{CountsRead};
-ghost use Rattle.dimacs_fill.specs.Filling.{filled};
-ghost use Rattle.dimacs_fill.specs.QueriesFilled.{HoldQueries, ReadsQueriesInto, query_sizes};
+ghost use Rattle.dimacs_fill.specs.{Filling.{filled}, QueriesFilled.{HoldQueries, ReadsQueriesInto, query_sizes}};
 
 use crate::filling::fill;
 use dimacs_instance::{Queries, read_queries};

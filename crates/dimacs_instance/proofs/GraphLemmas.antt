@@ -1,28 +1,17 @@
 -- One more record of a graph while its text is read.
 use Rattle.std.proofs.Common.{◌≡◌, ℕ, suc, ◌<◌, ◌≤◌, ◌∷◌, ◌++◌, [], List, false, Some, length, map, refl, ap, ap₂, sym, ◌∙◌, arith}
-use Rattle.std.specs.Prelude.{ℤ, pos, codes, nat_lt, nat_le}
-use Rattle.std.specs.List.{All}
-use Rattle.std.proofs.lemmas.Bool.{le-ltb}
-use Rattle.std.proofs.lemmas.Int.{ints}
-use Rattle.std.proofs.lemmas.List.{length-append, length-map}
-use Rattle.std.proofs.lemmas.List.Elements.{All-cons, All-head, All-map, All-tail}
-use Rattle.std.proofs.lemmas.Bool.Decides.{nat_tests}
+use Rattle.std.proofs.{lemmas.Bool.{le-ltb}, lemmas.Int.{ints}, lemmas.List.{length-append, length-map}}
+use Rattle.std.proofs.{lemmas.List.Elements.{All-cons, All-head, All-map, All-tail}, lemmas.Bool.Decides.{nat_tests}}
+use Rattle.std.specs.{Prelude.{ℤ, pos, codes, nat_lt, nat_le}, List.{All}}
 use Rattle.dimacs_lines.specs.Limits.{most_nodes}
-use Rattle.dimacs_records.specs.declared.kinds.TextKind.TheVariants.{Graph}
-use Rattle.dimacs_records.specs.declared.records.Record.{Record}
-use Rattle.dimacs_records.specs.declared.records.Record.TheVariants.{GraphProblem, GraphArc}
-use Rattle.dimacs_records.specs.Earlier.{counted_in}
-use Rattle.dimacs_records.specs.Spelling.{kind_of}
-use Rattle.dimacs_records.specs.Tests.{plain_context_after, plain_context_of, context_after}
-use Rattle.dimacs_records.specs.Readings.{IsAllowed, IsComplete, LineRecord, records_of}
-use Rattle.dimacs_records.proofs.ConditionLemmas.{is_allowed, is_complete}
-use Rattle.dimacs_network.specs.declared.network.ArcView.{ArcView}
-use Rattle.dimacs_network.specs.KeptArcs.{weight_arc}
-use Rattle.dimacs_records.specs.Forms.{form, Word, Nodes, Count, Id, Whole}
-use Rattle.dimacs_records.specs.Canonical.{CanBeSpelled}
-use Rattle.dimacs_records.specs.Texts.{AreFaultless}
-use Rattle.dimacs_records.proofs.SplitLemmas.{image_at, All-at}
+use Rattle.dimacs_records.specs.{declared.kinds.TextKind.TheVariants.{Graph}, declared.records.Record.{Record}}
+use Rattle.dimacs_records.specs.{declared.records.Record.TheVariants.{GraphProblem, GraphArc}, Earlier.{counted_in}}
+use Rattle.dimacs_records.specs.{Spelling.{kind_of}, Tests.{plain_context_after, plain_context_of, context_after}}
+use Rattle.dimacs_records.specs.{Readings.{IsAllowed, IsComplete, LineRecord, records_of}, Canonical.{CanBeSpelled}}
+use Rattle.dimacs_records.specs.{Forms.{form, Word, Nodes, Count, Id, Whole}, Texts.{AreFaultless}}
+use Rattle.dimacs_records.proofs.{ConditionLemmas.{is_allowed, is_complete}, SplitLemmas.{image_at, All-at}}
 use Rattle.dimacs_records.proofs.CanonicalLaws.{canonical_spelled, numbered_all}
+use Rattle.dimacs_network.specs.{declared.network.ArcView.{ArcView}, KeptArcs.{weight_arc}}
 use Rattle.dimacs_network.specs.Arcs.{JoinsNodes, NetworkValue}
 use Rattle.dimacs_instance.specs.Graph.{IsGraph, HasWeightAlone, GivesGraph, SpellsGraph, canonical_graph, graph_records, graph_arc}
 use Rattle.dimacs_instance.specs.GraphReading.{GraphBegun, graph_begun_records, plain_context}

@@ -1,29 +1,17 @@
 -- The records of maximum flow instances, with the arcs only counted.
 use Rattle.std.proofs.Common.{◌≡◌, ℕ, ◌+◌, ◌<◌, ◌≤◌, ◌∷◌, ◌++◌, [], List, length, map, refl, ap, sym, ◌∙◌, arith, inl, inr, append_assoc, append-nil}
-use Rattle.std.specs.Prelude.{ℤ, pos, ◌≤ℤ◌}
-use Rattle.std.proofs.lemmas.Bool.Decides.{nat_tests}
-use Rattle.std.proofs.lemmas.Int.{ints}
+use Rattle.std.proofs.{lemmas.Bool.Decides.{nat_tests}, lemmas.Int.{ints}, lemmas.List.Elements.{All-nil, All-push}}
 use Rattle.std.proofs.lemmas.List.{length-append, map-append, nil_from_length}
-use Rattle.std.proofs.lemmas.List.Elements.{All-nil, All-push}
+use Rattle.std.specs.Prelude.{ℤ, pos, ◌≤ℤ◌}
 use Rattle.dimacs_lines.specs.Limits.{most_count, most_nodes}
-use Rattle.dimacs_records.specs.declared.kinds.TextKind.TheVariants.{Max}
-use Rattle.dimacs_records.specs.declared.records.End.{End}
-use Rattle.dimacs_records.specs.declared.records.Record.{Record}
-use Rattle.dimacs_records.specs.declared.records.Record.TheVariants.{MaxArc, MaxNode, MaxProblem}
-use Rattle.dimacs_records.specs.Ranges.{IsWhole}
-use Rattle.dimacs_records.specs.Readings.{LineRecord, records_of}
-use Rattle.dimacs_records.specs.Spelling.{kind_of}
+use Rattle.dimacs_records.specs.{declared.kinds.TextKind.TheVariants.{Max}, declared.records.End.{End}}
+use Rattle.dimacs_records.specs.{declared.records.Record.{Record}, Ranges.{IsWhole}, Readings.{LineRecord, records_of}}
+use Rattle.dimacs_records.specs.{declared.records.Record.TheVariants.{MaxArc, MaxNode, MaxProblem}, Spelling.{kind_of}}
 use Rattle.dimacs_records.specs.Tests.{Passes, PassesEnd, end_context_of, context_after}
-use Rattle.dimacs_network.specs.declared.network.ArcView.{ArcView}
-use Rattle.dimacs_network.specs.Arcs.{JoinsNodes}
-use Rattle.dimacs_network.specs.KeptArcs.{capacity_arc}
-use Rattle.dimacs_instance.specs.MaxFlows.{HasCapacityAlone, MaxValue}
-use Rattle.dimacs_instance.specs.MaxTexts.{GivesMax, max_arc}
-use Rattle.dimacs_instance.specs.MaxReading.{MaxBegun, MaxCount, context, end_context, count_of, end_records, max_begun_records}
-use Rattle.dimacs_instance.specs.MaxReading.{AreNodes, EndsAreDistinct, IsMaxBegun, IsMaxCountedBy}
-use Rattle.dimacs_instance.specs.inside.MaxReading.{AreEnds}
-use Rattle.dimacs_instance.specs.Summaries.{SumsUpMax}
-use Rattle.dimacs_instance.specs.Summaries.{GivesSummary}
+use Rattle.dimacs_network.specs.{declared.network.ArcView.{ArcView}, Arcs.{JoinsNodes}, KeptArcs.{capacity_arc}}
+use Rattle.dimacs_instance.specs.{MaxFlows.{HasCapacityAlone, MaxValue}, MaxTexts.{GivesMax, max_arc}}
+use Rattle.dimacs_instance.specs.MaxReading.{MaxBegun, MaxCount, context, end_context, count_of, end_records, max_begun_records, AreNodes, EndsAreDistinct, IsMaxBegun, IsMaxCountedBy}
+use Rattle.dimacs_instance.specs.{inside.MaxReading.{AreEnds}, Summaries.{SumsUpMax, GivesSummary}}
 use Rattle.dimacs_instance.specs.declared.max.EndLines.{EndLines}
 use Rattle.dimacs_instance.specs.declared.max.EndLines.TheVariants.{Neither, One, Both}
 use Rattle.dimacs_instance.proofs.MaxLemmas.{end_context_by_records, context_by_records}

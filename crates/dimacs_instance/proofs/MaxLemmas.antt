@@ -1,29 +1,19 @@
 -- One more record of a maximum flow instance while its text is read.
 use Rattle.std.proofs.Common.{◌≡◌, ℕ, suc, ◌<◌, ◌≤◌, ◌∷◌, ◌++◌, [], List, Bool, false, length, map, refl, ap, ap₂, sym, ◌∙◌, arith}
-use Rattle.std.specs.Prelude.{ℤ, pos, ◌||◌, nat_lt, nat_le, int_lt}
-use Rattle.std.specs.List.{list_any, filter}
-use Rattle.std.proofs.Math.Bool.{or-false}
-use Rattle.std.proofs.lemmas.Bool.{lt-ltb, le-ltb}
-use Rattle.std.proofs.lemmas.Bool.Decides.{nat_tests}
-use Rattle.std.proofs.lemmas.List.Folds.{list_any-append}
-use Rattle.std.proofs.lemmas.List.Sums.{length-filter}
-use Rattle.dimacs_records.specs.declared.kinds.TextKind.TheVariants.{Max}
-use Rattle.dimacs_records.specs.declared.order.Context.{Context}
-use Rattle.dimacs_records.specs.declared.records.End.{End}
-use Rattle.dimacs_records.specs.declared.records.End.TheVariants.{Source, Sink}
-use Rattle.dimacs_records.specs.declared.records.Record.{Record}
+use Rattle.std.proofs.{Math.Bool.{or-false}, lemmas.Bool.{lt-ltb, le-ltb}, lemmas.Bool.Decides.{nat_tests}}
+use Rattle.std.proofs.{lemmas.List.Folds.{list_any-append}, lemmas.List.Sums.{length-filter}}
+use Rattle.std.specs.{Prelude.{ℤ, pos, ◌||◌, nat_lt, nat_le, int_lt}, List.{list_any, filter}}
+use Rattle.dimacs_records.specs.{declared.kinds.TextKind.TheVariants.{Max}, declared.order.Context.{Context}}
+use Rattle.dimacs_records.specs.{declared.records.End.{End}, declared.records.End.TheVariants.{Source, Sink}}
+use Rattle.dimacs_records.specs.{declared.records.Record.{Record}, Conditions.{lacks_end}, Spelling.{kind_of}}
 use Rattle.dimacs_records.specs.declared.records.Record.TheVariants.{MaxProblem, MaxNode, MaxArc}
 use Rattle.dimacs_records.specs.Earlier.{counted_in, is_counted, names, is_end_node, is_flow_arc, is_max_node}
-use Rattle.dimacs_records.specs.Conditions.{lacks_end}
 use Rattle.dimacs_records.specs.Readings.{IsAllowed, IsComplete}
 use Rattle.dimacs_records.specs.Tests.{plain_context_after, plain_context_of, end_context_of, context_after}
 use Rattle.dimacs_records.proofs.ConditionLemmas.{is_allowed, is_complete}
-use Rattle.dimacs_records.specs.Spelling.{kind_of}
 use Rattle.dimacs_network.specs.declared.network.ArcView.{ArcView}
-use Rattle.dimacs_instance.specs.declared.max.EndLine.{EndLine}
-use Rattle.dimacs_instance.specs.declared.max.EndLines.{EndLines}
+use Rattle.dimacs_instance.specs.{declared.max.EndLine.{EndLine}, declared.max.EndLines.{EndLines}, MaxTexts.{max_arc}}
 use Rattle.dimacs_instance.specs.declared.max.EndLines.TheVariants.{Neither, One, Both}
-use Rattle.dimacs_instance.specs.MaxTexts.{max_arc}
 use Rattle.dimacs_instance.specs.MaxReading.{MaxBegun, end_records, max_begun_records, max_node, plain_context, context, end_context, count_of}
 
 none_of_arcs : (test : Record → Bool) → ((a : ArcView) → test (max_arc a) ≡ false) → (arcs : List ArcView) → list_any test (map max_arc arcs) ≡ false

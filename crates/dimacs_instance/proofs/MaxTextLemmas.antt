@@ -1,34 +1,22 @@
 -- The records of maximum flow instances, and their texts.
 use Rattle.std.proofs.Common.{◌≡◌, ◌≢◌, ℕ, ◌<◌, ◌∷◌, ◌++◌, [], List, Bool, true, false, Some, length, map, refl, ap, ap₂, sym, ◌∙◌, arith, inl, inr, length-append}
-use Rattle.std.specs.Prelude.{ℤ, pos, ◌≤ℤ◌, codes, int_lt, nat_lt, if◌then◌else◌}
-use Rattle.std.specs.List.{All, list_any}
-use Rattle.std.proofs.lemmas.Bool.{ne_eqb}
-use Rattle.std.proofs.lemmas.Int.{ints}
-use Rattle.std.proofs.lemmas.List.{length-map}
+use Rattle.std.proofs.{lemmas.Bool.{ne_eqb}, lemmas.Int.{ints}, lemmas.List.{length-map}}
 use Rattle.std.proofs.lemmas.List.Elements.{All-cons, All-head, All-map, All-tail}
-use Rattle.dimacs_lines.specs.Lines.{lines}
-use Rattle.dimacs_records.specs.declared.kinds.TextKind.TheVariants.{Max}
-use Rattle.dimacs_records.specs.declared.records.End.{End}
-use Rattle.dimacs_records.specs.declared.records.End.TheVariants.{Source, Sink}
-use Rattle.dimacs_records.specs.declared.records.Record.{Record}
+use Rattle.std.specs.{Prelude.{ℤ, pos, ◌≤ℤ◌, codes, int_lt, nat_lt, if◌then◌else◌}, List.{All, list_any}}
+use Rattle.dimacs_lines.specs.{Lines.{lines}, Limits.{IsNode}}
+use Rattle.dimacs_records.specs.{declared.kinds.TextKind.TheVariants.{Max}, declared.records.End.{End}}
+use Rattle.dimacs_records.specs.{declared.records.End.TheVariants.{Source, Sink}, declared.records.Record.{Record}}
 use Rattle.dimacs_records.specs.declared.records.Record.TheVariants.{MaxProblem, MaxNode, MaxArc}
-use Rattle.dimacs_records.specs.Earlier.{names, is_end_node}
-use Rattle.dimacs_records.specs.Forms.{form, Word, Either, Nodes, Count, Id, Whole}
-use Rattle.dimacs_records.specs.Canonical.{CanBeSpelled, canonical_text}
-use Rattle.dimacs_records.specs.Readings.{LineRecord, records_of, IsAllowed}
+use Rattle.dimacs_records.specs.{Earlier.{names, is_end_node}, Forms.{form, Word, Either, Nodes, Count, Id, Whole}}
+use Rattle.dimacs_records.specs.{Canonical.{CanBeSpelled, canonical_text}, Readings.{LineRecord, records_of, IsAllowed}}
 use Rattle.dimacs_records.specs.Texts.{AreSpelled, AreFaultless}
 use Rattle.dimacs_records.proofs.SplitLemmas.{ImageAt, image_at, All-at}
 use Rattle.dimacs_records.proofs.CanonicalLaws.{canonical_spelled, numbered_all}
-use Rattle.dimacs_network.specs.declared.network.ArcView.{ArcView}
-use Rattle.dimacs_instance.specs.declared.max.EndLine.{EndLine}
+use Rattle.dimacs_network.specs.{declared.network.ArcView.{ArcView}, Arcs.{JoinsNodes}, KeptArcs.{capacity_arc}}
+use Rattle.dimacs_instance.specs.{declared.max.EndLine.{EndLine}, MaxFlows.{MaxValue, IsMax, HasCapacityAlone}}
 use Rattle.dimacs_instance.specs.declared.max.EndLines.TheVariants.{Neither, One, Both}
-use Rattle.dimacs_network.specs.Arcs.{JoinsNodes}
-use Rattle.dimacs_instance.specs.MaxFlows.{MaxValue, IsMax, HasCapacityAlone}
-use Rattle.dimacs_lines.specs.Limits.{IsNode}
-use Rattle.dimacs_network.specs.KeptArcs.{capacity_arc}
 use Rattle.dimacs_instance.specs.MaxTexts.{max_arc, max_records, canonical_max, GivesMax, SpellsMax}
-use Rattle.dimacs_instance.specs.MaxReading.{MaxBegun, max_node, max_begun_records}
-use Rattle.dimacs_instance.specs.MaxReading.{IsMaxBegun}
+use Rattle.dimacs_instance.specs.MaxReading.{MaxBegun, max_node, max_begun_records, IsMaxBegun}
 use Rattle.dimacs_instance.proofs.MaxLemmas.{first_problem, one_more_node, one_more_arc, all_arcs, lacking}
 
 -- the state after all lines of an instance, with the node lines in this order

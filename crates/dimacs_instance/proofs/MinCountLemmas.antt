@@ -1,26 +1,16 @@
 -- The records of minimum cost flow instances, with the arcs only counted.
 use Rattle.std.proofs.Common.{◌≡◌, ℕ, ◌+◌, ◌≤◌, ◌∷◌, ◌++◌, [], List, map, refl, ap, sym, ◌∙◌, arith, append_assoc}
-use Rattle.std.specs.Prelude.{ℤ}
-use Rattle.std.specs.FinMap.{empty, insert}
-use Rattle.std.proofs.lemmas.Bool.Decides.{nat_tests}
-use Rattle.std.proofs.lemmas.List.{length-append, map-append}
+use Rattle.std.proofs.{lemmas.Bool.Decides.{nat_tests}, lemmas.List.{length-append, map-append}}
+use Rattle.std.specs.{Prelude.{ℤ}, FinMap.{empty, insert}}
 use Rattle.dimacs_lines.specs.Limits.{most_count, most_nodes, IsNode}
-use Rattle.dimacs_records.specs.declared.kinds.TextKind.TheVariants.{Min}
-use Rattle.dimacs_records.specs.declared.records.Record.{Record}
-use Rattle.dimacs_records.specs.declared.records.Record.TheVariants.{MinNode, MinProblem}
-use Rattle.dimacs_records.specs.NodeValues.{without_zeros}
-use Rattle.dimacs_records.specs.Ranges.{IsWhole}
-use Rattle.dimacs_records.specs.Readings.{LineRecord, records_of}
-use Rattle.dimacs_records.specs.Spelling.{kind_of}
+use Rattle.dimacs_records.specs.{declared.kinds.TextKind.TheVariants.{Min}, declared.records.Record.{Record}}
+use Rattle.dimacs_records.specs.{declared.records.Record.TheVariants.{MinNode, MinProblem}, NodeValues.{without_zeros}}
+use Rattle.dimacs_records.specs.{Ranges.{IsWhole}, Readings.{LineRecord, records_of}, Spelling.{kind_of}}
 use Rattle.dimacs_records.specs.Tests.{Passes, PassesEnd, plain_context_after, context_after}
 use Rattle.dimacs_network.specs.declared.network.ArcView.{ArcView}
-use Rattle.dimacs_instance.specs.MinFlows.{IsMin}
-use Rattle.dimacs_instance.specs.MinTexts.{GivesMin, min_arc, min_node, min_records}
-use Rattle.dimacs_instance.specs.MinReading.{MinCount, plain_context, context, count_of}
-use Rattle.dimacs_instance.specs.MinReading.{IsMinBegun, IsMinCountedBy}
-use Rattle.dimacs_instance.specs.inside.MinReading.{without_arcs}
-use Rattle.dimacs_instance.specs.Summaries.{HasNodes}
-use Rattle.dimacs_instance.specs.Summaries.{GivesSummary}
+use Rattle.dimacs_instance.specs.{MinFlows.{IsMin}, MinTexts.{GivesMin, min_arc, min_node, min_records}}
+use Rattle.dimacs_instance.specs.MinReading.{MinCount, plain_context, context, count_of, IsMinBegun, IsMinCountedBy}
+use Rattle.dimacs_instance.specs.{inside.MinReading.{without_arcs}, Summaries.{HasNodes, GivesSummary}}
 use Rattle.dimacs_instance.proofs.MinLemmas.{arc_bounds, arc_joins, arc_room, begins, gives_min, law_with_arc, law_with_supply, plain_context_by_records, min_law, names_one, new_law, node, context_by_records, with_arc}
 
 pub counted_none : (nodes declared : ℕ) → nodes ≤ most_nodes → declared ≤ most_count → IsMinCountedBy (record { nodes = nodes; declared = declared; supplies = empty; arcs = 0 }) (MinProblem nodes declared ∷ [])

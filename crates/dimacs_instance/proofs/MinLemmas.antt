@@ -1,34 +1,24 @@
 -- One more record of a minimum cost flow instance while its text is read.
 use Rattle.std.proofs.Common.{◌≡◌, ℕ, suc, ◌+◌, ◌<◌, ◌≤◌, ◌∷◌, ◌++◌, [], List, false, Option, Some, None, length, map, ◌==◌, ◌||◌, refl, ap, sym, ◌∙◌, subst, arith}
-use Rattle.std.specs.Prelude.{ℤ, pos, ◌≤ℤ◌, is_some, nat_lt, nat_le, int_lt, Result, Ok, Err, OnOk, OnErr}
-use Rattle.std.specs.List.{list_any}
-use Rattle.std.specs.Ordering.{nat_cmp}
-use Rattle.std.specs.FinMap.{FinMap, empty, get, insert}
-use Rattle.std.proofs.lemmas.List.{map-append, length-append, append-nil, nil_from_length}
-use Rattle.std.proofs.lemmas.Int.{ints}
-use Rattle.std.proofs.lemmas.List.Elements.{All-nil, All-push}
-use Rattle.std.proofs.lemmas.Bool.{lt-ltb, le-ltb}
+use Rattle.std.proofs.{lemmas.List.{map-append, length-append, append-nil, nil_from_length}, lemmas.Int.{ints}}
+use Rattle.std.proofs.{lemmas.List.Elements.{All-nil, All-push}, lemmas.Bool.{lt-ltb, le-ltb}}
 use Rattle.std.proofs.lemmas.Bool.Decides.{nat_tests}
+use Rattle.std.specs.Prelude.{ℤ, pos, ◌≤ℤ◌, is_some, nat_lt, nat_le, int_lt, Result, Ok, Err, OnOk, OnErr}
+use Rattle.std.specs.{List.{list_any}, Ordering.{nat_cmp}, FinMap.{FinMap, empty, get, insert}}
 use Rattle.dimacs_lines.specs.Limits.{most_count, most_nodes, IsNode}
 use Rattle.dimacs_network.proofs.Entries.{All-empty, All-entries, All-get, All-insert}
-use Rattle.dimacs_records.specs.declared.kinds.TextKind.TheVariants.{Min}
-use Rattle.dimacs_records.specs.declared.order.Context.{Context}
-use Rattle.dimacs_records.specs.declared.records.Record.{Record}
-use Rattle.dimacs_records.specs.declared.records.Record.TheVariants.{MinArc, MinProblem, MinNode}
-use Rattle.dimacs_records.specs.Earlier.{is_flow_arc, names, counted_in}
-use Rattle.dimacs_records.specs.Readings.{LineRecord, IsAllowed, IsComplete, records_of}
+use Rattle.dimacs_records.specs.{declared.kinds.TextKind.TheVariants.{Min}, declared.order.Context.{Context}}
+use Rattle.dimacs_records.specs.{declared.records.Record.{Record}, Earlier.{is_flow_arc, names, counted_in}}
+use Rattle.dimacs_records.specs.{declared.records.Record.TheVariants.{MinArc, MinProblem, MinNode}, Ranges.{IsWhole}}
+use Rattle.dimacs_records.specs.{Readings.{LineRecord, IsAllowed, IsComplete, records_of}, Spelling.{kind_of}}
 use Rattle.dimacs_records.specs.Tests.{Passes, PassesEnd, plain_context_after, plain_context_of, context_after}
+use Rattle.dimacs_records.specs.NodeValues.{is_of, without_zeros}
 use Rattle.dimacs_records.proofs.ConditionLemmas.{is_allowed, is_complete}
-use Rattle.dimacs_network.specs.declared.network.ArcView.{ArcView}
-use Rattle.dimacs_network.specs.Arcs.{JoinsNodes, NetworkValue}
-use Rattle.dimacs_records.specs.Ranges.{IsWhole}
+use Rattle.dimacs_records.proofs.NameLemmas.{get_nonzero, has-from_entries, map_more, named_more, without_zeros-named}
+use Rattle.dimacs_network.specs.{declared.network.ArcView.{ArcView}, Arcs.{JoinsNodes, NetworkValue}}
 use Rattle.dimacs_instance.specs.MinFlows.{IsMin, IsSupply, HasBounds}
 use Rattle.dimacs_instance.specs.MinTexts.{GivesMin, min_node, min_arc, min_records}
-use Rattle.dimacs_records.specs.NodeValues.{is_of, without_zeros}
-use Rattle.dimacs_instance.specs.MinReading.{MinBegun, IsMinBegunBy, plain_context, context, count_of, has_line}
-use Rattle.dimacs_instance.specs.MinReading.{IsMinBegun, IsNamed}
-use Rattle.dimacs_records.specs.Spelling.{kind_of}
-use Rattle.dimacs_records.proofs.NameLemmas.{get_nonzero, has-from_entries, map_more, named_more, without_zeros-named}
+use Rattle.dimacs_instance.specs.MinReading.{MinBegun, IsMinBegunBy, plain_context, context, count_of, has_line, IsMinBegun, IsNamed}
 
 -- arc lines, after node lines
 any_flow_arc : (named : List (ℕ × ℤ)) (arcs : List ArcView) → list_any is_flow_arc (map min_node named ++ map min_arc arcs) ≡ nat_lt 0 (length arcs)

@@ -1,21 +1,15 @@
 -- Supplies by node: lines and sums.
 use Rattle.std.proofs.Common.{◌≡◌, ℕ, zero, suc, ◌≤◌, ◌∷◌, ◌++◌, [], List, Option, Some, None, map, ◌+◌, ◌*◌, ◌^◌, cond, refl, ap, ap₂, sym, ◌∙◌, add-one, arith, ◌<◌, Bool, true, false}
-use Rattle.std.specs.Prelude.{ℤ, pos, negsuc, ◌≤ℤ◌, ◌<ℤ◌, ◌+ℤ◌, sum_by, unwrap_or}
-use Rattle.std.specs.List.{filter}
+use Rattle.std.proofs.{lemmas.Int.{ints}, lemmas.List.{map-append}, lemmas.List.Sums.{sum_by-append, sum_by-cons}}
+use Rattle.std.specs.{Prelude.{ℤ, pos, negsuc, ◌≤ℤ◌, ◌<ℤ◌, ◌+ℤ◌, sum_by, unwrap_or}, List.{filter}}
 use Rattle.std.specs.FinMap.{get, entries, values}
-use Rattle.std.proofs.lemmas.Int.{ints}
-use Rattle.std.proofs.lemmas.List.{map-append}
-use Rattle.std.proofs.lemmas.List.Sums.{sum_by-append, sum_by-cons}
 use Rattle.dimacs_lines.specs.Limits.{most_nodes}
 use Rattle.dimacs_network.proofs.Entries.{entry_of, entries_below, entries_below-none, entries_below-next, entries_are, All-get}
-use Rattle.dimacs_records.specs.declared.records.Record.TheVariants.{MinNode}
-use Rattle.dimacs_records.specs.Canonical.{AreLines, records_of_line}
-use Rattle.dimacs_records.specs.Ranges.{IsWhole}
+use Rattle.dimacs_records.specs.{declared.records.Record.TheVariants.{MinNode}, Canonical.{AreLines, records_of_line}}
+use Rattle.dimacs_records.specs.{Ranges.{IsWhole}, NodeValues.{has_value, is_nonzero}, declared.records.Record.{Record}}
 use Rattle.dimacs_instance.specs.MinFlows.{MinValue, IsMin, IsSupply, supply_of, positive_part, negative_part}
 use Rattle.dimacs_instance.specs.MinTexts.{min_node}
-use Rattle.dimacs_records.specs.NodeValues.{has_value, is_nonzero}
 use Rattle.dimacs_instance.proofs.MinTextLemmas.{no_supply, no_supply_past, supplied_test}
-use Rattle.dimacs_records.specs.declared.records.Record.{Record}
 
 -- the supplies of the nodes below n
 abbrev pub supplies_below : MinValue → ℕ → List (ℕ × ℤ)

@@ -1,32 +1,23 @@
 -- The texts of minimum cost flow instances.
 use Rattle.std.proofs.Common.{◌≡◌, ◌≢◌, ℕ, ◌<◌, ◌≤◌, ◌∷◌, ◌++◌, [], List, Bool, true, false, Option, Some, None, length, map, cond, ◌+◌, refl, ap, ap₂, sym, ◌∙◌, arith}
-use Rattle.std.specs.Prelude.{ℤ, pos, codes, not, int_lt, ◌≤ℤ◌, ◌<ℤ◌, count_by}
-use Rattle.std.specs.List.{All, filter, list_any}
-use Rattle.std.specs.Int.Signed.{lt_z_yes}
-use Rattle.std.specs.FinMap.{from_entries, entries, get}
-use Rattle.std.proofs.lemmas.Bool.{eq-eqb, false_from_ne_true}
-use Rattle.std.proofs.lemmas.Int.{ints}
+use Rattle.std.proofs.{lemmas.Bool.{eq-eqb, false_from_ne_true}, lemmas.Int.{ints}}
 use Rattle.std.proofs.lemmas.List.{append-nil, length-append, length-map}
 use Rattle.std.proofs.lemmas.List.Elements.{All-cons, All-head, All-tail, All-append, All-map, All-weaker}
+use Rattle.std.specs.{Prelude.{ℤ, pos, codes, not, int_lt, ◌≤ℤ◌, ◌<ℤ◌, count_by}, List.{All, filter, list_any}}
+use Rattle.std.specs.{Int.Signed.{lt_z_yes}, FinMap.{from_entries, entries, get}}
 use Rattle.dimacs_lines.specs.Limits.{most_nodes, IsNode}
 use Rattle.dimacs_network.proofs.Entries.{from_entries-entries, entries_once, length-entries, All-get}
-use Rattle.dimacs_records.specs.declared.kinds.TextKind.TheVariants.{Min}
-use Rattle.dimacs_records.specs.declared.records.Record.{Record}
+use Rattle.dimacs_records.specs.{declared.kinds.TextKind.TheVariants.{Min}, declared.records.Record.{Record}}
 use Rattle.dimacs_records.specs.declared.records.Record.TheVariants.{MinProblem, MinNode, MinArc}
-use Rattle.dimacs_records.specs.Forms.{form, Word, Nodes, Count, Id, Whole}
-use Rattle.dimacs_records.specs.Canonical.{CanBeSpelled}
-use Rattle.dimacs_records.specs.Readings.{LineRecord, records_of, IsAllowed}
-use Rattle.dimacs_records.specs.Texts.{AreFaultless}
-use Rattle.dimacs_records.proofs.SplitLemmas.{image_at, All-at}
-use Rattle.dimacs_records.proofs.CanonicalLaws.{canonical_spelled, numbered_all}
-use Rattle.dimacs_network.specs.declared.network.ArcView.{ArcView}
-use Rattle.dimacs_network.specs.Arcs.{JoinsNodes}
+use Rattle.dimacs_records.specs.{Forms.{form, Word, Nodes, Count, Id, Whole}, Canonical.{CanBeSpelled}}
+use Rattle.dimacs_records.specs.{Readings.{LineRecord, records_of, IsAllowed}, Texts.{AreFaultless}}
+use Rattle.dimacs_records.specs.NodeValues.{is_of, has_value, NameNodes}
+use Rattle.dimacs_records.proofs.{SplitLemmas.{image_at, All-at}, CanonicalLaws.{canonical_spelled, numbered_all}}
+use Rattle.dimacs_records.proofs.{CountLemmas.{once_before}, NameLemmas.{not_zero}}
+use Rattle.dimacs_network.specs.{declared.network.ArcView.{ArcView}, Arcs.{JoinsNodes}}
 use Rattle.dimacs_instance.specs.MinFlows.{MinValue, IsMin, IsSupply, HasBounds}
 use Rattle.dimacs_instance.specs.MinTexts.{min_node, min_arc, min_records, GivesMin, SpellsMin, canonical_min, canonical_min_records}
-use Rattle.dimacs_records.specs.NodeValues.{is_of, has_value, NameNodes}
 use Rattle.dimacs_instance.proofs.MinLemmas.{node_new, one_more_arc, all_arcs, allows_problem}
-use Rattle.dimacs_records.proofs.CountLemmas.{once_before}
-use Rattle.dimacs_records.proofs.NameLemmas.{not_zero}
 
 -- an item of two joined lists is in the first or in the second
 pub data InEither {A : Type 0} (xs ys before : List A) (y : A) : Type 0 where

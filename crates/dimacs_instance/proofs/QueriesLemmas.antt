@@ -1,32 +1,22 @@
 -- One more record of queries while their text is read.
 use Rattle.std.proofs.Common.{◌≡◌, ℕ, suc, ◌<◌, ◌≤◌, ◌∷◌, ◌++◌, [], List, true, false, Some, length, map, refl, ap, ap₂, sym, ◌∙◌, arith, inl, inr, ◌⊎◌}
-use Rattle.std.specs.Prelude.{codes, nat_lt, nat_le}
-use Rattle.std.specs.List.{All, list_any}
-use Rattle.std.proofs.lemmas.Int.{ints}
-use Rattle.std.proofs.lemmas.List.{map-id, length-append, length-map}
-use Rattle.std.proofs.lemmas.List.Elements.{All-cons, All-map}
-use Rattle.std.proofs.lemmas.Simd.{map-map}
-use Rattle.std.proofs.lemmas.Bool.Decides.{nat_tests}
+use Rattle.std.proofs.{lemmas.Int.{ints}, lemmas.List.{map-id, length-append, length-map}, lemmas.Simd.{map-map}}
+use Rattle.std.proofs.{lemmas.List.Elements.{All-cons, All-map}, lemmas.Bool.Decides.{nat_tests}}
+use Rattle.std.specs.{Prelude.{codes, nat_lt, nat_le}, List.{All, list_any}}
 use Rattle.dimacs_lines.specs.Limits.{most_count}
-use Rattle.dimacs_records.specs.declared.kinds.TextKind.TheVariants as kinds
-use Rattle.dimacs_records.specs.declared.order.Context.{Context}
-use Rattle.dimacs_records.specs.declared.records.QueryKind.{QueryKind}
-use Rattle.dimacs_records.specs.declared.records.QueryKind.TheVariants as asks
-use Rattle.dimacs_records.specs.declared.records.Record.{Record}
+use Rattle.dimacs_records.specs.{declared.order.Context.{Context}, declared.records.QueryKind.{QueryKind}}
+use Rattle.dimacs_records.specs.{declared.records.Record.{Record}, Earlier.{asks_for, counted_in, is_counted}}
 use Rattle.dimacs_records.specs.declared.records.Record.TheVariants.{QueriesProblem, SourceQuery, PairQuery}
-use Rattle.dimacs_records.specs.Earlier.{asks_for, counted_in, is_counted}
-use Rattle.dimacs_records.specs.Forms.{form, Word, Either, Count, Id}
-use Rattle.dimacs_records.specs.Canonical.{CanBeSpelled}
-use Rattle.dimacs_records.specs.Ranges.{IsId}
-use Rattle.dimacs_records.specs.Readings.{LineRecord, IsAllowed, IsComplete, records_of}
+use Rattle.dimacs_records.specs.{Forms.{form, Word, Either, Count, Id}, Canonical.{CanBeSpelled}, Ranges.{IsId}}
+use Rattle.dimacs_records.specs.{Readings.{LineRecord, IsAllowed, IsComplete, records_of}, Texts.{AreFaultless}}
 use Rattle.dimacs_records.specs.Spelling.{kind_of, query_word}
 use Rattle.dimacs_records.specs.Tests.{plain_context_after, plain_context_of, context_after}
-use Rattle.dimacs_records.specs.Texts.{AreFaultless}
-use Rattle.dimacs_records.proofs.CanonicalLaws.{canonical_spelled, numbered_all}
+use Rattle.dimacs_records.proofs.{CanonicalLaws.{canonical_spelled, numbered_all}, SplitLemmas.{image_at}}
 use Rattle.dimacs_records.proofs.ConditionLemmas.{is_allowed, is_complete, allowed_at}
-use Rattle.dimacs_records.proofs.SplitLemmas.{image_at}
 use Rattle.dimacs_instance.specs.QueryTexts.{QueriesValue, Sources, Pairs, AreIds, AreLawful, GivesQueries, HaveIds, SpellsQueries, canonical_queries, kind_asked, pair_query, query_lines, query_records}
 use Rattle.dimacs_instance.specs.QueriesReading.{QueriesBegun, queries_begun_records, plain_context, are_others, context}
+use Rattle.dimacs_records.specs.declared.kinds.TextKind.TheVariants as kinds
+use Rattle.dimacs_records.specs.declared.records.QueryKind.TheVariants as asks
 
 all_counted : {X : Type 0} (say : X → Record) → ((x : X) → is_counted (say x) ≡ true) → (xs : List X) → counted_in (map say xs) ≡ length (map say xs)
 all_counted say each [] = refl

@@ -1,30 +1,21 @@
 -- The records of instances, with the arcs only counted.
 use Rattle.std.proofs.Common.{◌≡◌, ℕ, ◌+◌, ◌<◌, ◌≤◌, ◌∷◌, ◌++◌, [], List, length, map, refl, ap, ap₂, sym, ◌∙◌, arith}
-use Rattle.std.specs.Prelude.{ℤ, Result, Ok, Err}
-use Rattle.std.proofs.lemmas.Bool.Decides.{nat_tests}
-use Rattle.std.proofs.lemmas.List.{length-append, map-append}
+use Rattle.std.proofs.{lemmas.Bool.Decides.{nat_tests}, lemmas.List.{length-append, map-append}}
 use Rattle.std.proofs.lemmas.List.Elements.{All-nil, All-push}
+use Rattle.std.specs.Prelude.{ℤ, Result, Ok, Err}
 use Rattle.dimacs_lines.specs.Limits.{most_count, most_nodes}
-use Rattle.dimacs_records.specs.declared.faults.ReadError.{ReadError}
-use Rattle.dimacs_records.specs.declared.faults.ReadError.TheVariants as read_errors
-use Rattle.dimacs_records.specs.declared.kinds.TextKind.TheVariants.{Graph}
-use Rattle.dimacs_records.specs.declared.reasons.Reason.{Reason}
-use Rattle.dimacs_records.specs.declared.records.Record.{Record}
+use Rattle.dimacs_records.specs.{declared.faults.ReadError.{ReadError}, declared.kinds.TextKind.TheVariants.{Graph}}
+use Rattle.dimacs_records.specs.{declared.reasons.Reason.{Reason}, declared.records.Record.{Record}, Ranges.{IsWhole}}
 use Rattle.dimacs_records.specs.declared.records.Record.TheVariants.{GraphArc, GraphProblem}
-use Rattle.dimacs_records.specs.Ranges.{IsWhole}
-use Rattle.dimacs_records.specs.Readings.{LineRecord, records_of}
-use Rattle.dimacs_records.specs.Tests.{Passes, PassesEnd, plain_context_after}
-use Rattle.dimacs_records.specs.Texts.{Reads, SpellsValue}
+use Rattle.dimacs_records.specs.{Readings.{LineRecord, records_of}, Tests.{Passes, PassesEnd, plain_context_after}}
+use Rattle.dimacs_records.specs.{Texts.{Reads, SpellsValue}, declared.kinds.TextKind.{TextKind}}
 use Rattle.dimacs_records.proofs.ReadLaws.{spells_one_value}
-use Rattle.dimacs_records.specs.declared.kinds.TextKind.{TextKind}
-use Rattle.dimacs_network.specs.declared.network.ArcView.{ArcView}
-use Rattle.dimacs_network.specs.Arcs.{JoinsNodes}
-use Rattle.dimacs_network.specs.KeptArcs.{weight_arc}
+use Rattle.dimacs_network.specs.{declared.network.ArcView.{ArcView}, Arcs.{JoinsNodes}, KeptArcs.{weight_arc}}
 use Rattle.dimacs_instance.specs.Graph.{GivesGraph, HasWeightAlone, graph_arc}
-use Rattle.dimacs_instance.specs.Summaries.{ReadsSummary, SumsUpGraph}
-use Rattle.dimacs_instance.specs.Summaries.{GivesSummary, IsGraphCountedBy, counted_lines}
+use Rattle.dimacs_instance.specs.Summaries.{ReadsSummary, SumsUpGraph, GivesSummary, IsGraphCountedBy, counted_lines}
 use Rattle.dimacs_instance.specs.declared.summaries.graph.CountedGraph.{CountedGraph}
 use Rattle.dimacs_instance.proofs.GraphLemmas.{plain_context_by_records}
+use Rattle.dimacs_records.specs.declared.faults.ReadError.TheVariants as read_errors
 
 -- ---- a graph
 pub counted_none : (nodes declared : ℕ) → nodes ≤ most_nodes → declared ≤ most_count → IsGraphCountedBy (record { nodes = nodes; declared = declared; arcs = 0 }) (GraphProblem nodes declared ∷ [])

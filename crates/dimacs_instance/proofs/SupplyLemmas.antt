@@ -1,19 +1,13 @@
 -- Building minimum cost flow instances keeps their laws.
 use Rattle.std.proofs.Common.{◌≡◌, ◌≤◌, ◌<◌, ◌+◌, ◌++◌, ◌∷◌, [], ℕ, List, Bool, true, false, None, Some, cond, length, refl, sym, ◌∙◌, ap, ◌==◌, arith}
-use Rattle.std.specs.Prelude.{ℤ, pos, if◌then◌else◌, Result, Ok, Err, OnOk, OnErr}
-use Rattle.std.specs.List.{All}
-use Rattle.std.specs.Ordering.{int_eq, nat_cmp}
-use Rattle.std.specs.FinMap.{FinMap, empty, entries, get, insert, remove}
-use Rattle.std.proofs.lemmas.List.{length-append}
-use Rattle.std.proofs.lemmas.List.Elements.{All-nil, All-push}
+use Rattle.std.proofs.{lemmas.List.{length-append}, lemmas.List.Elements.{All-nil, All-push}}
+use Rattle.std.specs.{Prelude.{ℤ, pos, if◌then◌else◌, Result, Ok, Err, OnOk, OnErr}, List.{All}}
+use Rattle.std.specs.{Ordering.{int_eq, nat_cmp}, FinMap.{FinMap, empty, entries, get, insert, remove}}
 use Rattle.dimacs_lines.specs.Limits.{most_count, most_nodes, IsNode}
 use Rattle.dimacs_network.proofs.Entries.{All-empty, All-entries, All-get, All-insert}
-use Rattle.dimacs_records.specs.NodeValues.{without_zeros}
-use Rattle.dimacs_records.specs.Ranges.{IsWhole}
-use Rattle.dimacs_records.proofs.NameLemmas.{isnt_zero}
-use Rattle.dimacs_records.proofs.ZeroLemmas.{get-removed, without_zeros-insert}
-use Rattle.dimacs_network.specs.declared.network.ArcView.{ArcView}
-use Rattle.dimacs_network.specs.Arcs.{JoinsNodes}
+use Rattle.dimacs_records.specs.{NodeValues.{without_zeros}, Ranges.{IsWhole}}
+use Rattle.dimacs_records.proofs.{NameLemmas.{isnt_zero}, ZeroLemmas.{get-removed, without_zeros-insert}}
+use Rattle.dimacs_network.specs.{declared.network.ArcView.{ArcView}, Arcs.{JoinsNodes}}
 use Rattle.dimacs_instance.specs.MinFlows.{MinValue, IsMin, IsSupply, HasBounds, with_supply}
 use Rattle.dimacs_instance.proofs.MinTextLemmas.{no_supply_past}
 

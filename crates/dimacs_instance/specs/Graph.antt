@@ -1,19 +1,11 @@
 -- Graphs for shortest paths, and the texts that spell them.
-use Rattle.std.specs.Prelude.{ℕ, ◌≡◌, ◌≤◌, List, ◌∷◌, map, length, pos, [], codes}
-use Rattle.std.specs.Fmt.{decimal}
-use Rattle.std.specs.List.{All}
-use Rattle.dimacs_lines.specs.Limits.{most_count, most_nodes}
-use Rattle.dimacs_lines.specs.Lines.{lines}
-use Rattle.dimacs_records.specs.declared.kinds.TextKind.TheVariants.{Graph}
-use Rattle.dimacs_records.specs.declared.records.Record.{Record}
-use Rattle.dimacs_records.specs.declared.records.Record.TheVariants.{GraphProblem, GraphArc}
-use Rattle.dimacs_records.specs.Canonical.{canonical_text}
-use Rattle.dimacs_records.specs.Printed.{shown}
-use Rattle.dimacs_records.specs.Ranges.{IsWhole}
-use Rattle.dimacs_records.specs.Readings.{LineRecord, records_of}
+use Rattle.std.specs.{Prelude.{ℕ, ◌≡◌, ◌≤◌, List, ◌∷◌, map, length, pos, [], codes}, Fmt.{decimal}, List.{All}}
+use Rattle.dimacs_lines.specs.{Limits.{most_count, most_nodes}, Lines.{lines}}
+use Rattle.dimacs_records.specs.{declared.kinds.TextKind.TheVariants.{Graph}, declared.records.Record.{Record}}
+use Rattle.dimacs_records.specs.{declared.records.Record.TheVariants.{GraphProblem, GraphArc}, Printed.{shown}}
+use Rattle.dimacs_records.specs.{Canonical.{canonical_text}, Ranges.{IsWhole}, Readings.{LineRecord, records_of}}
 use Rattle.dimacs_records.specs.Texts.{SpellsValue}
-use Rattle.dimacs_network.specs.declared.network.ArcView.{ArcView}
-use Rattle.dimacs_network.specs.Arcs.{NetworkValue, JoinsNodes}
+use Rattle.dimacs_network.specs.{declared.network.ArcView.{ArcView}, Arcs.{NetworkValue, JoinsNodes}}
 
 -- an arc with only a weight
 abbrev pub HasWeightAlone : ArcView → Type 0

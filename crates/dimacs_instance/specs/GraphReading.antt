@@ -1,14 +1,10 @@
 -- A graph while its text is read.
-use Rattle.std.specs.Prelude.{ℕ, List, ◌∷◌, map, length, Some, ◌≤◌}
-use Rattle.dimacs_records.specs.declared.records.Record.{Record}
-use Rattle.dimacs_records.specs.declared.records.Record.TheVariants.{GraphProblem}
-use Rattle.dimacs_network.specs.declared.network.ArcView.{ArcView}
+use Rattle.std.specs.{Prelude.{ℕ, List, ◌∷◌, map, length, Some, ◌≤◌}, List.{All}}
+use Rattle.dimacs_records.specs.{declared.records.Record.{Record}, declared.records.Record.TheVariants.{GraphProblem}}
+use Rattle.dimacs_records.specs.{declared.order.Context.{Context}, Tests.{plain_context_of}}
+use Rattle.dimacs_network.specs.{declared.network.ArcView.{ArcView}, Arcs.{JoinsNodes}}
 use Rattle.dimacs_instance.specs.Graph.{graph_arc, HasWeightAlone}
-use Rattle.dimacs_records.specs.declared.order.Context.{Context}
-use Rattle.dimacs_records.specs.Tests.{plain_context_of}
-use Rattle.std.specs.List.{All}
 use Rattle.dimacs_lines.specs.Limits.{most_count, most_nodes}
-use Rattle.dimacs_network.specs.Arcs.{JoinsNodes}
 
 -- the declared numbers, and the arcs so far
 pub record GraphBegun : Type 0 where

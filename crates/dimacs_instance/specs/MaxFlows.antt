@@ -1,10 +1,8 @@
 -- Maximum flow instances.
-use Rattle.std.specs.Prelude.{ℕ, ◌≡◌, ◌≢◌, ◌≤◌, ◌≤ℤ◌, List, length, pos}
-use Rattle.std.specs.List.{All}
+use Rattle.std.specs.{Prelude.{ℕ, ◌≡◌, ◌≢◌, ◌≤◌, ◌≤ℤ◌, List, length, pos}, List.{All}}
 use Rattle.dimacs_lines.specs.Limits.{most_count, most_nodes, IsNode}
 use Rattle.dimacs_records.specs.Ranges.{IsWhole}
-use Rattle.dimacs_network.specs.declared.network.ArcView.{ArcView}
-use Rattle.dimacs_network.specs.Arcs.{JoinsNodes}
+use Rattle.dimacs_network.specs.{declared.network.ArcView.{ArcView}, Arcs.{JoinsNodes}}
 
 -- an arc with only a capacity, which isn't negative
 abbrev pub HasCapacityAlone : ArcView → Type 0

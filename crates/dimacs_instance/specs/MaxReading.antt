@@ -1,20 +1,12 @@
 -- A maximum flow instance while its text is read.
-use Rattle.std.specs.Prelude.{ℕ, List, [], ◌∷◌, ◌++◌, map, length, Some, nat_lt, ◌≡◌, ◌≢◌, ◌≤◌}
-use Rattle.std.specs.List.{list_any, All}
-use Rattle.dimacs_records.specs.declared.records.Record.{Record}
+use Rattle.std.specs.{Prelude.{ℕ, List, [], ◌∷◌, ◌++◌, map, length, Some, nat_lt, ◌≡◌, ◌≢◌, ◌≤◌}, List.{list_any, All}}
+use Rattle.dimacs_records.specs.{declared.records.Record.{Record}, declared.order.Context.{Context}}
 use Rattle.dimacs_records.specs.declared.records.Record.TheVariants.{MaxProblem, MaxNode, MaxArc}
-use Rattle.dimacs_network.specs.declared.network.ArcView.{ArcView}
-use Rattle.dimacs_instance.specs.declared.max.EndLine.{EndLine}
-use Rattle.dimacs_instance.specs.declared.max.EndLines.{EndLines}
-use Rattle.dimacs_instance.specs.declared.max.EndLines.TheVariants.{Neither, One, Both}
-use Rattle.dimacs_instance.specs.MaxTexts.{max_arc}
-use Rattle.dimacs_records.specs.declared.order.Context.{Context}
-use Rattle.dimacs_records.specs.Conditions.{lacks_end}
-use Rattle.dimacs_records.specs.Earlier.{is_end_node, names}
-use Rattle.dimacs_records.specs.Tests.{plain_context_of}
+use Rattle.dimacs_records.specs.{Conditions.{lacks_end}, Earlier.{is_end_node, names}, Tests.{plain_context_of}}
+use Rattle.dimacs_network.specs.{declared.network.ArcView.{ArcView}, Arcs.{JoinsNodes}}
+use Rattle.dimacs_instance.specs.{declared.max.EndLine.{EndLine}, declared.max.EndLines.{EndLines}, MaxTexts.{max_arc}}
+use Rattle.dimacs_instance.specs.{declared.max.EndLines.TheVariants.{Neither, One, Both}, MaxFlows.{HasCapacityAlone}}
 use Rattle.dimacs_lines.specs.Limits.{most_count, most_nodes, IsNode}
-use Rattle.dimacs_network.specs.Arcs.{JoinsNodes}
-use Rattle.dimacs_instance.specs.MaxFlows.{HasCapacityAlone}
 
 -- the declared numbers, and the node lines and arcs so far
 pub record MaxBegun : Type 0 where

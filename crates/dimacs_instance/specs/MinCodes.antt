@@ -1,12 +1,9 @@
 -- How the values of minimum cost flow instances are stored.
-use Rattle.std.specs.Prelude.{ℕ, ℤ, List, refl}
-use Rattle.std.specs.Coded.{Coded, code_by, coded×, coded_ℕ, coded_ℤ, coded_list}
-use Rattle.std.specs.Ordering.{nat_cmp}
-use Rattle.std.specs.FinMap.{FinMap}
-use Rattle.std.specs.FinMap as map
+use Rattle.std.specs.{Prelude.{ℕ, ℤ, List, refl}, Coded.{Coded, code_by, coded×, coded_ℕ, coded_ℤ, coded_list}}
+use Rattle.std.specs.{Ordering.{nat_cmp}, FinMap.{FinMap}}
 use Rattle.dimacs_network.specs.declared.network.ArcView.{ArcView}
-use Rattle.dimacs_instance.specs.MinFlows.{MinValue}
-use Rattle.dimacs_instance.specs.MinReading.{MinBegun, MinCount}
+use Rattle.dimacs_instance.specs.{MinFlows.{MinValue}, MinReading.{MinBegun, MinCount}}
+use Rattle.std.specs.FinMap as map
 
 abbrev arc_code : Coded ArcView
 arc_code =

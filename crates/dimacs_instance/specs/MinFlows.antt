@@ -1,11 +1,8 @@
 -- Minimum cost flow instances.
 use Rattle.std.specs.Prelude.{ℕ, suc, ℤ, ◌≢◌, ◌≤◌, ◌≤ℤ◌, if◌then◌else◌, List, length, pos, negsuc, unwrap_or, sum_by}
-use Rattle.std.specs.List.{All}
-use Rattle.std.specs.Ordering.{int_eq, nat_cmp}
-use Rattle.std.specs.FinMap.{FinMap, get, insert, remove, entries, values}
+use Rattle.std.specs.{List.{All}, Ordering.{int_eq, nat_cmp}, FinMap.{FinMap, get, insert, remove, entries, values}}
 use Rattle.dimacs_lines.specs.Limits.{most_count, most_nodes, IsNode}
-use Rattle.dimacs_network.specs.declared.network.ArcView.{ArcView}
-use Rattle.dimacs_network.specs.Arcs.{JoinsNodes}
+use Rattle.dimacs_network.specs.{declared.network.ArcView.{ArcView}, Arcs.{JoinsNodes}}
 use Rattle.dimacs_records.specs.Ranges.{IsWhole}
 
 -- an instance; the map has the supplies other than 0, by node

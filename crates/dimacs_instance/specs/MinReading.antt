@@ -1,19 +1,12 @@
 -- A minimum cost flow instance while its text is read.
-use Rattle.std.specs.Prelude.{ℕ, ℤ, ◌≡◌, List, length, Bool, Some, is_some, nat_lt, ◌≤◌}
-use Rattle.std.specs.Ordering.{nat_cmp}
-use Rattle.std.specs.FinMap.{FinMap, from_entries, get, entries}
-use Rattle.dimacs_records.specs.declared.records.Record.{Record}
-use Rattle.dimacs_network.specs.declared.network.ArcView.{ArcView}
-use Rattle.dimacs_instance.specs.MinTexts.{min_records}
-use Rattle.dimacs_records.specs.NodeValues.{NameNodes}
-use Rattle.dimacs_records.specs.declared.order.Context.{Context}
-use Rattle.dimacs_records.specs.declared.records.Record.TheVariants.{MinNode}
-use Rattle.dimacs_records.specs.Tests.{plain_context_of}
-use Rattle.std.specs.List.{All}
-use Rattle.dimacs_lines.specs.Limits.{most_count, most_nodes, IsNode}
-use Rattle.dimacs_network.specs.Arcs.{JoinsNodes}
-use Rattle.dimacs_instance.specs.MinFlows.{HasBounds}
+use Rattle.std.specs.{Prelude.{ℕ, ℤ, ◌≡◌, List, length, Bool, Some, is_some, nat_lt, ◌≤◌}, Ordering.{nat_cmp}}
+use Rattle.std.specs.{FinMap.{FinMap, from_entries, get, entries}, List.{All}}
+use Rattle.dimacs_records.specs.{declared.records.Record.{Record}, NodeValues.{NameNodes}, Tests.{plain_context_of}}
+use Rattle.dimacs_records.specs.{declared.order.Context.{Context}, declared.records.Record.TheVariants.{MinNode}}
 use Rattle.dimacs_records.specs.Ranges.{IsWhole}
+use Rattle.dimacs_network.specs.{declared.network.ArcView.{ArcView}, Arcs.{JoinsNodes}}
+use Rattle.dimacs_instance.specs.{MinTexts.{min_records}, MinFlows.{HasBounds}}
+use Rattle.dimacs_lines.specs.Limits.{most_count, most_nodes, IsNode}
 
 -- the declared numbers, the supplies of the named nodes, and the arcs so far
 pub record MinBegun : Type 0 where

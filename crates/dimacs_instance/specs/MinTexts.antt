@@ -1,19 +1,13 @@
 -- The texts that spell minimum cost flow instances.
-use Rattle.std.specs.Prelude.{ℕ, ℤ, ◌≡◌, List, ◌∷◌, ◌++◌, map, length, [], codes}
-use Rattle.std.specs.Fmt.{decimal}
-use Rattle.std.specs.List.{filter}
+use Rattle.std.specs.{Prelude.{ℕ, ℤ, ◌≡◌, List, ◌∷◌, ◌++◌, map, length, [], codes}, Fmt.{decimal}, List.{filter}}
 use Rattle.std.specs.FinMap.{entries, from_entries}
 use Rattle.dimacs_lines.specs.Lines.{lines}
-use Rattle.dimacs_records.specs.declared.kinds.TextKind.TheVariants.{Min}
-use Rattle.dimacs_records.specs.declared.records.Record.{Record}
-use Rattle.dimacs_records.specs.declared.records.Record.TheVariants.{MinProblem, MinNode, MinArc}
-use Rattle.dimacs_records.specs.Canonical.{canonical_text}
-use Rattle.dimacs_records.specs.Printed.{shown}
-use Rattle.dimacs_records.specs.Readings.{LineRecord, records_of}
-use Rattle.dimacs_records.specs.Texts.{SpellsValue}
+use Rattle.dimacs_records.specs.{declared.kinds.TextKind.TheVariants.{Min}, declared.records.Record.{Record}}
+use Rattle.dimacs_records.specs.{declared.records.Record.TheVariants.{MinProblem, MinNode, MinArc}, Printed.{shown}}
+use Rattle.dimacs_records.specs.{Canonical.{canonical_text}, Readings.{LineRecord, records_of}, Texts.{SpellsValue}}
+use Rattle.dimacs_records.specs.NodeValues.{NameNodes, has_value}
 use Rattle.dimacs_network.specs.declared.network.ArcView.{ArcView}
 use Rattle.dimacs_instance.specs.MinFlows.{MinValue, IsMin, supply_sum, demand_sum}
-use Rattle.dimacs_records.specs.NodeValues.{NameNodes, has_value}
 
 -- the line of a node and its supply
 abbrev pub min_node : ℕ × ℤ → Record

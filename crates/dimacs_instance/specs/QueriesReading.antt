@@ -1,10 +1,9 @@
 -- Queries while their text is read.
 use Rattle.std.specs.Prelude.{ℕ, List, ◌∷◌, length, Bool, false, true, None, Some}
-use Rattle.dimacs_records.specs.declared.records.Record.{Record}
+use Rattle.dimacs_records.specs.{declared.records.Record.{Record}, declared.order.Context.{Context}}
 use Rattle.dimacs_records.specs.declared.records.Record.TheVariants.{QueriesProblem, SourceQuery, PairQuery}
-use Rattle.dimacs_instance.specs.QueryTexts.{QueriesValue, kind_asked, query_lines, Sources, Pairs}
-use Rattle.dimacs_records.specs.declared.order.Context.{Context}
 use Rattle.dimacs_records.specs.Tests.{plain_context_of}
+use Rattle.dimacs_instance.specs.QueryTexts.{QueriesValue, kind_asked, query_lines, Sources, Pairs}
 
 -- the declared number, and the queries so far
 pub record QueriesBegun : Type 0 where

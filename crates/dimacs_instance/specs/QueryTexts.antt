@@ -1,20 +1,13 @@
 -- Queries for distances, and the texts that spell them.
-use Rattle.std.specs.Prelude.{ℕ, ◌≡◌, ◌≤◌, List, ◌∷◌, map, length, [], codes}
-use Rattle.std.specs.Fmt.{decimal}
-use Rattle.std.specs.List.{All}
-use Rattle.dimacs_lines.specs.Limits.{most_count}
-use Rattle.dimacs_lines.specs.Lines.{lines}
-use Rattle.dimacs_records.specs.declared.kinds.TextKind.TheVariants as kinds
-use Rattle.dimacs_records.specs.declared.records.QueryKind.{QueryKind}
-use Rattle.dimacs_records.specs.declared.records.QueryKind.TheVariants as asks
-use Rattle.dimacs_records.specs.declared.records.Record.{Record}
+use Rattle.std.specs.{Prelude.{ℕ, ◌≡◌, ◌≤◌, List, ◌∷◌, map, length, [], codes}, Fmt.{decimal}, List.{All}}
+use Rattle.dimacs_lines.specs.{Limits.{most_count}, Lines.{lines}}
+use Rattle.dimacs_records.specs.{declared.records.QueryKind.{QueryKind}, declared.records.Record.{Record}}
 use Rattle.dimacs_records.specs.declared.records.Record.TheVariants.{QueriesProblem, SourceQuery, PairQuery}
-use Rattle.dimacs_records.specs.Canonical.{canonical_text}
-use Rattle.dimacs_records.specs.Printed.{shown}
-use Rattle.dimacs_records.specs.Ranges.{IsId}
+use Rattle.dimacs_records.specs.{Canonical.{canonical_text}, Printed.{shown}, Ranges.{IsId}, Texts.{SpellsValue}}
 use Rattle.dimacs_records.specs.Readings.{LineRecord, records_of}
-use Rattle.dimacs_records.specs.Texts.{SpellsValue}
 use Rattle.dimacs_instance.specs.declared.queries.Queries.{Queries}
+use Rattle.dimacs_records.specs.declared.kinds.TextKind.TheVariants as kinds
+use Rattle.dimacs_records.specs.declared.records.QueryKind.TheVariants as asks
 use Rattle.dimacs_instance.specs.declared.queries.Queries.TheVariants as query_lists
 
 -- the distances from sources to all nodes, or from one node to another

@@ -1,21 +1,15 @@
 -- Summaries of the instances that texts spell.
 use Rattle.std.specs.Prelude.{ℕ, ◌≡◌, List, [], ◌∷◌, codes, length, pos, Result, Ok, Err, Some}
 use Rattle.std.specs.Fmt.{decimal, signed_decimal}
-use Rattle.dimacs_records.specs.declared.faults.ReadError.{ReadError}
-use Rattle.dimacs_records.specs.declared.reasons.Reason.{Reason}
-use Rattle.dimacs_records.specs.Printed.{shown}
-use Rattle.dimacs_records.specs.Texts.{Reads}
+use Rattle.dimacs_records.specs.{declared.faults.ReadError.{ReadError}, declared.reasons.Reason.{Reason}, Texts.{Reads}}
+use Rattle.dimacs_records.specs.{Printed.{shown}, declared.order.Context.{Context}, declared.records.Record.{Record}}
+use Rattle.dimacs_records.specs.{Readings.{LineRecord}, Tests.{plain_context_of}}
 use Rattle.dimacs_network.specs.Arcs.{NetworkValue}
-use Rattle.dimacs_instance.specs.MaxFlows.{MaxValue}
-use Rattle.dimacs_instance.specs.declared.summaries.max.MaxSummary.{MaxSummary}
+use Rattle.dimacs_instance.specs.{MaxFlows.{MaxValue}, declared.summaries.max.MaxSummary.{MaxSummary}}
 use Rattle.dimacs_instance.specs.MinFlows.{MinValue, demand_sum, supply_sum}
 use Rattle.dimacs_instance.specs.declared.summaries.min.MinNodes.{MinNodes}
 use Rattle.dimacs_instance.specs.declared.summaries.min.MinSummary.{MinSummary}
 use Rattle.dimacs_instance.specs.declared.summaries.graph.GraphSummary.{GraphSummary}
-use Rattle.dimacs_records.specs.declared.order.Context.{Context}
-use Rattle.dimacs_records.specs.declared.records.Record.{Record}
-use Rattle.dimacs_records.specs.Readings.{LineRecord}
-use Rattle.dimacs_records.specs.Tests.{plain_context_of}
 use Rattle.dimacs_instance.specs.GraphReading.{GraphBegun, graph_begun_records, IsGraphBegun}
 use Rattle.dimacs_instance.specs.declared.summaries.graph.CountedGraph.{CountedGraph}
 

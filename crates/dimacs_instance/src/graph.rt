@@ -1,17 +1,13 @@
 //! Graphs for shortest paths.
 
 ghost use Rattle.std.specs.Prelude.{◌≡◌, ◌≤◌, ◌<◌, ◌^◌, ◌++◌, ◌∷◌, [], ℕ, List, IfOk, OnOk, OnErr, Some, length, option_map, refl, slice_get};
-ghost use Rattle.dimacs_lines.specs.Limits.{most_count, most_nodes, IsNode};
-ghost use Rattle.dimacs_lines.specs.Puts.{Puts};
+ghost use Rattle.dimacs_lines.specs.{Limits.{most_count, most_nodes, IsNode}, Puts.{Puts}};
 ghost use Rattle.dimacs_records.specs.declared.kinds.TextKind.TheVariants as kinds;
-ghost use Rattle.dimacs_records.specs.Readings.{CountsRead};
-ghost use Rattle.dimacs_records.specs.Faults.{Fault};
-ghost use Rattle.dimacs_records.specs.Texts.{Reads};
+ghost use Rattle.dimacs_records.specs.{Readings.{CountsRead}, Faults.{Fault}, Texts.{Reads}};
 ghost use Rattle.dimacs_lines.specs.Lines.{lines};
 ghost use Rattle.dimacs_instance.specs.Graph.{IsGraph, GivesGraph, SpellsGraph, canonical_graph, graph_arc};
-ghost use Rattle.dimacs_network.specs.Arcs.{NetworkValue};
-ghost use Rattle.dimacs_network.specs.KeptArcs.{weight_arc};
 ghost use Rattle.dimacs_instance.specs.GraphReading.{graph_begun_records, plain_context};
+ghost use Rattle.dimacs_network.specs.{Arcs.{NetworkValue}, KeptArcs.{weight_arc}};
 
 use dimacs_lines::{DeviceFault, Memory, Sink, Source};
 use dimacs_network::{

@@ -2,21 +2,14 @@
 
 ghost use Rattle.std.specs.Prelude.{◌≡◌, ◌<◌, ◌^◌, ◌++◌, ◌∷◌, [], ℕ, List, Some, IfOk, false, length, option_map, refl, slice_get, ◌≢◌, ◌≤◌, ◌≤ℤ◌, OnOk, OnErr, pos};
 ghost use Rattle.std.specs.List.{list_any};
-ghost use Rattle.dimacs_lines.specs.Limits.{most_count, most_nodes, IsNode};
-ghost use Rattle.dimacs_lines.specs.Lines.{lines};
-ghost use Rattle.dimacs_lines.specs.Puts.{Puts};
+ghost use Rattle.dimacs_lines.specs.{Limits.{most_count, most_nodes, IsNode}, Lines.{lines}, Puts.{Puts}};
 ghost use Rattle.dimacs_records.specs.declared.kinds.TextKind.TheVariants as kinds;
-ghost use Rattle.dimacs_records.specs.Earlier.{names, is_end_node};
-ghost use Rattle.dimacs_records.specs.Conditions.{lacks_end};
-ghost use Rattle.dimacs_records.specs.Readings.{CountsRead};
-ghost use Rattle.dimacs_records.specs.Faults.{Fault};
-ghost use Rattle.dimacs_records.specs.Texts.{Reads};
+ghost use Rattle.dimacs_records.specs.{Earlier.{names, is_end_node}, Conditions.{lacks_end}, Readings.{CountsRead}};
+ghost use Rattle.dimacs_records.specs.{Faults.{Fault}, Texts.{Reads}};
 ghost use Rattle.dimacs_network.specs.KeptArcs.{capacity_arc};
-ghost use Rattle.dimacs_instance.specs.MaxFlows.{MaxValue, IsMax};
+ghost use Rattle.dimacs_instance.specs.{MaxFlows.{MaxValue, IsMax}, inside.MaxReading.{AreEnds}};
 ghost use Rattle.dimacs_instance.specs.MaxTexts.{GivesMax, SpellsMax, canonical_max, max_arc, nodes_by_id};
-ghost use Rattle.dimacs_instance.specs.MaxReading.{context, end_context, count_of, end_records, max_begun_records, max_node};
-ghost use Rattle.dimacs_instance.specs.MaxReading.{EndsAreDistinct};
-ghost use Rattle.dimacs_instance.specs.inside.MaxReading.{AreEnds};
+ghost use Rattle.dimacs_instance.specs.MaxReading.{context, end_context, count_of, end_records, max_begun_records, max_node, EndsAreDistinct};
 
 use crate::summaries::CountedMax;
 use dimacs_lines::{DeviceFault, Memory, Sink, Source};

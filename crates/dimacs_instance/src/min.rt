@@ -1,20 +1,14 @@
 //! Minimum cost flow instances.
 
 ghost use Rattle.std.specs.Prelude.{◌≡◌, ◌<◌, ◌+◌, ◌≤ℤ◌, ◌<ℤ◌, ◌+ℤ◌, ◌^◌, ◌∷◌, [], ℕ, List, None, Some, pos, IfOk, if◌then◌else◌, length, option_map, refl, slice_get, ◌≤◌, ◌++◌, OnOk, OnErr};
-ghost use Rattle.std.specs.List.{All};
-ghost use Rattle.std.specs.FinMap.{empty};
-ghost use Rattle.dimacs_lines.specs.Limits.{most_nodes, most_count, IsNode};
-ghost use Rattle.dimacs_lines.specs.Lines.{lines};
-ghost use Rattle.dimacs_lines.specs.Puts.{Puts};
+ghost use Rattle.std.specs.{List.{All}, FinMap.{empty}};
+ghost use Rattle.dimacs_lines.specs.{Limits.{most_nodes, most_count, IsNode}, Lines.{lines}, Puts.{Puts}};
 ghost use Rattle.dimacs_records.specs.declared.kinds.TextKind.TheVariants as kinds;
-ghost use Rattle.dimacs_records.specs.declared.records.Record.TheVariants.{MinNode};
-ghost use Rattle.dimacs_records.specs.Readings.{CountsRead};
-ghost use Rattle.dimacs_records.specs.Faults.{Fault};
-ghost use Rattle.dimacs_records.specs.Texts.{Reads};
+ghost use Rattle.dimacs_records.specs.{declared.records.Record.TheVariants.{MinNode}, Readings.{CountsRead}};
+ghost use Rattle.dimacs_records.specs.{Faults.{Fault}, Texts.{Reads}, NodeValues.{is_nonzero}};
 ghost use Rattle.dimacs_network.specs.Arcs.{JoinsNodes};
 ghost use Rattle.dimacs_instance.specs.MinFlows.{MinValue, IsMin, supply_of, positive_part, negative_part, supply_sum, demand_sum, HasBounds, with_supply};
 ghost use Rattle.dimacs_instance.specs.MinTexts.{GivesMin, SpellsMin, canonical_min, min_arc};
-ghost use Rattle.dimacs_records.specs.NodeValues.{is_nonzero};
 ghost use Rattle.dimacs_instance.specs.MinReading.{IsMinBegunBy, plain_context, context, count_of};
 
 use dimacs_lines::{DeviceFault, Memory, OutputBuffer, Sink, Source};

@@ -1,16 +1,10 @@
 //! Queries for distances.
 
-ghost use Rattle.std.specs.Prelude.{◌≡◌, ◌<◌, ℕ, List, Some, IfOk, length, refl, slice_get};
-ghost use Rattle.std.specs.Result.{result_map_both};
-ghost use Rattle.dimacs_lines.specs.Lines.{lines};
-ghost use Rattle.dimacs_lines.specs.OutputBuffers.{Appends};
-ghost use Rattle.dimacs_lines.specs.Puts.{Puts};
+ghost use Rattle.std.specs.{Prelude.{◌≡◌, ◌<◌, ℕ, List, Some, IfOk, length, refl, slice_get}, Result.{result_map_both}};
+ghost use Rattle.dimacs_lines.specs.{Lines.{lines}, OutputBuffers.{Appends}, Puts.{Puts}};
 ghost use Rattle.dimacs_records.specs.declared.kinds.TextKind.TheVariants as kinds;
-ghost use Rattle.dimacs_records.specs.declared.records.Record.TheVariants.{QueriesProblem};
-ghost use Rattle.dimacs_records.specs.Canonical.{canonical_line};
-ghost use Rattle.dimacs_records.specs.Faults.{Fault};
-ghost use Rattle.dimacs_records.specs.Readings.{CountsRead};
-ghost use Rattle.dimacs_records.specs.Texts.{Reads};
+ghost use Rattle.dimacs_records.specs.{declared.records.Record.TheVariants.{QueriesProblem}, Faults.{Fault}};
+ghost use Rattle.dimacs_records.specs.{Canonical.{canonical_line}, Readings.{CountsRead}, Texts.{Reads}};
 ghost use Rattle.dimacs_instance.specs.QueryTexts.{QueriesValue, AreLawful, GivesQueries, SpellsQueries, asked, canonical_queries, kind_asked, query_lines};
 ghost use Rattle.dimacs_instance.specs.QueriesReading.{queries_begun_records, plain_context, are_others, context};
 

@@ -1,17 +1,14 @@
 //! Instances and queries as kinds of text.
 
-ghost use Rattle.std.specs.Prelude.{[], ◌∷◌};
-ghost use Rattle.std.specs.Fmt.{decimal};
+ghost use Rattle.std.specs.{Prelude.{[], ◌∷◌}, Fmt.{decimal}};
 ghost use Rattle.dimacs_lines.specs.Puts.{Puts};
 ghost use Rattle.dimacs_records.specs.declared.kinds.TextKind.TheVariants as kinds;
 ghost use Rattle.dimacs_records.specs.Printed.{shown};
-ghost use Rattle.dimacs_instance.specs.MaxFlows.{MaxValue};
-ghost use Rattle.dimacs_instance.specs.Graph.{SpellsGraph, canonical_graph, shown_graph};
-ghost use Rattle.dimacs_network.specs.Arcs.{NetworkValue};
-ghost use Rattle.dimacs_instance.specs.MaxTexts.{SpellsMax, canonical_max, shown_max};
-ghost use Rattle.dimacs_instance.specs.MinFlows.{MinValue};
+ghost use Rattle.dimacs_instance.specs.{MaxFlows.{MaxValue}, Graph.{SpellsGraph, canonical_graph, shown_graph}};
+ghost use Rattle.dimacs_instance.specs.{MaxTexts.{SpellsMax, canonical_max, shown_max}, MinFlows.{MinValue}};
 ghost use Rattle.dimacs_instance.specs.MinTexts.{SpellsMin, canonical_min, shown_min};
 ghost use Rattle.dimacs_instance.specs.QueryTexts.{AreLawful, QueriesValue, SpellsQueries, asked, canonical_queries, shown_queries};
+ghost use Rattle.dimacs_network.specs.Arcs.{NetworkValue};
 
 use crate::graph::{Graph, GraphBuilder, write_graph};
 use crate::max::{MaxBuilder, MaxInstance, write_max};

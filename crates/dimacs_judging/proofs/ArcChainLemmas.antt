@@ -1,13 +1,10 @@
 -- Arcs in chains, and the first of them between two nodes.
 use Rattle.std.proofs.Common.{◌≡◌, ◌≢◌, inl, inr, ℕ, zero, suc, ◌+◌, ◌-◌, ◌*◌, ◌/◌, ◌^◌, ◌<◌, ◌≤◌, Bool, true, false, List, [], ◌∷◌, ◌++◌, length, take, map, get_or, set, count_by, bit_and, refl, sym, ap, ap₂, subst, ◌∙◌, arith}
-use Rattle.std.proofs.lemmas.Bool.{cases_Bool, cases_order}
-use Rattle.std.proofs.lemmas.Option.{slice_get-get_or}
+use Rattle.std.proofs.{lemmas.Bool.{cases_Bool, cases_order}, lemmas.Option.{slice_get-get_or}}
 use Rattle.std.proofs.lemmas.List.{length-set, get_or-map, get_or-set_same, get_or-set_other}
 use Rattle.std.proofs.lemmas.List.Sums.{count_by_more_no}
-use Rattle.dimacs_network.specs.declared.network.ArcView.{ArcView}
-use Rattle.dimacs_network.specs.declared.adjacency_lists.Side.TheVariants.{Tail}
-use Rattle.dimacs_network.specs.Arcs.{joins, no_arc, arc_at}
-use Rattle.dimacs_network.specs.AdjacencyLists.{AreLinked, IsLast, end_at}
+use Rattle.dimacs_network.specs.{declared.network.ArcView.{ArcView}, declared.adjacency_lists.Side.TheVariants.{Tail}}
+use Rattle.dimacs_network.specs.{Arcs.{joins, no_arc, arc_at}, AdjacencyLists.{AreLinked, IsLast, end_at}}
 use Rattle.dimacs_network.proofs.LinkLemmas.{linked_more}
 use Rattle.dimacs_judging.specs.inside.ArcChains.{IsFirstBetween, chain_of, in_chain}
 use Rattle.dimacs_judging.proofs.SupportLemmas.{ends_joined}

@@ -2,16 +2,11 @@
 use Rattle.std.proofs.Common.{◌≡◌, ◌∙◌, ap, get_or, refl, inl, inr, ℕ, suc, zero, ◌+◌, ◌<◌, List, [], ◌∷◌, length, take, add-one, arith, Err, Option, ℤ}
 use Rattle.dimacs_network.specs.declared.network.ArcView.{ArcView}
 use Rattle.dimacs_records.specs.declared.reasons.Reason.{Reason}
-use Rattle.dimacs_judging.specs.declared.verdict.JudgeError.{JudgeError}
-use Rattle.dimacs_judging.specs.declared.verdict.JudgeError.TheVariants.{Refused, Memory}
-use Rattle.dimacs_judging.specs.declared.verdict.Where.{Where}
-use Rattle.dimacs_claims.specs.declared.block.Label.{Label}
-use Rattle.dimacs_claims.specs.Labels.{BlockValue, label, label_at}
-use Rattle.dimacs_judging.specs.inside.Labels.{block_at}
-use Rattle.dimacs_judging.specs.CertificateTests.{label_rows, weight_row}
-use Rattle.dimacs_judging.specs.inside.CertificateTests.{block_rows, distance_rows}
-use Rattle.dimacs_judging.specs.Tests.{AllClear, Clear, First}
-use Rattle.dimacs_judging.specs.inside.Tests.{TestsAll}
+use Rattle.dimacs_judging.specs.{declared.verdict.JudgeError.{JudgeError}, declared.verdict.Where.{Where}}
+use Rattle.dimacs_judging.specs.{declared.verdict.JudgeError.TheVariants.{Refused, Memory}, inside.Labels.{block_at}}
+use Rattle.dimacs_judging.specs.{CertificateTests.{label_rows, weight_row}, Tests.{AllClear, Clear, First}}
+use Rattle.dimacs_judging.specs.{inside.CertificateTests.{block_rows, distance_rows}, inside.Tests.{TestsAll}}
+use Rattle.dimacs_claims.specs.{declared.block.Label.{Label}, Labels.{BlockValue, label, label_at}}
 
 blocks_more_suc : (arcs : List ArcView) (blocks : List BlockValue) (k : ℕ) → k < length blocks → AllClear (label_rows arcs (take k blocks)) → AllClear (block_rows arcs (block_at blocks k)) → AllClear (label_rows arcs (take (suc k) blocks))
 blocks_more_suc arcs [] k inside before here = absurd (omega arith)

@@ -1,20 +1,15 @@
 -- The numbers of blocks, by source.
 use Rattle.std.proofs.Common.{◌≡◌, inl, inr, ℕ, ◌+◌, ◌<◌, ◌==◌, ◌↔◌, IsTrue, Bool, true, false, List, ◌∷◌, [], ◌++◌, length, get_or, take, drop, not, cond, Option, Some, None, is_some, refl, sym, ◌∙◌, ap, arith}
-use Rattle.std.specs.List.{find, position, position_or_len, slice_get}
-use Rattle.std.specs.Option.{option_and_then}
-use Rattle.std.specs.Ordering.{nat_cmp}
-use Rattle.std.specs.FinMap.{FinMap, insert}
 use Rattle.std.proofs.lemmas.Bool.{lt-ltb, le-ltb, cases_lt, cases_eq, eq-eqb, ne_eqb, eqb-true, cond-false, cond-true}
 use Rattle.std.proofs.lemmas.List.{get_or_default, get_or_append_left, get_or_at, length-take-le, take_more, drop_more, take-append-drop, length_push}
-use Rattle.std.proofs.lemmas.List.Elements.{Contains-get_or}
-use Rattle.std.proofs.lemmas.List.Folds.{find_at, position_or_len_push}
-use Rattle.std.proofs.lemmas.List.Quantifiers.{position-Some}
+use Rattle.std.proofs.{lemmas.List.Elements.{Contains-get_or}, lemmas.List.Folds.{find_at, position_or_len_push}}
+use Rattle.std.proofs.{lemmas.List.Quantifiers.{position-Some}, lemmas.Option.{slice_get_past, slice_get-get_or}}
 use Rattle.std.proofs.lemmas.List.Sums.{position_or_len_is, fails_before_first, prefix_len-le-length}
-use Rattle.std.proofs.lemmas.Option.{slice_get_past, slice_get-get_or}
+use Rattle.std.specs.{List.{find, position, position_or_len, slice_get}, Option.{option_and_then}, Ordering.{nat_cmp}}
+use Rattle.std.specs.FinMap.{FinMap, insert}
 use Rattle.dimacs_network.proofs.Nodes.{get-insert_same, get-insert_other}
 use Rattle.dimacs_claims.specs.Labels.{BlockValue, EachAfter, IsNewSource, label_at, has_source}
-use Rattle.dimacs_judging.specs.Answers.{block_of, distance_from}
-use Rattle.dimacs_judging.specs.QueryTests.{HasBlock, HasFullBlock}
+use Rattle.dimacs_judging.specs.{Answers.{block_of, distance_from}, QueryTests.{HasBlock, HasFullBlock}}
 use Rattle.dimacs_judging.specs.inside.QueryTests.{AreNumbers, radius_from, radius_in}
 use Rattle.dimacs_claims.proofs.BuilderLemmas.{unlabelled}
 

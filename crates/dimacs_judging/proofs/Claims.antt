@@ -1,14 +1,11 @@
 -- The flow of entries, and the tests of the entries.
 use Rattle.std.proofs.Common.{◌≡◌, inl, inr, ℕ, ◌<◌, List, length, take, count_by, ℤ, refl, sym, ap, ◌∙◌, arith}
-use Rattle.std.proofs.lemmas.Bool.{cases_lt}
-use Rattle.std.proofs.lemmas.List.FromFn.{length-map-range_with_len}
-use Rattle.dimacs_network.specs.declared.network.ArcView.{ArcView}
-use Rattle.dimacs_network.specs.Arcs.{joins}
+use Rattle.std.proofs.{lemmas.Bool.{cases_lt}, lemmas.List.FromFn.{length-map-range_with_len}}
+use Rattle.dimacs_network.specs.{declared.network.ArcView.{ArcView}, Arcs.{joins}}
 use Rattle.dimacs_claims.specs.declared.solution.Entry.{Entry}
 use Rattle.dimacs_records.specs.declared.reasons.Reason.{Reason}
 use Rattle.dimacs_records.specs.declared.reasons.Reason.TheVariants.{UnknownArc, ArcTwice}
-use Rattle.dimacs_judging.specs.declared.verdict.Where.{Where}
-use Rattle.dimacs_judging.specs.declared.verdict.Where.TheVariants.{Solution}
+use Rattle.dimacs_judging.specs.{declared.verdict.Where.{Where}, declared.verdict.Where.TheVariants.{Solution}}
 use Rattle.dimacs_judging.specs.Claims.{is_between, claimed_of, claimed_flow, HasArc, Carries, EntryFails, entry_at, entry_row}
 use Rattle.dimacs_judging.specs.Tests.{Clear, FirstOfRow}
 use Rattle.dimacs_judging.proofs.Firsts.{OneWay}

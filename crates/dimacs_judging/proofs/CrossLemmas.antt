@@ -1,12 +1,10 @@
 -- What can flow out of a set of nodes.
 use Rattle.std.proofs.Common.{◌≡◌, ℕ, ◌+◌, ◌-◌, ◌*◌, ◌^◌, ◌≤◌, suc, zero, Bool, true, false, List, take, slice_get, Some, ℤ, ◌+ℤ◌, ◌-ℤ◌, refl, ◌∙◌, arith, w64, SFits, to_z, of_z}
-use Rattle.std.specs.Int.{w128}
 use Rattle.std.proofs.lemmas.Int.{ints, to_z-of_z}
+use Rattle.std.specs.Int.{w128}
 use Rattle.dimacs_lines.specs.Limits.{most_nodes}
 use Rattle.dimacs_network.specs.declared.network.ArcView.{ArcView}
-use Rattle.dimacs_judging.specs.inside.Ranges.{IsOfSize}
-use Rattle.dimacs_judging.specs.Flows.{when}
-use Rattle.dimacs_judging.specs.Cuts.{leaves, enters}
+use Rattle.dimacs_judging.specs.{inside.Ranges.{IsOfSize}, Flows.{when}, Cuts.{leaves, enters}}
 use Rattle.dimacs_judging.specs.ViolatedSets.{sum_where, supply_in}
 use Rattle.dimacs_judging.proofs.StepLemmas.{sum_where_more}
 

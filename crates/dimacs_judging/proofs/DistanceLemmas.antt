@@ -1,8 +1,7 @@
 -- Comparing differences of distances in numbers of a fixed width.
 use Rattle.std.proofs.Common.{IsTrue, ◌≡◌, ◌↔◌, ℤ, ◌+ℤ◌, ◌-ℤ◌, ◌<ℤ◌, SFits, of_z, to_z, eqb, eqb-true, eq-eqb, sym, ap, ◌∙◌, arith}
-use Rattle.std.specs.Prelude.{int_lt}
-use Rattle.std.specs.Int.{Width}
 use Rattle.std.proofs.lemmas.Int.{ints, to_z-of_z}
+use Rattle.std.specs.{Prelude.{int_lt}, Int.{Width}}
 
 -- two numbers are equal if their bits are
 same_bits : (w : Width) (x y : ℤ) → SFits w x → SFits w y → of_z w x ≡ of_z w y → x ≡ y

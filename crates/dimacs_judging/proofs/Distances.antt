@@ -1,13 +1,12 @@
 -- Labels that pass are distances over all walks.
 use Rattle.std.proofs.Common.{◌≡◌, ◌≢◌, ◌⊎◌, inl, inr, ℕ, ◌==◌, ℤ, pos, ◌+ℤ◌, ◌≤ℤ◌, ◌<ℤ◌, Bool, true, false, cond, List, [], ◌∷◌, ◌++◌, All, Contains, Option, Some, None, refl, sym, subst, eq-eqb, ◌∙◌, arith}
-use Rattle.std.proofs.lemmas.Int.{ints, by_lt_z}
-use Rattle.std.proofs.lemmas.List.{append_assoc, append-nil}
+use Rattle.std.proofs.{lemmas.Int.{ints, by_lt_z}, lemmas.List.{append_assoc, append-nil}}
 use Rattle.std.proofs.lemmas.List.Elements.{Contains-append_right, All-contains, All-head, All-tail, All-nil, All-cons, All-weaker}
 use Rattle.std.proofs.lemmas.Bool.Decides.{eqb_tells}
 use Rattle.dimacs_network.specs.declared.network.ArcView.{ArcView}
 use Rattle.dimacs_claims.specs.declared.block.Label.{Label}
-use Rattle.dimacs_judging.specs.Walks.{IsWalk, weight, Dist, IsDistance}
 use Rattle.dimacs_claims.specs.Labels.{BlockValue, IsWithinRadius, distance_in, label, PredsAreEarlier}
+use Rattle.dimacs_judging.specs.Walks.{IsWalk, weight, Dist, IsDistance}
 use Rattle.dimacs_judging.specs.Labels.{HasTightArc, HasWeights, IsReached, IsRelaxed, LabelsOk, StaysNear}
 
 -- ---- no walk weighs less

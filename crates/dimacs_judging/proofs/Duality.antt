@@ -2,17 +2,12 @@
 use Rattle.std.proofs.Common.{◌≡◌, ◌≢◌, inl, inr, ℕ, ℤ, pos, ◌+ℤ◌, ◌-ℤ◌, ◌*ℤ◌, ◌≤ℤ◌, ◌<ℤ◌, Bool, true, false, true≢false, not, ◌&&◌, List, [], ◌∷◌, refl, sym, ap, ◌∙◌, arith}
 use Rattle.std.proofs.lemmas.Int.{ints, by_lt_z}
 use Rattle.std.specs.List.{All, AllZip}
-use Rattle.dimacs_network.specs.declared.network.ArcView.{ArcView}
-use Rattle.dimacs_network.specs.Arcs.{JoinsNodes}
-use Rattle.dimacs_judging.specs.Flows.{sum_arcs, sum_nodes, when, net}
-use Rattle.dimacs_instance.specs.MaxFlows.{MaxValue}
-use Rattle.dimacs_lines.specs.Limits.{IsNode}
-use Rattle.dimacs_instance.specs.MinFlows.{MinValue, supply_of}
-use Rattle.dimacs_judging.specs.Feasible.{FeasibleMax, FeasibleMin, value}
-use Rattle.dimacs_judging.specs.Optimum.{Maximum, Least, NoFlow}
-use Rattle.dimacs_judging.specs.Cuts.{CutTight}
-use Rattle.dimacs_judging.specs.Potentials.{reduced_cost, Slack}
+use Rattle.dimacs_network.specs.{declared.network.ArcView.{ArcView}, Arcs.{JoinsNodes}}
+use Rattle.dimacs_judging.specs.{Flows.{sum_arcs, sum_nodes, when, net}, Feasible.{FeasibleMax, FeasibleMin, value}}
+use Rattle.dimacs_judging.specs.{Optimum.{Maximum, Least, NoFlow}, Cuts.{CutTight}, Potentials.{reduced_cost, Slack}}
 use Rattle.dimacs_judging.specs.ViolatedSets.{supply_in, most_out, least_out, Violated}
+use Rattle.dimacs_instance.specs.{MaxFlows.{MaxValue}, MinFlows.{MinValue, supply_of}}
+use Rattle.dimacs_lines.specs.Limits.{IsNode}
 use Rattle.dimacs_judging.proofs.Products.{mul_add, mul_sub, mul_comm, mul_le, mul_ge}
 use Rattle.dimacs_judging.proofs.Sums.{sum_arcs-add, sum_arcs-same, sum_arcs-le, sum_nodes-same, sum_nodes-one, sums_exchange}
 

@@ -1,21 +1,16 @@
 -- One more entry: the claimed flow, and the tests.
 use Rattle.std.proofs.Common.{◌≡◌, ◌≢◌, inl, inr, ℕ, ◌+◌, ◌<◌, true, false, ◌==◌, List, [], ◌∷◌, ◌++◌, length, take, get_or, set, replicate, count_by, ℤ, pos, Some, refl, sym, ap, ap₂, ◌∙◌, arith}
 use Rattle.std.proofs.lemmas.Bool.{cases_Bool, cases_eq, cases_lt, cases_order, and_from, and_parts, eqb-true, eq-eqb}
-use Rattle.std.proofs.lemmas.Option.{slice_get-get_or}
+use Rattle.std.proofs.{lemmas.Option.{slice_get-get_or}, lemmas.List.Elements.{filter-append}}
 use Rattle.std.proofs.lemmas.List.{append-nil, length-set, length-replicate, length_push, take-append-le, take_all, get_or-replicate, get_or_append_left, get_or_past, get_or_push, get_or-set_same, get_or-set_other}
-use Rattle.std.proofs.lemmas.List.Elements.{filter-append}
-use Rattle.std.proofs.lemmas.List.FromFn.{fill_by_all, get_or-map-range_with_len}
-use Rattle.std.proofs.lemmas.List.Sums.{length-filter}
-use Rattle.dimacs_network.specs.declared.network.ArcView.{ArcView}
-use Rattle.dimacs_network.specs.Arcs.{joins, IsKthBetween, no_arc, arc_at}
+use Rattle.std.proofs.{lemmas.List.FromFn.{fill_by_all, get_or-map-range_with_len}, lemmas.List.Sums.{length-filter}}
+use Rattle.dimacs_network.specs.{declared.network.ArcView.{ArcView}, Arcs.{joins, IsKthBetween, no_arc, arc_at}}
 use Rattle.dimacs_claims.specs.declared.solution.Entry.{Entry}
 use Rattle.dimacs_records.specs.declared.reasons.Reason.{Reason}
-use Rattle.dimacs_judging.specs.declared.verdict.Where.{Where}
-use Rattle.dimacs_judging.specs.declared.verdict.Where.TheVariants.{Solution}
+use Rattle.dimacs_judging.specs.{declared.verdict.Where.{Where}, declared.verdict.Where.TheVariants.{Solution}}
 use Rattle.dimacs_judging.specs.Claims.{is_between, no_entry, entry_at, entries_between, parallels_before, claimed_of, claimed_flow, EntryFails, entry_row}
 use Rattle.dimacs_judging.specs.Tests.{Clear, FirstOfRow}
-use Rattle.dimacs_judging.proofs.Claims.{length-claimed_flow}
-use Rattle.dimacs_judging.proofs.SupportLemmas.{ends_joined, counted_before}
+use Rattle.dimacs_judging.proofs.{Claims.{length-claimed_flow}, SupportLemmas.{ends_joined, counted_before}}
 use Rattle.dimacs_records.proofs.CountLemmas.{count_by-append, count_yes, count_no}
 
 -- ---- ends

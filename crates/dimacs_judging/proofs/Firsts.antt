@@ -1,10 +1,8 @@
 -- At most one test is the first that fails, and none if all pass.
-use Rattle.std.proofs.Common.{◌≡◌, inl, inr, ℕ, List, [], ◌∷◌, subst, sym, ◌∙◌}
-use Rattle.std.proofs.lemmas.Bool.{cases_order}
+use Rattle.std.proofs.{Common.{◌≡◌, inl, inr, ℕ, List, [], ◌∷◌, subst, sym, ◌∙◌}, lemmas.Bool.{cases_order}}
 use Rattle.dimacs_network.specs.declared.network.ArcView.{ArcView}
 use Rattle.dimacs_records.specs.declared.reasons.Reason.{Reason}
-use Rattle.dimacs_judging.specs.declared.verdict.Where.{Where}
-use Rattle.dimacs_judging.specs.Tests.{Row, AllClear, FirstOfRow, First}
+use Rattle.dimacs_judging.specs.{declared.verdict.Where.{Where}, Tests.{Row, AllClear, FirstOfRow, First}}
 use Rattle.dimacs_judging.specs.Rows.{arc_row, node_row, one_test}
 
 -- each test of the row fails in only one way

@@ -1,28 +1,19 @@
 -- Flows that pass their tests, and the first test that fails.
 use Rattle.std.proofs.Common.{◌≡◌, ◌++◌, ℕ, Bool, List, [], ◌∷◌, Result, ℤ, length}
 use Rattle.std.specs.Prelude.{IsErrAnd}
-use Rattle.dimacs_instance.specs.MaxFlows.{MaxValue, IsMax}
-use Rattle.dimacs_instance.specs.MinFlows.{MinValue, IsMin}
+use Rattle.dimacs_instance.specs.{MaxFlows.{MaxValue, IsMax}, MinFlows.{MinValue, IsMin}}
 use Rattle.dimacs_records.specs.declared.reasons.Reason.{Reason}
-use Rattle.dimacs_judging.specs.declared.verdict.JudgeError.{JudgeError}
-use Rattle.dimacs_judging.specs.declared.verdict.JudgeError.TheVariants.{Refused}
-use Rattle.dimacs_judging.specs.declared.verdict.Verdict.{Verdict}
-use Rattle.dimacs_judging.specs.declared.verdict.Verdict.TheVariants.{Max, Min}
-use Rattle.dimacs_judging.specs.declared.verdict.Where.{Where}
-use Rattle.dimacs_judging.specs.CertificateTests.{cut_rows, slack_row}
-use Rattle.dimacs_judging.specs.Cuts.{CutTight}
-use Rattle.dimacs_judging.specs.Feasible.{value}
+use Rattle.dimacs_judging.specs.{declared.verdict.JudgeError.{JudgeError}, declared.verdict.Verdict.{Verdict}}
+use Rattle.dimacs_judging.specs.{declared.verdict.JudgeError.TheVariants.{Refused}, declared.verdict.Where.{Where}}
+use Rattle.dimacs_judging.specs.{declared.verdict.Verdict.TheVariants.{Max, Min}, Cuts.{CutTight}, Feasible.{value}}
+use Rattle.dimacs_judging.specs.{CertificateTests.{cut_rows, slack_row}, Flows.{cost}, Potentials.{Slack}}
 use Rattle.dimacs_judging.specs.FlowJudges.{PassesMaxFlow, PassesMinFlow, ShowsMaxFlow, ShowsMinFlow, max_flow_rows, min_flow_rows}
-use Rattle.dimacs_judging.specs.Flows.{cost}
 use Rattle.dimacs_judging.specs.FlowTests.{feasible_max_rows, feasible_min_rows, cost_row, max_demand, min_demand}
-use Rattle.dimacs_judging.specs.Potentials.{Slack}
 use Rattle.dimacs_judging.specs.Tests.{Row, AllClear, First, Judges, Refuses}
-use Rattle.dimacs_judging.proofs.Duality.{tight_is_maximum, slack_is_least}
-use Rattle.dimacs_judging.proofs.Firsts.{AllOneWay}
+use Rattle.dimacs_judging.proofs.{Duality.{tight_is_maximum, slack_is_least}, Firsts.{AllOneWay}}
 use Rattle.dimacs_judging.proofs.Passing.{costs_clear, costs_wide, feasible_max_clear, feasible_max_holds, feasible_min_clear, feasible_min_holds, slack_clear, tight_cut_clear}
 use Rattle.dimacs_judging.proofs.Reasons.{bound_one_way, balance_one_way, cost_one_way, cut_one_way, slack_one_way}
-use Rattle.dimacs_judging.proofs.RowLists.{all_clear-append, first_after}
-use Rattle.dimacs_judging.proofs.Settling.{error_judges, refused_in_front}
+use Rattle.dimacs_judging.proofs.{RowLists.{all_clear-append, first_after}, Settling.{error_judges, refused_in_front}}
 
 -- ---- a flow and a cut
 module _ (i : MaxValue) (law : IsMax i) (x : List ℤ) (set : ℕ → Bool) where

@@ -3,17 +3,14 @@ use Rattle.std.proofs.Common.{◌≡◌, Result}
 use Rattle.std.specs.Prelude.{IsErrAnd}
 use Rattle.dimacs_claims.specs.Cuts.{CutValue}
 use Rattle.dimacs_instance.specs.MinFlows.{MinValue}
-use Rattle.dimacs_records.specs.declared.reasons.Reason.TheVariants as reasons
-use Rattle.dimacs_judging.specs.declared.verdict.JudgeError.{JudgeError}
-use Rattle.dimacs_judging.specs.declared.verdict.Verdict.{Verdict}
-use Rattle.dimacs_judging.specs.declared.verdict.Verdict.TheVariants.{Infeasible}
-use Rattle.dimacs_judging.specs.declared.verdict.Where.TheVariants as places
-use Rattle.dimacs_judging.specs.Cuts.{members}
+use Rattle.dimacs_judging.specs.{declared.verdict.JudgeError.{JudgeError}, declared.verdict.Verdict.{Verdict}}
+use Rattle.dimacs_judging.specs.{declared.verdict.Verdict.TheVariants.{Infeasible}, Cuts.{members}}
 use Rattle.dimacs_judging.specs.InfeasibleJudge.{PassesInfeasible, ShowsNoFlow, infeasible_rows}
 use Rattle.dimacs_judging.specs.Tests.{AllClear, First, Judges, Refuses}
-use Rattle.dimacs_judging.proofs.Firsts.{AllOneWay, one_test_one_way}
+use Rattle.dimacs_judging.proofs.{Firsts.{AllOneWay, one_test_one_way}, Settling.{error_judges}}
 use Rattle.dimacs_judging.proofs.Passing.{nodes_are, nodes_clear, set_violated, violated_clear}
-use Rattle.dimacs_judging.proofs.Settling.{error_judges}
+use Rattle.dimacs_records.specs.declared.reasons.Reason.TheVariants as reasons
+use Rattle.dimacs_judging.specs.declared.verdict.Where.TheVariants as places
 
 module _ (i : MinValue) (c : CutValue) where
   infeasible_one_way : AllOneWay (infeasible_rows i c)

@@ -1,15 +1,10 @@
 -- A block's labels in one piece, for a yes.
 use Rattle.std.proofs.Common.{◌≡◌, ◌≢◌, inl, inr, ℕ, ◌^◌, ◌-◌, ◌≤◌, Bool, true, false, Some, None, ℤ, pos, ◌+ℤ◌, ◌<ℤ◌, ◌≤ℤ◌, arith}
-use Rattle.std.specs.Int.{from_bool}
-use Rattle.std.specs.Prelude.{int_lt}
-use Rattle.std.proofs.lemmas.Bool.{cases_Bool, cases_eq}
-use Rattle.std.proofs.lemmas.Int.{ints}
-use Rattle.dimacs_network.specs.declared.dense_table.DenseTable.{DenseTable}
-use Rattle.dimacs_network.specs.DenseTables.{value_at}
-use Rattle.dimacs_judging.specs.Distances.{below}
-use Rattle.dimacs_judging.specs.declared.node_label.NodeLabel.{NodeLabel}
-use Rattle.dimacs_judging.specs.inside.Distances.{Improves}
-use Rattle.dimacs_judging.specs.inside.LabelsAtOnce.{AreSmall, IsSmallOrNone}
+use Rattle.std.proofs.{lemmas.Bool.{cases_Bool, cases_eq}, lemmas.Int.{ints}}
+use Rattle.std.specs.{Int.{from_bool}, Prelude.{int_lt}}
+use Rattle.dimacs_network.specs.{declared.dense_table.DenseTable.{DenseTable}, DenseTables.{value_at}}
+use Rattle.dimacs_judging.specs.{Distances.{below}, declared.node_label.NodeLabel.{NodeLabel}}
+use Rattle.dimacs_judging.specs.{inside.Distances.{Improves}, inside.LabelsAtOnce.{AreSmall, IsSmallOrNone}}
 
 -- ---- the distance in a number
 pub below_some : (end d a : ℤ) → below end d ≡ Some a → (d ≡ a) × (d <ℤ end)

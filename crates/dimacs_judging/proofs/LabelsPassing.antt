@@ -1,24 +1,18 @@
 -- Labels whose tests all pass.
 use Rattle.std.proofs.Common.{◌≡◌, ◌≢◌, ◌⊎◌, inl, inr, ℕ, suc, zero, ◌+◌, ◌<◌, List, [], ◌∷◌, All, Contains, length, get_or, Option, Some, None, Result, Ok, Err, IfSome, IsSome, ℤ, pos, ◌+ℤ◌, ◌≤ℤ◌, ◌<ℤ◌, refl, sym, ap, true, false, is_some, subst, ◌∙◌, arith}
-use Rattle.std.specs.Int.Signed.{<ℤ_irrefl}
-use Rattle.std.specs.Result.{OnOk}
-use Rattle.std.proofs.lemmas.Int.{ints, by_lt_z}
-use Rattle.std.proofs.lemmas.Bool.Decides.{eqb_tells}
+use Rattle.std.proofs.{lemmas.Int.{ints, by_lt_z}, lemmas.Bool.Decides.{eqb_tells}}
 use Rattle.std.proofs.lemmas.List.Elements.{All-nil, All-cons, All-head, All-tail, All-contains, Contains-get_or, Contains-append_right, Contains-append_cases}
-use Rattle.dimacs_network.specs.declared.network.ArcView.{ArcView}
-use Rattle.dimacs_records.specs.Ranges.{IsRadius}
-use Rattle.dimacs_records.specs.declared.reasons.Reason.{Reason}
-use Rattle.dimacs_records.specs.declared.reasons.Reason.TheVariants as reasons
+use Rattle.std.specs.{Int.Signed.{<ℤ_irrefl}, Result.{OnOk}}
+use Rattle.dimacs_network.specs.{declared.network.ArcView.{ArcView}, Arcs.{no_arc, arc_at}}
+use Rattle.dimacs_records.specs.{Ranges.{IsRadius}, declared.reasons.Reason.{Reason}}
 use Rattle.dimacs_claims.specs.declared.block.Label.{Label}
-use Rattle.dimacs_judging.specs.declared.verdict.Where.{Where}
-use Rattle.dimacs_judging.specs.declared.verdict.Where.TheVariants as places
 use Rattle.dimacs_claims.specs.Labels.{BlockValue, LabelsValue, AreLabels, IsBlock, IsWithinRadius, label, no_label}
+use Rattle.dimacs_judging.specs.{declared.verdict.Where.{Where}, Tests.{Clear, AllClear}, inside.Tests.{TestsRows}}
 use Rattle.dimacs_judging.specs.Labels.{HasArcOfWeight, HasTightArc, HasWeights, IsReached, IsRelaxed, LabelsOk, AreDistances, StaysNear}
-use Rattle.dimacs_judging.specs.Tests.{Clear, AllClear}
-use Rattle.dimacs_judging.specs.inside.Tests.{TestsRows}
-use Rattle.dimacs_network.specs.Arcs.{no_arc, arc_at}
 use Rattle.dimacs_judging.specs.CertificateTests.{support_row, RelaxFails, relax_row, label_rows, weight_row}
 use Rattle.dimacs_judging.proofs.Distances.{labels_are_distances}
+use Rattle.dimacs_records.specs.declared.reasons.Reason.TheVariants as reasons
+use Rattle.dimacs_judging.specs.declared.verdict.Where.TheVariants as places
 
 all_from : {A : Type 0} (P : A → Type 0) (xs : List A) (d : A) → ((k : ℕ) → k < length xs → P (get_or xs k d)) → All P xs
 all_from P [] d each = All-nil P

@@ -1,30 +1,20 @@
 -- The arcs that leave labelled nodes.
 use Rattle.std.proofs.Common.{◌≡◌, inl, inr, false, ℕ, ◌+◌, ◌<◌, ◌≤◌, List, length, get_or, slice_get, Option, Some, None, ℤ, ◌+ℤ◌, ◌<ℤ◌, ◌≤ℤ◌, refl, sym, ap, subst, ◌∙◌, arith}
-use Rattle.std.proofs.lemmas.Int.{ints, by_lt_z}
-use Rattle.std.proofs.lemmas.Bool.{cases_lt, cases_order}
+use Rattle.std.proofs.{lemmas.Int.{ints, by_lt_z}, lemmas.Bool.{cases_lt, cases_order}}
 use Rattle.std.proofs.lemmas.List.{get_or_default, length-map}
-use Rattle.std.specs.Option.{is_some}
-use Rattle.std.specs.Result.{is_err, result_err}
-use Rattle.std.specs.Prelude.{Result, Ok, Err}
-use Rattle.dimacs_records.specs.declared.reasons.Reason.{Reason}
-use Rattle.dimacs_records.specs.declared.reasons.Reason.TheVariants.{NotShortest}
-use Rattle.dimacs_network.specs.declared.network.ArcView.{ArcView}
-use Rattle.dimacs_network.specs.declared.adjacency_lists.Side.TheVariants.{Tail}
-use Rattle.dimacs_network.specs.AdjacencyLists.{IsLast}
+use Rattle.std.specs.{Option.{is_some}, Result.{is_err, result_err}, Prelude.{Result, Ok, Err}}
+use Rattle.dimacs_records.specs.{declared.reasons.Reason.{Reason}, declared.reasons.Reason.TheVariants.{NotShortest}}
+use Rattle.dimacs_network.specs.{declared.network.ArcView.{ArcView}, declared.adjacency_lists.Side.TheVariants.{Tail}}
+use Rattle.dimacs_network.specs.{AdjacencyLists.{IsLast}, Arcs.{arc_at}}
 use Rattle.dimacs_claims.specs.declared.block.Label.{Label}
 use Rattle.dimacs_claims.specs.Labels.{BlockValue, IsBlock, IsWithinRadius, label, no_label}
 use Rattle.dimacs_claims.proofs.BlockLemmas.{has_pred}
-use Rattle.dimacs_judging.specs.CertificateTests.{RelaxFails, relax_row}
-use Rattle.dimacs_judging.specs.LightestArcs.{AreCovering, Covers, WeightsFall, arcs_in}
-use Rattle.dimacs_judging.specs.inside.Leaving.{AreRelaxedFrom, IsRelaxedBy}
+use Rattle.dimacs_judging.specs.{CertificateTests.{RelaxFails, relax_row}, inside.Leaving.{AreRelaxedFrom, IsRelaxedBy}}
+use Rattle.dimacs_judging.specs.{LightestArcs.{AreCovering, Covers, WeightsFall, arcs_in}, Tests.{Clear}}
 use Rattle.dimacs_judging.specs.inside.NodeLabels.{AreSupported, HasLabels, NodeEntry, RelaxesArc}
-use Rattle.dimacs_network.specs.Arcs.{arc_at}
-use Rattle.dimacs_judging.specs.Tests.{Clear}
 use Rattle.dimacs_judging.specs.inside.Tests.{NamesReason}
-use Rattle.dimacs_judging.proofs.Distances.{near_label}
-use Rattle.dimacs_judging.proofs.LabelsPassing.{stays_near}
+use Rattle.dimacs_judging.proofs.{Distances.{near_label}, LabelsPassing.{stays_near}, LeastLemmas.{at_place}}
 use Rattle.dimacs_judging.proofs.NodeLabelLemmas.{labels_still, labels_this, some_tight_for}
-use Rattle.dimacs_judging.proofs.LeastLemmas.{at_place}
 
 -- ---- one arc
 near_less : (radius : Option ℤ) (x y : ℤ) → x ≤ℤ y → IsWithinRadius radius y → IsWithinRadius radius x

@@ -1,14 +1,11 @@
 -- Tests of the nodes of a list, node by node.
 use Rattle.std.proofs.Common.{◌≡◌, ℕ, zero, suc, ◌+◌, ◌*◌, ◌<◌, ◌≤◌, List, [], ◌∷◌, length, get_or, refl, arith, below_more}
-use Rattle.std.specs.List.{flat_map}
 use Rattle.std.proofs.lemmas.List.{length-map}
-use Rattle.dimacs_records.specs.declared.reasons.Reason.{Reason}
-use Rattle.dimacs_records.specs.declared.records.Record.TheVariants.{SourceQuery}
+use Rattle.std.specs.List.{flat_map}
+use Rattle.dimacs_records.specs.{declared.reasons.Reason.{Reason}, declared.records.Record.TheVariants.{SourceQuery}}
 use Rattle.dimacs_instance.specs.QueryTexts.{QueriesValue, Sources, Pairs, pair_query, query_lines}
-use Rattle.dimacs_judging.specs.declared.verdict.Where.{Where}
-use Rattle.dimacs_judging.specs.declared.verdict.Where.TheVariants.{Node}
-use Rattle.dimacs_judging.specs.QueryTests.{listed_row, sources_asked}
-use Rattle.dimacs_judging.specs.inside.QueryTests.{ends_of}
+use Rattle.dimacs_judging.specs.{declared.verdict.Where.{Where}, declared.verdict.Where.TheVariants.{Node}}
+use Rattle.dimacs_judging.specs.{QueryTests.{listed_row, sources_asked}, inside.QueryTests.{ends_of}}
 use Rattle.dimacs_judging.specs.Tests.{ClearBelow, Clear, FirstOfRow}
 
 module _ (ids : List ℕ) (why : Reason) (fails : ℕ → Type 0) where

@@ -1,27 +1,19 @@
 -- Solutions and cuts that pass their tests, and the first test that fails.
 use Rattle.std.proofs.Common.{◌≡◌, inl, inr, List, [], ◌∷◌, Result, ℤ, subst, sym, refl, ◌++◌}
 use Rattle.std.specs.Prelude.{IsErrAnd}
-use Rattle.dimacs_claims.specs.Cuts.{CutValue}
-use Rattle.dimacs_claims.specs.SolutionTexts.{SolutionValue}
+use Rattle.dimacs_claims.specs.{Cuts.{CutValue}, SolutionTexts.{SolutionValue}}
 use Rattle.dimacs_instance.specs.MaxFlows.{MaxValue, IsMax}
 use Rattle.dimacs_records.specs.declared.reasons.Reason.{Reason}
 use Rattle.dimacs_records.specs.declared.reasons.Reason.TheVariants.{ValueDiffers, NodesDiffer}
-use Rattle.dimacs_judging.specs.declared.verdict.JudgeError.{JudgeError}
-use Rattle.dimacs_judging.specs.declared.verdict.JudgeError.TheVariants.{Refused}
-use Rattle.dimacs_judging.specs.declared.verdict.Verdict.{Verdict}
-use Rattle.dimacs_judging.specs.declared.verdict.Verdict.TheVariants.{Max}
-use Rattle.dimacs_judging.specs.declared.verdict.Where.{Where}
-use Rattle.dimacs_judging.specs.declared.verdict.Where.TheVariants.{Solution, Certificate}
-use Rattle.dimacs_judging.specs.Agreement.{value_row, nodes_row}
-use Rattle.dimacs_judging.specs.CertificateTests.{cut_rows}
-use Rattle.dimacs_judging.specs.Claims.{Carries, claimed_flow, entry_row}
-use Rattle.dimacs_judging.specs.Cuts.{CutTight, members}
-use Rattle.dimacs_judging.specs.Feasible.{value}
-use Rattle.dimacs_judging.specs.FlowTests.{max_demand, feasible_max_rows}
+use Rattle.dimacs_judging.specs.{declared.verdict.JudgeError.{JudgeError}, declared.verdict.Verdict.{Verdict}}
+use Rattle.dimacs_judging.specs.{declared.verdict.JudgeError.TheVariants.{Refused}, declared.verdict.Where.{Where}}
+use Rattle.dimacs_judging.specs.{declared.verdict.Verdict.TheVariants.{Max}, Agreement.{value_row, nodes_row}}
+use Rattle.dimacs_judging.specs.{declared.verdict.Where.TheVariants.{Solution, Certificate}, Cuts.{CutTight, members}}
+use Rattle.dimacs_judging.specs.{CertificateTests.{cut_rows}, Claims.{Carries, claimed_flow, entry_row}}
+use Rattle.dimacs_judging.specs.{Feasible.{value}, FlowTests.{max_demand, feasible_max_rows}}
 use Rattle.dimacs_judging.specs.MaxJudge.{IsMaxClaim, PassesMax, ShowsMaximum, max_claim_rows, max_rows}
 use Rattle.dimacs_judging.specs.Tests.{Row, Clear, AllClear, FirstOfRow, First, Judges, Refuses}
-use Rattle.dimacs_judging.proofs.Claims.{carries_clear, length-carried, entry_one_way}
-use Rattle.dimacs_judging.proofs.Duality.{tight_is_maximum}
+use Rattle.dimacs_judging.proofs.{Claims.{carries_clear, length-carried, entry_one_way}, Duality.{tight_is_maximum}}
 use Rattle.dimacs_judging.proofs.Firsts.{AllOneWay, one_test_one_way}
 use Rattle.dimacs_judging.proofs.Passing.{feasible_max_holds, feasible_max_clear, value_is, value_clear, nodes_are, nodes_clear, tight_cut_clear}
 use Rattle.dimacs_judging.proofs.Reasons.{bound_one_way, balance_one_way, cut_one_way}

@@ -1,27 +1,19 @@
 -- Solutions and potentials that pass their tests, and the first test that fails.
 use Rattle.std.proofs.Common.{◌≡◌, inl, inr, List, [], ◌∷◌, Result, ℤ, subst, sym, refl, ◌++◌}
 use Rattle.std.specs.Prelude.{IsErrAnd}
-use Rattle.dimacs_claims.specs.Potentials.{PotentialsValue, potential_of}
-use Rattle.dimacs_claims.specs.SolutionTexts.{SolutionValue}
+use Rattle.dimacs_claims.specs.{Potentials.{PotentialsValue, potential_of}, SolutionTexts.{SolutionValue}}
 use Rattle.dimacs_instance.specs.MinFlows.{MinValue, IsMin}
 use Rattle.dimacs_records.specs.declared.reasons.Reason.{Reason}
 use Rattle.dimacs_records.specs.declared.reasons.Reason.TheVariants.{ValueDiffers, NodesDiffer}
-use Rattle.dimacs_judging.specs.declared.verdict.JudgeError.{JudgeError}
-use Rattle.dimacs_judging.specs.declared.verdict.JudgeError.TheVariants.{Refused}
-use Rattle.dimacs_judging.specs.declared.verdict.Verdict.{Verdict}
-use Rattle.dimacs_judging.specs.declared.verdict.Verdict.TheVariants.{Min}
-use Rattle.dimacs_judging.specs.declared.verdict.Where.{Where}
-use Rattle.dimacs_judging.specs.declared.verdict.Where.TheVariants.{Solution, Certificate}
-use Rattle.dimacs_judging.specs.Agreement.{value_row, nodes_row}
-use Rattle.dimacs_judging.specs.CertificateTests.{slack_row}
-use Rattle.dimacs_judging.specs.Claims.{Carries, claimed_flow, entry_row}
-use Rattle.dimacs_judging.specs.Flows.{cost}
-use Rattle.dimacs_judging.specs.FlowTests.{min_demand, feasible_min_rows, cost_row}
+use Rattle.dimacs_judging.specs.{declared.verdict.JudgeError.{JudgeError}, declared.verdict.Verdict.{Verdict}}
+use Rattle.dimacs_judging.specs.{declared.verdict.JudgeError.TheVariants.{Refused}, declared.verdict.Where.{Where}}
+use Rattle.dimacs_judging.specs.{declared.verdict.Verdict.TheVariants.{Min}, Agreement.{value_row, nodes_row}}
+use Rattle.dimacs_judging.specs.{declared.verdict.Where.TheVariants.{Solution, Certificate}, Flows.{cost}}
+use Rattle.dimacs_judging.specs.{CertificateTests.{slack_row}, Claims.{Carries, claimed_flow, entry_row}}
+use Rattle.dimacs_judging.specs.{FlowTests.{min_demand, feasible_min_rows, cost_row}, Potentials.{Slack}}
 use Rattle.dimacs_judging.specs.MinJudge.{IsMinClaim, PassesMin, ShowsLeast, min_claim_rows, min_rows}
-use Rattle.dimacs_judging.specs.Potentials.{Slack}
 use Rattle.dimacs_judging.specs.Tests.{Row, Clear, AllClear, FirstOfRow, First, Judges, Refuses}
-use Rattle.dimacs_judging.proofs.Claims.{carries_clear, length-carried, entry_one_way}
-use Rattle.dimacs_judging.proofs.Duality.{slack_is_least}
+use Rattle.dimacs_judging.proofs.{Claims.{carries_clear, length-carried, entry_one_way}, Duality.{slack_is_least}}
 use Rattle.dimacs_judging.proofs.Firsts.{AllOneWay, one_test_one_way}
 use Rattle.dimacs_judging.proofs.Passing.{feasible_min_holds, feasible_min_clear, costs_wide, costs_clear, value_is, value_clear, nodes_are, nodes_clear, slack_clear}
 use Rattle.dimacs_judging.proofs.Reasons.{bound_one_way, balance_one_way, cost_one_way, slack_one_way}

@@ -1,35 +1,24 @@
 -- The table with a block's labels, and the tight arcs for them.
 use Rattle.std.proofs.Common.{IsTrue, ◌^◌, cond, count_by, is_some, ◌≡◌, ◌≢◌, ◌⊎◌, ◌↔◌, inl, inr, ℕ, suc, zero, ◌+◌, ◌<◌, ◌≤◌, Bool, true, false, List, [], ◌∷◌, ◌++◌, Contains, length, take, drop, get_or, slice_get, Option, Some, None, IfSome, ℤ, pos, ◌+ℤ◌, refl, sym, ap, subst, ◌∙◌, arith}
-use Rattle.std.specs.Prelude.{◌==◌, ◌&&◌, if◌then◌else◌, nat_le, Result, Ok, Err}
-use Rattle.std.specs.Result.{result_and}
-use Rattle.std.specs.Int.{from_bool}
-use Rattle.std.proofs.Math.Seq.{drop-cons}
-use Rattle.std.proofs.lemmas.Bool.{cases_eq, cases_lt, eq-eqb}
-use Rattle.std.proofs.lemmas.Bool.Decides.{eqb_tells, nat_tests}
+use Rattle.std.proofs.{Math.Seq.{drop-cons}, lemmas.Bool.{cases_eq, cases_lt, eq-eqb}}
+use Rattle.std.proofs.{lemmas.Bool.Decides.{eqb_tells, nat_tests}, lemmas.List.Sums.{count_by-le-length, sum_by-cons}}
 use Rattle.std.proofs.lemmas.Option.{get_or_from_slice_get, slice_get_within}
 use Rattle.std.proofs.lemmas.List.{get_or_default, take-append-drop, take_all, take_more}
-use Rattle.std.proofs.lemmas.List.Sums.{count_by-le-length, sum_by-cons}
 use Rattle.std.proofs.lemmas.List.Elements.{All-cons, All-nil, Contains-append_cases, Contains-get_or}
-use Rattle.dimacs_network.specs.declared.node_table.NodeTable.{NodeTable}
-use Rattle.dimacs_network.specs.Tables.{blank_of, value_of}
-use Rattle.dimacs_records.specs.declared.reasons.Reason.{Reason}
-use Rattle.dimacs_records.specs.Ranges.{IsWide}
-use Rattle.dimacs_network.specs.declared.network.ArcView.{ArcView}
+use Rattle.std.specs.{Prelude.{◌==◌, ◌&&◌, if◌then◌else◌, nat_le, Result, Ok, Err}, Result.{result_and}}
+use Rattle.std.specs.Int.{from_bool}
+use Rattle.dimacs_network.specs.{declared.node_table.NodeTable.{NodeTable}, Tables.{blank_of, value_of}}
+use Rattle.dimacs_network.specs.{declared.network.ArcView.{ArcView}, Arcs.{arc_at, no_arc}}
+use Rattle.dimacs_records.specs.{declared.reasons.Reason.{Reason}, Ranges.{IsWide}}
 use Rattle.dimacs_claims.specs.declared.block.Label.{Label}
 use Rattle.dimacs_claims.specs.Labels.{BlockValue, IsBlock, IsFresh, distance_in, label, no_label}
-use Rattle.dimacs_claims.proofs.BuilderLemmas.{unlabelled}
+use Rattle.dimacs_claims.proofs.{BuilderLemmas.{unlabelled}, ByIdLemmas.{distance_in-at, fresh_apart, label_elsewhere}}
 use Rattle.dimacs_claims.proofs.BlockLemmas.{fresh_has_none, has_pred, label-with_label, label_at_wide}
-use Rattle.dimacs_claims.proofs.ByIdLemmas.{distance_in-at, fresh_apart, label_elsewhere}
-use Rattle.dimacs_judging.specs.declared.node_label.NodeLabel.{NodeLabel}
-use Rattle.dimacs_judging.specs.declared.verdict.Where.{Where}
-use Rattle.dimacs_judging.specs.declared.verdict.Where.TheVariants.{Arc}
-use Rattle.dimacs_judging.specs.CertificateTests.{RelaxFails, relax_row, support_row}
-use Rattle.dimacs_judging.specs.inside.CertificateTests.{distance_rows}
-use Rattle.dimacs_judging.specs.Labels.{HasTightArc}
-use Rattle.dimacs_judging.specs.inside.Distances.{Improves, IsTight}
+use Rattle.dimacs_judging.specs.{declared.node_label.NodeLabel.{NodeLabel}, declared.verdict.Where.{Where}}
+use Rattle.dimacs_judging.specs.{declared.verdict.Where.TheVariants.{Arc}, inside.CertificateTests.{distance_rows}}
+use Rattle.dimacs_judging.specs.{CertificateTests.{RelaxFails, relax_row, support_row}, Labels.{HasTightArc}}
+use Rattle.dimacs_judging.specs.{inside.Distances.{Improves, IsTight}, Tests.{Clear, ClearBelow, FirstOfRow, TestsRow}}
 use Rattle.dimacs_judging.specs.inside.NodeLabels.{AreUnlabelled, AreSupported, SupportIsSound, AreSupportedBelow, AreWide, DefaultsToNone, HasLabels, IsFirstTight, NodeEntry, IsTightFor, RelaxesArc, LabelsSupported, KeepsEntry, is_supported, supported_count}
-use Rattle.dimacs_network.specs.Arcs.{arc_at, no_arc}
-use Rattle.dimacs_judging.specs.Tests.{Clear, ClearBelow, FirstOfRow, TestsRow}
 use Rattle.dimacs_judging.specs.inside.Tests.{TestsRows, NamesReason}
 use Rattle.dimacs_judging.proofs.RowLemmas.{relax_clear_more, relax_first}
 

@@ -1,26 +1,17 @@
 -- One pass over the arcs for a yes: one more arc.
 use Rattle.std.proofs.Common.{◌≡◌, inl, inr, refl, sym, ap, ◌∙◌, ℕ, Bool, true, false, not, ◌&&◌, ◌+◌, ◌*◌, ◌^◌, ◌<◌, ◌≤◌, List, [], ◌∷◌, ◌++◌, All, length, take, slice_get, Option, Some, ℤ, pos, ◌+ℤ◌, ◌-ℤ◌, ◌<ℤ◌, arith, ap₂}
+use Rattle.std.proofs.{lemmas.Int.{ints}, lemmas.Bool.{cases_eq}, lemmas.Bool.Decides.{eqb_tells}}
+use Rattle.std.proofs.{lemmas.List.{take_all}, lemmas.List.Elements.{All-head, All-tail}}
 use Rattle.std.specs.List.{AllZip}
-use Rattle.std.proofs.lemmas.Int.{ints}
-use Rattle.std.proofs.lemmas.Bool.{cases_eq}
-use Rattle.std.proofs.lemmas.Bool.Decides.{eqb_tells}
-use Rattle.std.proofs.lemmas.List.{take_all}
-use Rattle.std.proofs.lemmas.List.Elements.{All-head, All-tail}
 use Rattle.dimacs_instance.specs.MaxFlows.{HasCapacityAlone}
 use Rattle.dimacs_lines.specs.Limits.{IsNode}
-use Rattle.dimacs_network.specs.declared.network.ArcView.{ArcView}
-use Rattle.dimacs_network.specs.Arcs.{JoinsNodes}
-use Rattle.dimacs_judging.specs.declared.one_pass.NodeState.{NodeState}
-use Rattle.dimacs_judging.specs.Cuts.{IsTightAt}
-use Rattle.dimacs_judging.specs.Flows.{net, cost, when}
+use Rattle.dimacs_network.specs.{declared.network.ArcView.{ArcView}, Arcs.{JoinsNodes}}
+use Rattle.dimacs_judging.specs.{declared.one_pass.NodeState.{NodeState}, Cuts.{IsTightAt}, Flows.{net, cost, when}}
 use Rattle.dimacs_judging.specs.FlowTests.{BoundFails, balance_row, bound_row, cost_row, feasible_rows}
-use Rattle.dimacs_judging.specs.Potentials.{IsSlackAt, reduced_cost}
-use Rattle.dimacs_judging.specs.Rows.{flow_row}
+use Rattle.dimacs_judging.specs.{Potentials.{IsSlackAt, reduced_cost}, Rows.{flow_row}, inside.Ranges.{IsOfSize}}
 use Rattle.dimacs_judging.specs.Tests.{AllClear, Clear, ClearBelow}
 use Rattle.dimacs_judging.specs.inside.OnePass.{AddsArc, AddsAt, AreBlank, AreInitial, CostFitsOneMore, ReducedTest, SetsState, States, indicator, state_with}
-use Rattle.dimacs_judging.specs.inside.Ranges.{IsOfSize}
-use Rattle.dimacs_judging.proofs.Products.{product_small}
-use Rattle.dimacs_judging.proofs.RowLemmas.{arc_clear_end, flow_clear_more}
+use Rattle.dimacs_judging.proofs.{Products.{product_small}, RowLemmas.{arc_clear_end, flow_clear_more}}
 use Rattle.dimacs_judging.proofs.StepLemmas.{cost_clear_more, cost_more, cost_step, net_more}
 
 -- the nodes below n have their potentials, and all others are blank

@@ -1,33 +1,21 @@
 -- If all tests pass, the properties that they test hold.
 use Rattle.std.proofs.Common.{◌≡◌, ◌≢◌, ◌==◌, ◌⊎◌, inl, inr, ℕ, suc, zero, ◌+◌, ◌^◌, ◌<◌, Bool, true, false, List, [], ◌∷◌, All, length, get_or, Option, Some, Result, Ok, Err, ℤ, pos, neg_ℤ, ◌≤ℤ◌, ◌<ℤ◌, refl, sym, subst, ◌∙◌, arith}
-use Rattle.std.specs.List.{AllZip}
-use Rattle.std.specs.Int.Signed.{<ℤ_irrefl}
-use Rattle.std.proofs.lemmas.Int.{ints, by_lt_z}
-use Rattle.std.proofs.lemmas.List.Elements.{All-head, All-tail, All-weaker}
-use Rattle.std.proofs.lemmas.Bool.{ne_eqb}
-use Rattle.std.proofs.lemmas.Bool.Decides.{eqb_tells}
-use Rattle.dimacs_network.specs.declared.network.ArcView.{ArcView}
-use Rattle.dimacs_records.specs.declared.reasons.Reason.{Reason}
-use Rattle.dimacs_records.specs.declared.reasons.Reason.TheVariants as reasons
-use Rattle.dimacs_judging.specs.declared.verdict.Where.{Where}
-use Rattle.dimacs_judging.specs.declared.verdict.Where.TheVariants as places
-use Rattle.dimacs_judging.specs.Flows.{net}
-use Rattle.dimacs_instance.specs.MaxFlows.{MaxValue, IsMax, HasCapacityAlone}
-use Rattle.dimacs_records.specs.Ranges.{IsWide}
-use Rattle.dimacs_lines.specs.Limits.{IsNode}
-use Rattle.dimacs_instance.specs.MinFlows.{MinValue, supply_of}
-use Rattle.dimacs_judging.specs.Feasible.{FeasibleMax, FeasibleMin}
-use Rattle.dimacs_judging.specs.Cuts.{IsTightAt, CutTight}
-use Rattle.dimacs_judging.specs.Potentials.{IsSlackAt, Slack, reduced_cost}
-use Rattle.dimacs_judging.specs.ViolatedSets.{most_out, least_out, supply_in, Violated}
-use Rattle.dimacs_judging.specs.Agreement.{value_row, nodes_row}
-use Rattle.dimacs_judging.specs.inside.Ranges.{IsOfSize}
-use Rattle.dimacs_judging.specs.Tests.{Clear, AllClear, TestsRow}
-use Rattle.dimacs_judging.specs.inside.Tests.{TestsRows}
-use Rattle.dimacs_judging.specs.Rows.{one_test, amount_at, flow_row}
-use Rattle.dimacs_network.specs.Arcs.{no_arc, arc_at}
+use Rattle.std.proofs.{lemmas.Int.{ints, by_lt_z}, lemmas.List.Elements.{All-head, All-tail, All-weaker}}
+use Rattle.std.proofs.{lemmas.Bool.{ne_eqb}, lemmas.Bool.Decides.{eqb_tells}}
+use Rattle.std.specs.{List.{AllZip}, Int.Signed.{<ℤ_irrefl}}
+use Rattle.dimacs_network.specs.{declared.network.ArcView.{ArcView}, Arcs.{no_arc, arc_at}}
+use Rattle.dimacs_records.specs.{declared.reasons.Reason.{Reason}, Ranges.{IsWide}}
+use Rattle.dimacs_judging.specs.{declared.verdict.Where.{Where}, Flows.{net}, Feasible.{FeasibleMax, FeasibleMin}}
+use Rattle.dimacs_judging.specs.{Cuts.{IsTightAt, CutTight}, Potentials.{IsSlackAt, Slack, reduced_cost}}
+use Rattle.dimacs_judging.specs.{ViolatedSets.{most_out, least_out, supply_in, Violated}, inside.Ranges.{IsOfSize}}
+use Rattle.dimacs_judging.specs.{Agreement.{value_row, nodes_row}, Tests.{Clear, AllClear, TestsRow}}
+use Rattle.dimacs_judging.specs.{inside.Tests.{TestsRows}, Rows.{one_test, amount_at, flow_row}}
 use Rattle.dimacs_judging.specs.FlowTests.{BoundFails, bound_row, balance_row, cost_through, cost_row, feasible_max_rows, feasible_min_rows, max_demand, min_demand}
 use Rattle.dimacs_judging.specs.CertificateTests.{TightFails, cut_rows, SlackFails, slack_row, violated_row}
+use Rattle.dimacs_instance.specs.{MaxFlows.{MaxValue, IsMax, HasCapacityAlone}, MinFlows.{MinValue, supply_of}}
+use Rattle.dimacs_lines.specs.Limits.{IsNode}
+use Rattle.dimacs_records.specs.declared.reasons.Reason.TheVariants as reasons
+use Rattle.dimacs_judging.specs.declared.verdict.Where.TheVariants as places
 
 -- numbers that can't differ are equal
 pub same_number : (a b : ℤ) → (¬ (a ≢ b)) → a ≡ b

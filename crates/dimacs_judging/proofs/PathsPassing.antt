@@ -1,33 +1,24 @@
 -- If labels and queries pass all tests, the answers are distances.
 use Rattle.std.proofs.Common.{◌≡◌, ℕ, List, [], ◌∷◌, All, map, Option, Some, None, ℤ, Result, Err, inl, inr, subst}
-use Rattle.std.specs.Prelude.{IsErrAnd, if◌then◌else◌, is_some}
 use Rattle.std.proofs.lemmas.List.Elements.{All-nil, All-cons, All-head, All-tail}
-use Rattle.dimacs_network.specs.declared.network.ArcView.{ArcView}
-use Rattle.dimacs_network.specs.Arcs.{NetworkValue}
+use Rattle.std.specs.Prelude.{IsErrAnd, if◌then◌else◌, is_some}
+use Rattle.dimacs_network.specs.{declared.network.ArcView.{ArcView}, Arcs.{NetworkValue}}
 use Rattle.dimacs_instance.specs.QueryTexts.{QueriesValue}
-use Rattle.dimacs_instance.specs.QueryTexts as queries
 use Rattle.dimacs_claims.specs.Labels.{AreLabels, BlockValue, LabelsValue, label}
-use Rattle.dimacs_records.specs.declared.reasons.Reason.TheVariants as reasons
-use Rattle.dimacs_judging.specs.declared.verdict.JudgeError.{JudgeError}
-use Rattle.dimacs_judging.specs.declared.verdict.JudgeError.TheVariants.{Refused, Memory}
-use Rattle.dimacs_judging.specs.declared.verdict.Verdict.{Verdict}
-use Rattle.dimacs_judging.specs.declared.verdict.Where.TheVariants as places
-use Rattle.dimacs_judging.specs.Agreement.{nodes_row}
-use Rattle.dimacs_judging.specs.Answers.{AnswersQueries, beyond_from, distance_from}
-use Rattle.dimacs_judging.specs.CertificateTests.{label_rows}
-use Rattle.dimacs_judging.specs.Labels.{AreDistances}
+use Rattle.dimacs_judging.specs.{declared.verdict.JudgeError.{JudgeError}, declared.verdict.Verdict.{Verdict}}
+use Rattle.dimacs_judging.specs.{declared.verdict.JudgeError.TheVariants.{Refused, Memory}, Agreement.{nodes_row}}
+use Rattle.dimacs_judging.specs.{Answers.{AnswersQueries, beyond_from, distance_from}, CertificateTests.{label_rows}}
+use Rattle.dimacs_judging.specs.{Labels.{AreDistances}, Tests.{Clear, AllClear, FirstOfRow, First, Judges, Refuses}}
 use Rattle.dimacs_judging.specs.PathsJudge.{paths_rows, PassesPaths, AnswersAreDistances, ShowsDistances}
 use Rattle.dimacs_judging.specs.QueryTests.{HasBlock, IsServed, sources_asked, query_node_row, block_row}
-use Rattle.dimacs_judging.specs.Tests.{Clear, AllClear, FirstOfRow, First, Judges, Refuses}
-use Rattle.dimacs_judging.specs.inside.Tests.{TestsAll}
-use Rattle.dimacs_judging.specs.Walks.{IsDistance}
-use Rattle.dimacs_judging.proofs.BlockNumbers.{block_found}
-use Rattle.dimacs_judging.proofs.Firsts.{AllOneWay, one_test_one_way}
+use Rattle.dimacs_judging.specs.{inside.Tests.{TestsAll}, Walks.{IsDistance}}
+use Rattle.dimacs_judging.proofs.{BlockNumbers.{block_found}, Firsts.{AllOneWay, one_test_one_way}}
 use Rattle.dimacs_judging.proofs.LabelsPassing.{labels_hold, labels_clear, passing_are_distances}
-use Rattle.dimacs_judging.proofs.Passing.{nodes_are, nodes_clear}
+use Rattle.dimacs_judging.proofs.{Passing.{nodes_are, nodes_clear}, Reasons.{labels_one_way}, Settling.{error_judges}}
 use Rattle.dimacs_judging.proofs.QueriesPassing.{query_node_one_way, block_one_way, query_nodes_hold, query_nodes_clear, query_blocks_hold, query_blocks_clear}
-use Rattle.dimacs_judging.proofs.Reasons.{labels_one_way}
-use Rattle.dimacs_judging.proofs.Settling.{error_judges}
+use Rattle.dimacs_instance.specs.QueryTexts as queries
+use Rattle.dimacs_records.specs.declared.reasons.Reason.TheVariants as reasons
+use Rattle.dimacs_judging.specs.declared.verdict.Where.TheVariants as places
 
 paths_pass : (g : NetworkValue) (q : QueriesValue) (l : LabelsValue) → AllClear (paths_rows g q l) → PassesPaths g q l
 paths_pass g q l clear = record {

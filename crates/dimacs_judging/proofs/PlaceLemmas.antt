@@ -1,22 +1,18 @@
 -- Putting entries on arcs: in the order of the arcs, and by search.
 use Rattle.std.proofs.Common.{◌≡◌, ◌≢◌, inl, inr, ℕ, zero, suc, ◌+◌, ◌<◌, ◌≤◌, Bool, true, false, cond, List, [], ◌∷◌, ◌++◌, length, take, get_or, set, replicate, count_by, ℤ, pos, Option, None, Some, refl, sym, ap, ◌∙◌, arith}
-use Rattle.std.specs.Prelude.{is_some}
-use Rattle.std.proofs.lemmas.Bool.{cases_Bool, cases_lt}
-use Rattle.std.proofs.lemmas.Option.{slice_get-get_or}
+use Rattle.std.proofs.{lemmas.Bool.{cases_Bool, cases_lt}, lemmas.Option.{slice_get-get_or}}
 use Rattle.std.proofs.lemmas.List.{length-replicate, take-take, get_or-replicate, get_or_past, get_or-set_same, get_or-set_other}
 use Rattle.std.proofs.lemmas.List.Sums.{count_by-le-length, count_by_more_yes, count_by_more_no, sum_by-take-le}
-use Rattle.dimacs_network.specs.declared.network.ArcView.{ArcView}
-use Rattle.dimacs_network.specs.Arcs.{joins, IsKthBetween, no_arc, arc_at}
+use Rattle.std.specs.Prelude.{is_some}
+use Rattle.dimacs_network.specs.{declared.network.ArcView.{ArcView}, Arcs.{joins, IsKthBetween, no_arc, arc_at}}
 use Rattle.dimacs_claims.specs.declared.solution.Entry.{Entry}
 use Rattle.dimacs_records.specs.declared.reasons.Reason.{Reason}
 use Rattle.dimacs_records.specs.declared.reasons.Reason.TheVariants.{UnknownArc, ArcTwice}
-use Rattle.dimacs_judging.proofs.Claims.{claims_carried}
-use Rattle.dimacs_judging.specs.Claims.{is_between, Carries, EntryFails}
-use Rattle.dimacs_judging.specs.declared.verdict.Where.{Where}
+use Rattle.dimacs_judging.proofs.{Claims.{claims_carried}, SupportLemmas.{ends_joined, counted_before, counted_in_all}}
+use Rattle.dimacs_judging.proofs.EntryLemmas.{joined_at, one_kth, between_ends, counted_more, counted_same, none_claimed, between_own, claimed_more, clear_more, first_still}
+use Rattle.dimacs_judging.specs.{Claims.{is_between, Carries, EntryFails}, declared.verdict.Where.{Where}}
 use Rattle.dimacs_judging.specs.Places.{PlacesValue, HavePlaced, Hold, placed_between, counted_or}
 use Rattle.dimacs_judging.specs.inside.Places.{left_order}
-use Rattle.dimacs_judging.proofs.EntryLemmas.{joined_at, one_kth, between_ends, counted_more, counted_same, none_claimed, between_own, claimed_more, clear_more, first_still}
-use Rattle.dimacs_judging.proofs.SupportLemmas.{ends_joined, counted_before, counted_in_all}
 
 -- ---- counts
 pub counted_some : (m n : ℕ) → 0 < m → counted_or m n ≡ m

@@ -1,7 +1,6 @@
 -- Products of whole numbers, which `omega` doesn't multiply out.
 use Rattle.std.proofs.Common.{◌≡◌, ℕ, suc, ◌+◌, ◌*◌, ◌≤◌, ℤ, pos, negsuc, ◌+ℤ◌, ◌-ℤ◌, ◌*ℤ◌, neg_ℤ, ◌≤ℤ◌, ap, arith}
-use Rattle.std.proofs.lemmas.Int.{ints}
-use Rattle.std.proofs.Math.Nat.{mul-le-mul, mul-le-mul_left}
+use Rattle.std.proofs.{lemmas.Int.{ints}, Math.Nat.{mul-le-mul, mul-le-mul_left}}
 use Rattle.dimacs_judging.specs.inside.Ranges.{IsOfSize}
 use borrow.Author.Differences.{up, down, product_is, sum_is_lem, neg_is}
 

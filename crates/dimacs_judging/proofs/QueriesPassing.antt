@@ -1,19 +1,16 @@
 -- If queries pass all tests, they have blocks that answer them.
 use Rattle.std.proofs.Common.{◌≡◌, ◌⊎◌, inl, inr, ℕ, ◌<◌, ◌≤◌, List, All, get_or, Option, Some, None, ℤ, refl, sym, ap, ◌∙◌, arith}
+use Rattle.std.proofs.{lemmas.Bool.{cases_lt}, lemmas.List.Elements.{All-get_or, All-from_get_or}}
 use Rattle.std.specs.List.{position}
-use Rattle.std.proofs.lemmas.Bool.{cases_lt}
-use Rattle.std.proofs.lemmas.List.Elements.{All-get_or, All-from_get_or}
 use Rattle.dimacs_records.specs.declared.reasons.Reason.{Reason}
-use Rattle.dimacs_records.specs.declared.reasons.Reason.TheVariants as reasons
 use Rattle.dimacs_instance.specs.QueryTexts.{QueriesValue}
-use Rattle.dimacs_instance.specs.QueryTexts as kinds
-use Rattle.dimacs_judging.specs.Answers.{block_of}
-use Rattle.dimacs_claims.specs.Labels.{BlockValue, has_source}
-use Rattle.dimacs_judging.specs.declared.verdict.Where.TheVariants as places
+use Rattle.dimacs_judging.specs.{Answers.{block_of}, Tests.{Clear}}
 use Rattle.dimacs_judging.specs.QueryTests.{HasBlock, HasFullBlock, IsServed, nodes_asked, sources_asked, listed_row, query_node_row, block_row}
-use Rattle.dimacs_judging.specs.Tests.{Clear}
-use Rattle.dimacs_judging.proofs.BlockNumbers.{has_block, no_block}
-use Rattle.dimacs_judging.proofs.Firsts.{OneWay}
+use Rattle.dimacs_claims.specs.Labels.{BlockValue, has_source}
+use Rattle.dimacs_judging.proofs.{BlockNumbers.{has_block, no_block}, Firsts.{OneWay}}
+use Rattle.dimacs_records.specs.declared.reasons.Reason.TheVariants as reasons
+use Rattle.dimacs_instance.specs.QueryTexts as kinds
+use Rattle.dimacs_judging.specs.declared.verdict.Where.TheVariants as places
 
 listed_one_way : (ids : List ℕ) (why : Reason) (fails : ℕ → Type 0) → OneWay (listed_row ids why fails)
 listed_one_way ids why fails k p q r s f g = (f.1 ∙ sym g.1, f.2 ∙ sym g.2)

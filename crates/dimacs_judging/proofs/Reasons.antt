@@ -1,16 +1,14 @@
 -- Each test fails for only one reason.
 use Rattle.std.proofs.Common.{◌≡◌, inl, inr, ℕ, Bool, true, false, not, ◌&&◌, List, [], ◌∷◌, Option, Some, None, ℤ, sym, ◌∙◌, arith}
 use Rattle.std.proofs.lemmas.Int.{ints}
-use Rattle.dimacs_network.specs.declared.network.ArcView.{ArcView}
+use Rattle.dimacs_network.specs.{declared.network.ArcView.{ArcView}, Arcs.{arc_at}}
 use Rattle.dimacs_records.specs.declared.reasons.Reason.{Reason}
-use Rattle.dimacs_judging.specs.declared.verdict.Where.TheVariants.{Node}
 use Rattle.dimacs_records.specs.declared.reasons.Reason.TheVariants.{SourceOutside, SinkInside}
-use Rattle.dimacs_instance.specs.MaxFlows.{MaxValue}
-use Rattle.dimacs_claims.specs.Labels.{BlockValue}
-use Rattle.dimacs_judging.specs.Rows.{amount_at}
-use Rattle.dimacs_network.specs.Arcs.{arc_at}
+use Rattle.dimacs_judging.specs.{declared.verdict.Where.TheVariants.{Node}, Rows.{amount_at}}
 use Rattle.dimacs_judging.specs.FlowTests.{BoundFails, bound_row, balance_row, cost_row}
 use Rattle.dimacs_judging.specs.CertificateTests.{TightFails, cut_rows, slack_row, support_row, RelaxFails, label_rows, weight_row}
+use Rattle.dimacs_instance.specs.MaxFlows.{MaxValue}
+use Rattle.dimacs_claims.specs.Labels.{BlockValue}
 use Rattle.dimacs_judging.proofs.Firsts.{OneWay, AllOneWay, arc_one_way, node_one_way, one_test_one_way}
 
 one_bound : (a : ArcView) (x : ℤ) (r s : Reason) → BoundFails a x r → BoundFails a x s → r ≡ s

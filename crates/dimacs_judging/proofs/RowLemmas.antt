@@ -1,17 +1,13 @@
 -- Rows of tests, test by test.
 use Rattle.std.proofs.Common.{◌≡◌, true, false, ℕ, ◌+◌, ◌<◌, ◌≤◌, List, length, get_or, slice_get, Some, None, Result, Ok, Err, IsSome, subst, ℤ, pos, refl, arith, below_more}
 use Rattle.std.proofs.lemmas.Option.{get_or_from_slice_get, slice_get_within}
-use Rattle.dimacs_network.specs.declared.network.ArcView.{ArcView}
-use Rattle.dimacs_records.specs.declared.reasons.Reason.{Reason}
-use Rattle.dimacs_judging.specs.declared.verdict.Where.{Where}
-use Rattle.dimacs_judging.specs.declared.verdict.Where.TheVariants.{Arc, Node}
-use Rattle.dimacs_records.specs.declared.reasons.Reason.TheVariants.{NoTightArc}
-use Rattle.dimacs_claims.specs.Labels.{BlockValue, label, no_label}
-use Rattle.dimacs_judging.specs.Labels.{HasTightArc}
+use Rattle.dimacs_network.specs.{declared.network.ArcView.{ArcView}, Arcs.{no_arc, arc_at}}
+use Rattle.dimacs_records.specs.{declared.reasons.Reason.{Reason}, declared.reasons.Reason.TheVariants.{NoTightArc}}
+use Rattle.dimacs_judging.specs.{declared.verdict.Where.{Where}, declared.verdict.Where.TheVariants.{Arc, Node}}
+use Rattle.dimacs_judging.specs.{Labels.{HasTightArc}, Tests.{Row, ClearBelow, Clear, FirstOfRow, TestsRow}}
 use Rattle.dimacs_judging.specs.CertificateTests.{negative_row, support_row, RelaxFails, relax_row, weight_row}
-use Rattle.dimacs_judging.specs.Tests.{Row, ClearBelow, Clear, FirstOfRow, TestsRow}
 use Rattle.dimacs_judging.specs.Rows.{amount_at, arc_row, flow_row, node_row}
-use Rattle.dimacs_network.specs.Arcs.{no_arc, arc_at}
+use Rattle.dimacs_claims.specs.Labels.{BlockValue, label, no_label}
 
 -- one more test that passes
 clear_more : (row : Row) (n : ℕ) → ClearBelow row n → ((place : Where) (reason : Reason) → ¬ row n place reason) → ClearBelow row (n + 1)

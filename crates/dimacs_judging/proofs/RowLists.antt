@@ -1,8 +1,7 @@
 -- Lists of rows of tests, one list after another.
 use Rattle.std.proofs.Common.{inl, inr, List, [], ◌∷◌, ◌++◌}
 use Rattle.dimacs_records.specs.declared.reasons.Reason.{Reason}
-use Rattle.dimacs_judging.specs.declared.verdict.Where.{Where}
-use Rattle.dimacs_judging.specs.Tests.{Row, AllClear, First}
+use Rattle.dimacs_judging.specs.{declared.verdict.Where.{Where}, Tests.{Row, AllClear, First}}
 use Rattle.dimacs_judging.proofs.Firsts.{AllOneWay}
 
 -- the first test that fails is in the first list

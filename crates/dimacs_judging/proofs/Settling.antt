@@ -1,16 +1,13 @@
 -- The results of functions whose tests all pass exactly if something holds.
 use Rattle.std.proofs.Common.{◌≡◌, ◌∙◌, ap, inl, subst, List, [], ◌∷◌, ◌++◌, Result, Ok, Err, ℤ}
-use Rattle.std.specs.Prelude.{IsErrAnd}
 use Rattle.std.proofs.lemmas.Result.{err_from_is_err_and}
+use Rattle.std.specs.Prelude.{IsErrAnd}
 use Rattle.dimacs_records.specs.declared.reasons.Reason.{Reason}
-use Rattle.dimacs_judging.specs.declared.verdict.Where.{Where}
-use Rattle.dimacs_judging.specs.declared.verdict.JudgeError.{JudgeError}
-use Rattle.dimacs_judging.specs.declared.verdict.JudgeError.TheVariants.{Refused, Memory}
+use Rattle.dimacs_judging.specs.{declared.verdict.Where.{Where}, declared.verdict.JudgeError.{JudgeError}}
+use Rattle.dimacs_judging.specs.{declared.verdict.JudgeError.TheVariants.{Refused, Memory}, inside.Tests.{TestsRows}}
 use Rattle.dimacs_judging.specs.declared.verdict.Verdict.{Verdict}
 use Rattle.dimacs_judging.specs.Tests.{Row, AllClear, First, TestsRow, Decides, Refutes, Settles, Judges, Refuses}
-use Rattle.dimacs_judging.specs.inside.Tests.{TestsRows}
-use Rattle.dimacs_judging.proofs.Firsts.{AllOneWay, one_first, none_first}
-use Rattle.dimacs_judging.proofs.RowLists.{first_in_front, first_after}
+use Rattle.dimacs_judging.proofs.{Firsts.{AllOneWay, one_first, none_first}, RowLists.{first_in_front, first_after}}
 
 pub decided : (holds : Type 0) (rows : List Row) → (AllClear rows → holds) → (holds → AllClear rows) → (outcome : Result Unit (Where × Reason)) → TestsRows rows outcome → Decides holds rows outcome
 decided holds rows passing needed (Ok done) clear = passing clear

@@ -1,18 +1,13 @@
 -- Sums over the arcs so far and one more arc.
 use Rattle.std.proofs.Common.{◌≡◌, ℕ, suc, zero, ◌+◌, ◌*◌, ◌^◌, ◌<◌, ◌==◌, ℤ, ◌+ℤ◌, ◌-ℤ◌, ◌*ℤ◌, Bool, true, false, List, [], ◌∷◌, length, take, get_or, slice_get, Some, refl, ap₂, ◌∙◌, ◌≤◌, pos, add-one, arith}
-use Rattle.std.proofs.lemmas.List.{take_all}
-use Rattle.std.proofs.lemmas.Int.{ints}
+use Rattle.std.proofs.{lemmas.List.{take_all}, lemmas.Int.{ints}}
 use Rattle.std.proofs.lemmas.Option.{get_or_from_slice_get, slice_get_within}
 use Rattle.dimacs_network.specs.declared.network.ArcView.{ArcView}
-use Rattle.dimacs_records.specs.declared.reasons.Reason.TheVariants.{CostRange}
-use Rattle.dimacs_judging.specs.declared.verdict.Where.TheVariants.{Arc}
-use Rattle.dimacs_judging.specs.inside.Ranges.{IsOfSize}
-use Rattle.dimacs_records.specs.Ranges.{IsWide}
-use Rattle.dimacs_judging.specs.FlowTests.{cost_row, cost_through}
-use Rattle.dimacs_judging.specs.Tests.{ClearBelow, FirstOfRow}
+use Rattle.dimacs_records.specs.{declared.reasons.Reason.TheVariants.{CostRange}, Ranges.{IsWide}}
+use Rattle.dimacs_judging.specs.{declared.verdict.Where.TheVariants.{Arc}, inside.Ranges.{IsOfSize}}
+use Rattle.dimacs_judging.specs.{FlowTests.{cost_row, cost_through}, Tests.{ClearBelow, FirstOfRow}}
+use Rattle.dimacs_judging.specs.{Flows.{sum_arcs, when, net, cost}, ViolatedSets.{sum_where}}
 use Rattle.dimacs_judging.proofs.RowLemmas.{arc_clear_more, arc_first}
-use Rattle.dimacs_judging.specs.Flows.{sum_arcs, when, net, cost}
-use Rattle.dimacs_judging.specs.ViolatedSets.{sum_where}
 
 sum_arcs-take_suc : (f : ArcView → ℤ → ℤ) (arcs : List ArcView) (y : List ℤ) (i : ℕ) (d : ArcView) (e : ℤ) → i < length arcs → i < length y
     → sum_arcs f (take (suc i) arcs) (take (suc i) y) ≡ sum_arcs f (take i arcs) (take i y) +ℤ f (get_or arcs i d) (get_or y i e)

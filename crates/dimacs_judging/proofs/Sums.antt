@@ -1,11 +1,8 @@
 -- Sums over arcs and over nodes, and the exchange between them.
 use Rattle.std.proofs.Common.{◌≡◌, ◌≢◌, ◌⊎◌, inl, inr, ℕ, suc, zero, ◌==◌, ℤ, pos, ◌+ℤ◌, ◌-ℤ◌, ◌*ℤ◌, ◌≤ℤ◌, true, false, List, [], ◌∷◌, refl, sym, eq-eqb, ◌∙◌, arith}
-use Rattle.std.proofs.lemmas.Int.{ints}
-use Rattle.std.proofs.lemmas.Bool.{cases_eq, ne_eqb}
+use Rattle.std.proofs.{lemmas.Int.{ints}, lemmas.Bool.{cases_eq, ne_eqb}, lemmas.List.Elements.{All-head, All-tail}}
 use Rattle.std.specs.List.{All, AllZip}
-use Rattle.std.proofs.lemmas.List.Elements.{All-head, All-tail}
-use Rattle.dimacs_network.specs.declared.network.ArcView.{ArcView}
-use Rattle.dimacs_network.specs.Arcs.{JoinsNodes}
+use Rattle.dimacs_network.specs.{declared.network.ArcView.{ArcView}, Arcs.{JoinsNodes}}
 use Rattle.dimacs_judging.specs.Flows.{sum_arcs, sum_nodes, when, net}
 use Rattle.dimacs_lines.specs.Limits.{IsNode}
 use Rattle.dimacs_judging.proofs.Products.{mul_sub, mul_zero, mul_comm, mul_net}

@@ -1,8 +1,7 @@
 -- Tests of a claim's own numbers against the instance.
 use Rattle.std.specs.Prelude.{ℕ, ◌≢◌, ℤ}
 use Rattle.dimacs_records.specs.declared.reasons.Reason.TheVariants.{ValueDiffers, NodesDiffer}
-use Rattle.dimacs_judging.specs.declared.verdict.Where.TheVariants.{Solution, Certificate}
-use Rattle.dimacs_judging.specs.Rows.{one_test}
+use Rattle.dimacs_judging.specs.{declared.verdict.Where.TheVariants.{Solution, Certificate}, Rows.{one_test}}
 use Rattle.dimacs_judging.specs.Tests.{Row}
 
 -- the claimed value isn't the flow's; it is the second field of its line

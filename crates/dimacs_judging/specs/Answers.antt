@@ -2,10 +2,9 @@
 use Rattle.std.specs.Prelude.{ℕ, ◌≡◌, if◌then◌else◌, List, map, is_some, length, Option, None, option_and_then, ℤ}
 use Rattle.std.specs.List.{find}
 use Rattle.dimacs_instance.specs.QueryTexts.{QueriesValue}
-use Rattle.dimacs_instance.specs.QueryTexts as queries
 use Rattle.dimacs_claims.specs.Labels.{BlockValue, has_source, label_in}
-use Rattle.dimacs_judging.specs.declared.verdict.Answer.{Answer}
-use Rattle.dimacs_judging.specs.declared.verdict.Verdict.{Verdict}
+use Rattle.dimacs_judging.specs.{declared.verdict.Answer.{Answer}, declared.verdict.Verdict.{Verdict}}
+use Rattle.dimacs_instance.specs.QueryTexts as queries
 use Rattle.dimacs_judging.specs.declared.verdict.Verdict.TheVariants as verdicts
 
 -- the first block with this source

@@ -1,19 +1,13 @@
 -- The tests of cuts, potentials, sets and labels.
 use Rattle.std.specs.Prelude.{ℕ, ◌≡◌, ◌≢◌, ◌<◌, ◌⊎◌, Bool, true, false, List, [], ◌∷◌, length, get_or, Option, Some, None, IsSome, ℤ, pos, ◌+ℤ◌, ◌<ℤ◌}
-use Rattle.dimacs_network.specs.declared.network.ArcView.{ArcView}
+use Rattle.dimacs_network.specs.{declared.network.ArcView.{ArcView}, Arcs.{arc_at}}
 use Rattle.dimacs_records.specs.declared.reasons.Reason.{Reason}
 use Rattle.dimacs_records.specs.declared.reasons.Reason.TheVariants.{SourceOutside, SinkInside, NotSaturated, BackFlow, NotTight, NotViolated, NoTightArc, Escapes, NotShortest, NegativeWeight}
-use Rattle.dimacs_judging.specs.declared.verdict.Where.TheVariants.{Certificate, Node}
-use Rattle.dimacs_instance.specs.MaxFlows.{MaxValue}
-use Rattle.dimacs_instance.specs.MinFlows.{MinValue}
-use Rattle.dimacs_judging.specs.ViolatedSets.{Violated}
-use Rattle.dimacs_judging.specs.Cuts.{leaves, enters}
-use Rattle.dimacs_judging.specs.Potentials.{reduced_cost}
-use Rattle.dimacs_claims.specs.Labels.{BlockValue, IsWithinRadius, label, no_label}
-use Rattle.dimacs_judging.specs.Labels.{HasTightArc}
+use Rattle.dimacs_judging.specs.{declared.verdict.Where.TheVariants.{Certificate, Node}, ViolatedSets.{Violated}}
+use Rattle.dimacs_judging.specs.{Cuts.{leaves, enters}, Potentials.{reduced_cost}, Labels.{HasTightArc}, Tests.{Row}}
 use Rattle.dimacs_judging.specs.Rows.{arc_row, flow_row, one_test}
-use Rattle.dimacs_network.specs.Arcs.{arc_at}
-use Rattle.dimacs_judging.specs.Tests.{Row}
+use Rattle.dimacs_instance.specs.{MaxFlows.{MaxValue}, MinFlows.{MinValue}}
+use Rattle.dimacs_claims.specs.Labels.{BlockValue, IsWithinRadius, label, no_label}
 
 -- an arc leaves the set and doesn't carry its capacity, or enters it and carries flow
 abbrev pub TightFails : (ℕ → Bool) → ArcView → ℤ → Reason → Type 0

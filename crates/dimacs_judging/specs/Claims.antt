@@ -1,13 +1,11 @@
 -- The flows that the entries of solutions claim.
 use Rattle.std.specs.Prelude.{ℕ, ◌≡◌, ◌==◌, ◌<◌, ◌≤◌, ◌&&◌, ◌⊎◌, Bool, List, length, map, take, get_or, count_by, ℤ, pos}
 use Rattle.std.specs.List.{filter, range_with_len}
-use Rattle.dimacs_network.specs.declared.network.ArcView.{ArcView}
-use Rattle.dimacs_network.specs.Arcs.{joins, arc_at}
+use Rattle.dimacs_network.specs.{declared.network.ArcView.{ArcView}, Arcs.{joins, arc_at}}
 use Rattle.dimacs_claims.specs.declared.solution.Entry.{Entry}
 use Rattle.dimacs_records.specs.declared.reasons.Reason.{Reason}
 use Rattle.dimacs_records.specs.declared.reasons.Reason.TheVariants.{UnknownArc, ArcTwice}
-use Rattle.dimacs_judging.specs.declared.verdict.Where.TheVariants.{Solution}
-use Rattle.dimacs_judging.specs.Tests.{Row}
+use Rattle.dimacs_judging.specs.{declared.verdict.Where.TheVariants.{Solution}, Tests.{Row}}
 
 -- the entry has these ends
 abbrev pub is_between : ℕ → ℕ → Entry → Bool

@@ -1,7 +1,5 @@
 -- Cuts: sets of nodes with the source inside and the sink outside.
-use Rattle.std.specs.Prelude.{ℕ, ◌≡◌, Bool, true, false, not, ◌&&◌, List, ℤ, pos}
-use Rattle.std.specs.List.{AllZip}
-use Rattle.std.specs.FinSet.{contains}
+use Rattle.std.specs.{Prelude.{ℕ, ◌≡◌, Bool, true, false, not, ◌&&◌, List, ℤ, pos}, List.{AllZip}, FinSet.{contains}}
 use Rattle.dimacs_network.specs.declared.network.ArcView.{ArcView}
 use Rattle.dimacs_instance.specs.MaxFlows.{MaxValue}
 use Rattle.dimacs_claims.specs.Cuts.{CutValue}

@@ -1,9 +1,7 @@
 -- Feasible flows.
-use Rattle.std.specs.Prelude.{ℕ, ◌≡◌, ◌≢◌, List, ℤ, pos, ◌≤ℤ◌}
-use Rattle.std.specs.List.{AllZip}
-use Rattle.dimacs_instance.specs.MaxFlows.{MaxValue}
+use Rattle.std.specs.{Prelude.{ℕ, ◌≡◌, ◌≢◌, List, ℤ, pos, ◌≤ℤ◌}, List.{AllZip}}
+use Rattle.dimacs_instance.specs.{MaxFlows.{MaxValue}, MinFlows.{MinValue, supply_of}}
 use Rattle.dimacs_lines.specs.Limits.{IsNode}
-use Rattle.dimacs_instance.specs.MinFlows.{MinValue, supply_of}
 use Rattle.dimacs_judging.specs.Flows.{net}
 
 -- every arc carries from 0 to its capacity, and the balance of every node but source and sink is 0

@@ -1,15 +1,10 @@
 -- Judging a flow itself, without a solution and its claimed value.
 use Rattle.std.specs.Prelude.{ℕ, ◌<◌, Bool, List, [], ◌∷◌, ◌++◌, length, ℤ}
-use Rattle.dimacs_instance.specs.MaxFlows.{MaxValue}
-use Rattle.dimacs_instance.specs.MinFlows.{MinValue}
+use Rattle.dimacs_instance.specs.{MaxFlows.{MaxValue}, MinFlows.{MinValue}}
 use Rattle.dimacs_records.specs.Ranges.{IsWide}
-use Rattle.dimacs_judging.specs.CertificateTests.{cut_rows, slack_row}
-use Rattle.dimacs_judging.specs.Cuts.{CutTight}
-use Rattle.dimacs_judging.specs.Feasible.{FeasibleMax, FeasibleMin}
+use Rattle.dimacs_judging.specs.{CertificateTests.{cut_rows, slack_row}, Cuts.{CutTight}, Optimum.{Maximum, Least}}
+use Rattle.dimacs_judging.specs.{Feasible.{FeasibleMax, FeasibleMin}, Potentials.{Slack}, Tests.{Row}}
 use Rattle.dimacs_judging.specs.FlowTests.{feasible_max_rows, feasible_min_rows, cost_row, cost_through}
-use Rattle.dimacs_judging.specs.Optimum.{Maximum, Least}
-use Rattle.dimacs_judging.specs.Potentials.{Slack}
-use Rattle.dimacs_judging.specs.Tests.{Row}
 
 -- the tests of a flow and a cut, in order
 abbrev pub max_flow_rows : MaxValue → List ℤ → (ℕ → Bool) → List Row

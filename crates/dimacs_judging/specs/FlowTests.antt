@@ -1,18 +1,12 @@
 -- The tests of a flow: bounds, balances and cost.
 use Rattle.std.specs.Prelude.{ℕ, ◌≡◌, ◌≢◌, ◌+◌, ◌<◌, ◌⊎◌, ◌==◌, if◌then◌else◌, List, [], ◌∷◌, length, take, Option, Some, None, Result, Ok, Err, ℤ, pos, ◌≤ℤ◌, ◌<ℤ◌}
-use Rattle.dimacs_network.specs.declared.network.ArcView.{ArcView}
-use Rattle.dimacs_records.specs.declared.reasons.Reason.{Reason}
+use Rattle.dimacs_network.specs.{declared.network.ArcView.{ArcView}, Tables.{value_of}}
+use Rattle.dimacs_records.specs.{declared.reasons.Reason.{Reason}, Ranges.{IsWide}}
 use Rattle.dimacs_records.specs.declared.reasons.Reason.TheVariants.{BelowLow, AboveCap, Balance, CostRange}
-use Rattle.dimacs_network.specs.Tables.{value_of}
-use Rattle.dimacs_records.specs.Ranges.{IsWide}
-use Rattle.dimacs_judging.specs.Flows.{net, cost}
-use Rattle.dimacs_judging.specs.Rows.{arc_row, flow_row, node_row}
+use Rattle.dimacs_judging.specs.{Flows.{net, cost}, Rows.{arc_row, flow_row, node_row}, declared.verdict.Where.{Where}}
 use Rattle.dimacs_judging.specs.Tests.{Row, Clear, FirstOfRow, AllClear, First, Refuses}
-use Rattle.dimacs_judging.specs.declared.balances.Balances.{Balances}
-use Rattle.dimacs_judging.specs.declared.verdict.Where.{Where}
-use Rattle.dimacs_instance.specs.MaxFlows.{MaxValue}
-use Rattle.dimacs_instance.specs.MinFlows.{MinValue, supply_of}
-use Rattle.dimacs_judging.specs.declared.verdict.JudgeError.{JudgeError}
+use Rattle.dimacs_judging.specs.{declared.balances.Balances.{Balances}, declared.verdict.JudgeError.{JudgeError}}
+use Rattle.dimacs_instance.specs.{MaxFlows.{MaxValue}, MinFlows.{MinValue, supply_of}}
 
 -- less than the lower bound, which is 0 in a maximum flow; otherwise more than the capacity
 abbrev pub BoundFails : ArcView → ℤ → Reason → Type 0

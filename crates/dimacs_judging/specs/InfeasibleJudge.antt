@@ -2,12 +2,8 @@
 use Rattle.std.specs.Prelude.{◌≡◌, List, [], ◌∷◌}
 use Rattle.dimacs_claims.specs.Cuts.{CutValue}
 use Rattle.dimacs_instance.specs.MinFlows.{MinValue}
-use Rattle.dimacs_judging.specs.Agreement.{nodes_row}
-use Rattle.dimacs_judging.specs.CertificateTests.{violated_row}
-use Rattle.dimacs_judging.specs.Cuts.{members}
-use Rattle.dimacs_judging.specs.Optimum.{NoFlow}
-use Rattle.dimacs_judging.specs.Tests.{Row}
-use Rattle.dimacs_judging.specs.ViolatedSets.{Violated}
+use Rattle.dimacs_judging.specs.{Agreement.{nodes_row}, CertificateTests.{violated_row}, Cuts.{members}, Tests.{Row}}
+use Rattle.dimacs_judging.specs.{Optimum.{NoFlow}, ViolatedSets.{Violated}}
 
 -- the tests of a set, in order
 abbrev pub infeasible_rows : MinValue → CutValue → List Row

@@ -1,21 +1,13 @@
 -- The theorems: what certificates show of flows and of walks.
 use Rattle.std.specs.Prelude.{ℕ, ◌≡◌, Bool, List, All, ℤ, ◌-ℤ◌, ◌*ℤ◌}
-use Rattle.dimacs_network.specs.declared.network.ArcView.{ArcView}
-use Rattle.dimacs_network.specs.Arcs.{JoinsNodes, NetworkValue}
-use Rattle.dimacs_instance.specs.QueryTexts.{QueriesValue}
-use Rattle.dimacs_judging.specs.Flows.{net, sum_arcs, sum_nodes}
-use Rattle.dimacs_instance.specs.MaxFlows.{MaxValue}
-use Rattle.dimacs_lines.specs.Limits.{IsNode}
-use Rattle.dimacs_instance.specs.MinFlows.{MinValue}
-use Rattle.dimacs_judging.specs.Feasible.{FeasibleMax, FeasibleMin}
-use Rattle.dimacs_judging.specs.Optimum.{Maximum, Least, NoFlow}
-use Rattle.dimacs_judging.specs.Cuts.{CutTight}
-use Rattle.dimacs_judging.specs.Potentials.{Slack}
-use Rattle.dimacs_judging.specs.ViolatedSets.{Violated}
-use Rattle.dimacs_judging.specs.Walks.{IsDistance}
-use Rattle.dimacs_claims.specs.Labels.{AreLabels, BlockValue, LabelsValue, PredsAreEarlier, label}
-use Rattle.dimacs_judging.specs.Labels.{LabelsOk, StaysNear}
+use Rattle.dimacs_network.specs.{declared.network.ArcView.{ArcView}, Arcs.{JoinsNodes, NetworkValue}}
+use Rattle.dimacs_instance.specs.{QueryTexts.{QueriesValue}, MaxFlows.{MaxValue}, MinFlows.{MinValue}}
+use Rattle.dimacs_judging.specs.{Flows.{net, sum_arcs, sum_nodes}, Feasible.{FeasibleMax, FeasibleMin}, Cuts.{CutTight}}
+use Rattle.dimacs_judging.specs.{Optimum.{Maximum, Least, NoFlow}, Potentials.{Slack}, ViolatedSets.{Violated}}
+use Rattle.dimacs_judging.specs.{Walks.{IsDistance}, Labels.{LabelsOk, StaysNear}}
 use Rattle.dimacs_judging.specs.PathsJudge.{PassesPaths, ShowsDistances}
+use Rattle.dimacs_lines.specs.Limits.{IsNode}
+use Rattle.dimacs_claims.specs.Labels.{AreLabels, BlockValue, LabelsValue, PredsAreEarlier, label}
 
 -- the sum exchange: balances times node weights, over the nodes, are amounts times weight differences, over the arcs
 abbrev pub ExchangeLaw : Type 0

@@ -1,16 +1,10 @@
 -- Judging that a flow is maximum.
 use Rattle.std.specs.Prelude.{◌≡◌, List, [], ◌∷◌, ◌++◌, ℤ}
-use Rattle.dimacs_claims.specs.Cuts.{CutValue}
-use Rattle.dimacs_claims.specs.SolutionTexts.{SolutionValue}
+use Rattle.dimacs_claims.specs.{Cuts.{CutValue}, SolutionTexts.{SolutionValue}}
 use Rattle.dimacs_instance.specs.MaxFlows.{MaxValue}
-use Rattle.dimacs_judging.specs.Agreement.{value_row, nodes_row}
-use Rattle.dimacs_judging.specs.CertificateTests.{cut_rows}
-use Rattle.dimacs_judging.specs.Claims.{Carries, claimed_flow, entry_row}
-use Rattle.dimacs_judging.specs.Cuts.{CutTight, members}
-use Rattle.dimacs_judging.specs.Feasible.{FeasibleMax, value}
-use Rattle.dimacs_judging.specs.FlowTests.{bound_row, balance_row, max_demand}
-use Rattle.dimacs_judging.specs.Optimum.{Maximum}
-use Rattle.dimacs_judging.specs.Tests.{Row}
+use Rattle.dimacs_judging.specs.{Agreement.{value_row, nodes_row}, CertificateTests.{cut_rows}, Optimum.{Maximum}}
+use Rattle.dimacs_judging.specs.{Claims.{Carries, claimed_flow, entry_row}, Cuts.{CutTight, members}, Tests.{Row}}
+use Rattle.dimacs_judging.specs.{Feasible.{FeasibleMax, value}, FlowTests.{bound_row, balance_row, max_demand}}
 
 -- the tests of a claimed flow, in order
 abbrev pub max_claim_rows : MaxValue → SolutionValue → List Row

@@ -1,18 +1,12 @@
 -- Judging that a flow costs least.
 use Rattle.std.specs.Prelude.{ℕ, ◌≡◌, ◌<◌, List, [], ◌∷◌, ◌++◌, length, ℤ}
-use Rattle.dimacs_claims.specs.Potentials.{PotentialsValue, potential_of}
-use Rattle.dimacs_claims.specs.SolutionTexts.{SolutionValue}
+use Rattle.dimacs_claims.specs.{Potentials.{PotentialsValue, potential_of}, SolutionTexts.{SolutionValue}}
 use Rattle.dimacs_instance.specs.MinFlows.{MinValue}
-use Rattle.dimacs_judging.specs.Agreement.{value_row, nodes_row}
-use Rattle.dimacs_judging.specs.CertificateTests.{slack_row}
-use Rattle.dimacs_judging.specs.Claims.{Carries, claimed_flow, entry_row}
-use Rattle.dimacs_judging.specs.Feasible.{FeasibleMin}
-use Rattle.dimacs_judging.specs.Flows.{cost}
+use Rattle.dimacs_judging.specs.{Agreement.{value_row, nodes_row}, CertificateTests.{slack_row}, Feasible.{FeasibleMin}}
+use Rattle.dimacs_judging.specs.{Claims.{Carries, claimed_flow, entry_row}, Flows.{cost}, Optimum.{Least}, Tests.{Row}}
 use Rattle.dimacs_judging.specs.FlowTests.{bound_row, balance_row, min_demand, cost_through, cost_row}
-use Rattle.dimacs_judging.specs.Optimum.{Least}
 use Rattle.dimacs_judging.specs.Potentials.{Slack}
 use Rattle.dimacs_records.specs.Ranges.{IsWide}
-use Rattle.dimacs_judging.specs.Tests.{Row}
 
 -- the tests of a claimed flow, in order
 abbrev pub min_claim_rows : MinValue → SolutionValue → List Row

@@ -1,9 +1,7 @@
 -- Optimal flows, among all flows of whole numbers.
 use Rattle.std.specs.Prelude.{List, ℤ, ◌≤ℤ◌}
-use Rattle.dimacs_judging.specs.Flows.{cost}
-use Rattle.dimacs_instance.specs.MaxFlows.{MaxValue}
-use Rattle.dimacs_instance.specs.MinFlows.{MinValue}
-use Rattle.dimacs_judging.specs.Feasible.{FeasibleMax, FeasibleMin, value}
+use Rattle.dimacs_judging.specs.{Flows.{cost}, Feasible.{FeasibleMax, FeasibleMin, value}}
+use Rattle.dimacs_instance.specs.{MaxFlows.{MaxValue}, MinFlows.{MinValue}}
 
 -- the flow is feasible, and no feasible flow has a greater value
 pub record Maximum (i : MaxValue) (x : List ℤ) : Type 0 where

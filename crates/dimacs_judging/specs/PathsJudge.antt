@@ -1,16 +1,11 @@
 -- Judging that labels are distances: the tests, what passes them, and what that shows.
 use Rattle.std.specs.Prelude.{◌≡◌, ◌≤◌, List, ◌∷◌, All}
-use Rattle.dimacs_network.specs.declared.network.ArcView.{ArcView}
-use Rattle.dimacs_network.specs.Arcs.{NetworkValue}
+use Rattle.dimacs_network.specs.{declared.network.ArcView.{ArcView}, Arcs.{NetworkValue}}
 use Rattle.dimacs_instance.specs.QueryTexts.{QueriesValue, Sources, Pairs}
 use Rattle.dimacs_claims.specs.Labels.{BlockValue, LabelsValue}
-use Rattle.dimacs_judging.specs.Agreement.{nodes_row}
-use Rattle.dimacs_judging.specs.Answers.{beyond_from, distance_from}
-use Rattle.dimacs_judging.specs.CertificateTests.{label_rows}
-use Rattle.dimacs_judging.specs.Labels.{LabelsOk, AreDistances}
+use Rattle.dimacs_judging.specs.{Agreement.{nodes_row}, Answers.{beyond_from, distance_from}, Tests.{Row}}
+use Rattle.dimacs_judging.specs.{CertificateTests.{label_rows}, Labels.{LabelsOk, AreDistances}, Walks.{IsDistance}}
 use Rattle.dimacs_judging.specs.QueryTests.{IsServed, nodes_asked, sources_asked, query_node_row, block_row}
-use Rattle.dimacs_judging.specs.Tests.{Row}
-use Rattle.dimacs_judging.specs.Walks.{IsDistance}
 
 -- the tests of queries and labels, in order
 abbrev pub paths_rows : NetworkValue → QueriesValue → LabelsValue → List Row

@@ -1,11 +1,9 @@
 -- A flow while entries are put on their arcs, entry by entry.
 use Rattle.std.specs.Prelude.{ℕ, zero, suc, ◌≡◌, Bool, false, List, take, get_or, count_by, ℤ, Option, None, Some}
-use Rattle.dimacs_network.specs.declared.network.ArcView.{ArcView}
-use Rattle.dimacs_network.specs.Arcs.{joins, IsKthBetween}
+use Rattle.dimacs_network.specs.{declared.network.ArcView.{ArcView}, Arcs.{joins, IsKthBetween}}
 use Rattle.dimacs_claims.specs.declared.solution.Entry.{Entry}
 use Rattle.dimacs_records.specs.declared.reasons.Reason.{Reason}
-use Rattle.dimacs_judging.specs.declared.verdict.Where.{Where}
-use Rattle.dimacs_judging.specs.Claims.{is_between, claimed_flow, entry_row}
+use Rattle.dimacs_judging.specs.{declared.verdict.Where.{Where}, Claims.{is_between, claimed_flow, entry_row}}
 use Rattle.dimacs_judging.specs.Tests.{Clear, FirstOfRow}
 
 -- the arcs, their amounts and counts, how many entries came in order, whether another came, whether entries are searched for,

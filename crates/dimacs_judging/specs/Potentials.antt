@@ -1,6 +1,5 @@
 -- Potentials: a whole number at each node.
-use Rattle.std.specs.Prelude.{ℕ, ◌≡◌, List, ℤ, pos, ◌+ℤ◌, ◌-ℤ◌, ◌<ℤ◌}
-use Rattle.std.specs.List.{AllZip}
+use Rattle.std.specs.{Prelude.{ℕ, ◌≡◌, List, ℤ, pos, ◌+ℤ◌, ◌-ℤ◌, ◌<ℤ◌}, List.{AllZip}}
 use Rattle.dimacs_network.specs.declared.network.ArcView.{ArcView}
 
 -- the arc's cost, minus the potential of its tail, plus the potential of its head

@@ -1,13 +1,10 @@
 -- The tests of queries: their nodes, and the blocks that answer them.
-use Rattle.std.specs.Prelude.{ℕ, ◌≡◌, ◌<◌, List, [], ◌∷◌, map, length, get_or, Some, None}
-use Rattle.std.specs.List.{Any, flat_map}
+use Rattle.std.specs.{Prelude.{ℕ, ◌≡◌, ◌<◌, List, [], ◌∷◌, map, length, get_or, Some, None}, List.{Any, flat_map}}
 use Rattle.dimacs_instance.specs.QueryTexts.{QueriesValue, Sources, Pairs}
 use Rattle.dimacs_claims.specs.Labels.{BlockValue}
 use Rattle.dimacs_records.specs.declared.reasons.Reason.{Reason}
 use Rattle.dimacs_records.specs.declared.reasons.Reason.TheVariants.{QueryNode, BlockMissing}
-use Rattle.dimacs_judging.specs.declared.verdict.Where.TheVariants.{Node}
-use Rattle.dimacs_judging.specs.Answers.{block_of}
-use Rattle.dimacs_judging.specs.Tests.{Row}
+use Rattle.dimacs_judging.specs.{declared.verdict.Where.TheVariants.{Node}, Answers.{block_of}, Tests.{Row}}
 
 -- the nodes that queries name, query by query: of a pair FROM before TO
 abbrev pub nodes_asked : QueriesValue → List ℕ

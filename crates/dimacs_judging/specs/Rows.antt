@@ -1,12 +1,10 @@
 -- Rows of tests: for each arc, for each node, and single tests.
 use Rattle.std.specs.Prelude.{ℕ, ◌≡◌, ◌+◌, ◌<◌, List, length, get_or, ℤ, pos}
-use Rattle.dimacs_network.specs.declared.network.ArcView.{ArcView}
-use Rattle.dimacs_network.specs.Arcs.{arc_at}
+use Rattle.dimacs_network.specs.{declared.network.ArcView.{ArcView}, Arcs.{arc_at}}
 use Rattle.dimacs_records.specs.declared.reasons.Reason.{Reason}
-use Rattle.dimacs_judging.specs.declared.verdict.Where.{Where}
-use Rattle.dimacs_judging.specs.declared.verdict.Where.TheVariants.{Arc, Node}
-use Rattle.dimacs_lines.specs.Limits.{IsNode}
+use Rattle.dimacs_judging.specs.{declared.verdict.Where.{Where}, declared.verdict.Where.TheVariants.{Arc, Node}}
 use Rattle.dimacs_judging.specs.Tests.{Row}
+use Rattle.dimacs_lines.specs.Limits.{IsNode}
 
 -- the amount on the arc with this index
 abbrev pub amount_at : List ℤ → ℕ → ℤ

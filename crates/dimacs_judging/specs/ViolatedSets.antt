@@ -1,8 +1,7 @@
 -- Sets of nodes whose supply can't be met.
 use Rattle.std.specs.Prelude.{ℕ, ◌⊎◌, Bool, List, [], ◌∷◌, ℤ, pos, ◌+ℤ◌, ◌-ℤ◌, ◌<ℤ◌}
 use Rattle.dimacs_network.specs.declared.network.ArcView.{ArcView}
-use Rattle.dimacs_judging.specs.Flows.{when, sum_nodes}
-use Rattle.dimacs_judging.specs.Cuts.{leaves, enters}
+use Rattle.dimacs_judging.specs.{Flows.{when, sum_nodes}, Cuts.{leaves, enters}}
 use Rattle.dimacs_instance.specs.MinFlows.{MinValue, supply_of}
 
 -- the sum of f over the arcs that pass the test

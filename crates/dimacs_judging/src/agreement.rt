@@ -1,7 +1,6 @@
 //! Tests of a claim's own numbers against the instance.
 
-ghost use Rattle.dimacs_judging.specs.Agreement.{value_row, nodes_row};
-ghost use Rattle.dimacs_judging.specs.Tests.{TestsRow};
+ghost use Rattle.dimacs_judging.specs.{Agreement.{value_row, nodes_row}, Tests.{TestsRow}};
 
 use crate::verdict::Where;
 use dimacs_claims::{Place, Placed};

@@ -1,8 +1,7 @@
 //! Chains of a network's first arcs, for entries that come in order but leave arcs out.
 
 ghost use Rattle.std.specs.Prelude.{◌≡◌, ◌<◌, ◌≤◌, ◌+◌, ◌^◌, Some, true, IfOk, IfSome, IsTrue, OnOk, length};
-ghost use Rattle.dimacs_network.specs.declared.network.ArcView.{ArcView};
-ghost use Rattle.dimacs_network.specs.Arcs.{arc_at, joins};
+ghost use Rattle.dimacs_network.specs.{declared.network.ArcView.{ArcView}, Arcs.{arc_at, joins}};
 ghost use Rattle.dimacs_judging.specs.inside.ArcChains.{AreChained, IsFirstBetween, chain_of};
 
 use dimacs_claims::Entry;

@@ -3,9 +3,7 @@
 ghost use Rattle.std.specs.Prelude.{◌≡◌, ℤ, length};
 ghost use Rattle.dimacs_network.specs.declared.network.ArcView.{ArcView};
 ghost use Rattle.dimacs_records.specs.declared.reasons.Reason.{Reason};
-ghost use Rattle.dimacs_judging.specs.Rows.{flow_row};
-ghost use Rattle.dimacs_judging.specs.Tests.{TestsRow};
-ghost use Rattle.dimacs_judging.specs.inside.Tests.{NamesReason};
+ghost use Rattle.dimacs_judging.specs.{Rows.{flow_row}, Tests.{TestsRow}, inside.Tests.{NamesReason}};
 
 use crate::flow::Flow;
 use crate::verdict::Where;

@@ -4,9 +4,7 @@ ghost use Rattle.std.specs.Prelude.{◌≡◌, ◌≤◌, ◌^◌, ◌==◌, ℕ
 ghost use Rattle.std.specs.Int.{w128};
 ghost use Rattle.dimacs_lines.specs.Limits.{most_count};
 ghost use Rattle.dimacs_network.specs.Tables.{value_of};
-ghost use Rattle.dimacs_judging.specs.Flows.{when};
-ghost use Rattle.dimacs_judging.specs.FlowTests.{AreBalances};
-ghost use Rattle.dimacs_judging.specs.inside.Ranges.{IsOfSize};
+ghost use Rattle.dimacs_judging.specs.{Flows.{when}, FlowTests.{AreBalances}, inside.Ranges.{IsOfSize}};
 
 use crate::flow::Flow;
 use dimacs_lines::Memory;

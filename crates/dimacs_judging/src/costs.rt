@@ -1,8 +1,7 @@
 //! The cost of a flow.
 
 ghost use Rattle.std.specs.Prelude.{◌≡◌, ◌^◌, ◌+ℤ◌, ◌*ℤ◌, length, IsTrue, ◌↔◌, MatchOption};
-ghost use Rattle.dimacs_judging.specs.FlowTests.{SumsCost};
-ghost use Rattle.dimacs_judging.specs.inside.Ranges.{IsOfSize};
+ghost use Rattle.dimacs_judging.specs.{FlowTests.{SumsCost}, inside.Ranges.{IsOfSize}};
 ghost use Rattle.dimacs_records.specs.Ranges.{IsWide};
 
 use crate::flow::Flow;

@@ -3,11 +3,8 @@
 ghost use Rattle.std.specs.Prelude.{◌≡◌, ◌≤◌, ◌^◌, ◌+ℤ◌, ◌-ℤ◌, ◌<ℤ◌, ◌⊎◌, ◌↔◌, IsTrue, length};
 ghost use Rattle.dimacs_lines.specs.Limits.{most_count};
 ghost use Rattle.dimacs_instance.specs.MinFlows.{supply_of};
-ghost use Rattle.dimacs_judging.specs.CertificateTests.{violated_row};
-ghost use Rattle.dimacs_judging.specs.Cuts.{members, leaves, enters};
-ghost use Rattle.dimacs_judging.specs.Flows.{when};
-ghost use Rattle.dimacs_judging.specs.inside.Ranges.{IsOfSize};
-ghost use Rattle.dimacs_judging.specs.Tests.{TestsRow};
+ghost use Rattle.dimacs_judging.specs.{CertificateTests.{violated_row}, Cuts.{members, leaves, enters}, Flows.{when}};
+ghost use Rattle.dimacs_judging.specs.{inside.Ranges.{IsOfSize}, Tests.{TestsRow}};
 ghost use Rattle.dimacs_judging.specs.ViolatedSets as theory;
 ghost use Rattle.dimacs_judging.specs.ViolatedSets.{most_out, least_out};
 

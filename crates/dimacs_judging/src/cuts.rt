@@ -1,8 +1,7 @@
 //! Whether a cut is tight for a flow.
 
 ghost use Rattle.std.specs.Prelude.{◌≡◌, length};
-ghost use Rattle.dimacs_judging.specs.CertificateTests.{TightFails, cut_rows};
-ghost use Rattle.dimacs_judging.specs.Cuts.{CutTight, members};
+ghost use Rattle.dimacs_judging.specs.{CertificateTests.{TightFails, cut_rows}, Cuts.{CutTight, members}};
 ghost use Rattle.dimacs_judging.specs.Tests.{Decides};
 
 use crate::arc_test::{ArcTest, arcs_hold};

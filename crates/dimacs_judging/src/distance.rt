@@ -1,8 +1,7 @@
 //! Distances in 32, 64 or 128 bits, for tables of nodes.
 
 ghost use Rattle.std.specs.Prelude.{◌≡◌, ◌↔◌, ◌+ℤ◌, ◌<ℤ◌, ℤ, Option, Some, None, pos, IsTrue, int_lt, if◌then◌else◌};
-ghost use Rattle.dimacs_judging.specs.Distances.{Fits};
-ghost use Rattle.dimacs_judging.specs.inside.Distances.{Improves, IsTight};
+ghost use Rattle.dimacs_judging.specs.{Distances.{Fits}, inside.Distances.{Improves, IsTight}};
 
 /// A distance, or none: the greatest value.
 pub trait Distance: Copy {

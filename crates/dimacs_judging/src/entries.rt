@@ -1,11 +1,8 @@
 //! The flow that the entries of a solution claim.
 
 ghost use Rattle.std.specs.Prelude.{◌≡◌, ◌∷◌, [], IfOk};
-ghost use Rattle.dimacs_claims.specs.SolutionReading.{IsPlaced};
-ghost use Rattle.dimacs_claims.specs.SolutionTexts.{claimed};
-ghost use Rattle.dimacs_judging.specs.Claims.{Carries, entry_row};
-ghost use Rattle.dimacs_judging.specs.Places.{ArePlaced};
-ghost use Rattle.dimacs_judging.specs.Tests.{Settles};
+ghost use Rattle.dimacs_claims.specs.{SolutionReading.{IsPlaced}, SolutionTexts.{claimed}};
+ghost use Rattle.dimacs_judging.specs.{Claims.{Carries, entry_row}, Places.{ArePlaced}, Tests.{Settles}};
 
 use crate::flow::Flow;
 use crate::places::FlowPlaces;

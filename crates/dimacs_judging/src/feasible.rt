@@ -2,10 +2,8 @@
 
 ghost use Rattle.std.specs.Prelude.{◌≡◌, ◌≤◌, ℕ, ℤ, List, Option, length};
 ghost use Rattle.dimacs_lines.specs.Limits.{most_count, most_nodes};
-ghost use Rattle.dimacs_judging.specs.Feasible.{FeasibleMax, FeasibleMin};
-ghost use Rattle.dimacs_judging.specs.Flows.{net};
+ghost use Rattle.dimacs_judging.specs.{Feasible.{FeasibleMax, FeasibleMin}, Flows.{net}, Tests.{Settles, TestsRow}};
 ghost use Rattle.dimacs_judging.specs.FlowTests.{BoundFails, BalanceFails, bound_row, balance_row, feasible_max_rows, feasible_min_rows, max_demand, min_demand, TestsFeasible};
-ghost use Rattle.dimacs_judging.specs.Tests.{Settles, TestsRow};
 ghost use Rattle.dimacs_judging.specs.inside.Tests.{NamesReason};
 
 use crate::arc_test::{ArcTest, arcs_hold};

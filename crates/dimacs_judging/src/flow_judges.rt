@@ -2,12 +2,9 @@
 
 ghost use Rattle.std.specs.Prelude.{◌≡◌, length};
 ghost use Rattle.dimacs_claims.specs.Potentials.{potential_of};
-ghost use Rattle.dimacs_judging.specs.declared.verdict.Verdict.TheVariants.{Max, Min};
-ghost use Rattle.dimacs_judging.specs.Cuts.{members};
-ghost use Rattle.dimacs_judging.specs.Feasible.{value};
+ghost use Rattle.dimacs_judging.specs.{declared.verdict.Verdict.TheVariants.{Max, Min}, Cuts.{members}, Flows.{cost}};
+ghost use Rattle.dimacs_judging.specs.{Feasible.{value}, Tests.{Judges}};
 ghost use Rattle.dimacs_judging.specs.FlowJudges.{ShowsMaxFlow, ShowsMinFlow, max_flow_rows, min_flow_rows};
-ghost use Rattle.dimacs_judging.specs.Flows.{cost};
-ghost use Rattle.dimacs_judging.specs.Tests.{Judges};
 
 use crate::cuts::cut_tests;
 use crate::flow::Flow;

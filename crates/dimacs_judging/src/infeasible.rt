@@ -1,10 +1,9 @@
 //! Judging that an instance has no feasible flow.
 
 ghost use Rattle.std.specs.Prelude.{◌≡◌, ◌≢◌, Err};
-ghost use Rattle.dimacs_judging.specs.declared.verdict.JudgeError.TheVariants.{Memory};
+ghost use Rattle.dimacs_judging.specs.{declared.verdict.JudgeError.TheVariants.{Memory}, Tests.{Judges}};
 ghost use Rattle.dimacs_judging.specs.declared.verdict.Verdict.TheVariants.{Infeasible};
 ghost use Rattle.dimacs_judging.specs.InfeasibleJudge.{ShowsNoFlow, infeasible_rows};
-ghost use Rattle.dimacs_judging.specs.Tests.{Judges};
 
 use crate::agreement::nodes_agree;
 use crate::crossing::set_is_violated;

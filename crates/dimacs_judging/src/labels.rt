@@ -3,13 +3,11 @@
 ghost use Rattle.std.specs.Prelude.{◌≡◌, ◌<◌, ◌+ℤ◌, ◌<ℤ◌, ℤ, Some, All, length, IsTrue, ◌↔◌, IfSome, OnOk};
 ghost use Rattle.dimacs_claims.specs.Labels.{AreLabels, IsWithinRadius, label_at};
 ghost use Rattle.dimacs_judging.specs.CertificateTests.{RelaxFails, label_rows, negative_row, relax_row, support_row, weight_row};
-ghost use Rattle.dimacs_judging.specs.inside.CertificateTests.{block_rows};
+ghost use Rattle.dimacs_judging.specs.{inside.CertificateTests.{block_rows}, inside.Labels.{block_at}};
 ghost use Rattle.dimacs_judging.specs.Labels.{AreDistances, HasArcOfWeight, LabelsOk};
-ghost use Rattle.dimacs_judging.specs.inside.Labels.{block_at};
 ghost use Rattle.dimacs_records.specs.Ranges.{IsWide};
 ghost use Rattle.dimacs_records.specs.declared.reasons.Reason.TheVariants as reasons;
-ghost use Rattle.dimacs_judging.specs.Tests.{Decides, TestsRow};
-ghost use Rattle.dimacs_judging.specs.inside.Tests.{NamesReason, TestsRows};
+ghost use Rattle.dimacs_judging.specs.{Tests.{Decides, TestsRow}, inside.Tests.{NamesReason, TestsRows}};
 
 use crate::verdict::Where;
 use dimacs_claims::{Label, LabelList, Labels};

@@ -2,17 +2,12 @@
 
 ghost use Rattle.std.specs.Prelude.{◌≡◌, ◌≤◌, ◌<◌, ◌^◌, ◌-◌, ◌↔◌, ℕ, pos, neg_ℤ, All, List, IfSome, OnSome, IsTrue};
 ghost use Rattle.dimacs_lines.specs.Limits.{most_nodes};
-ghost use Rattle.dimacs_network.specs.Arcs.{JoinsNodes};
-ghost use Rattle.dimacs_network.specs.DenseTables.{HasNode, HasNodes, SameNodes};
+ghost use Rattle.dimacs_network.specs.{Arcs.{JoinsNodes}, DenseTables.{HasNode, HasNodes, SameNodes}};
 ghost use Rattle.dimacs_network.specs.declared.network.ArcView.{ArcView};
-ghost use Rattle.dimacs_claims.specs.declared.block.Label.{Label};
-ghost use Rattle.dimacs_claims.specs.Labels.{IsBlock};
-ghost use Rattle.dimacs_judging.specs.Distances.{Fits};
-ghost use Rattle.dimacs_judging.specs.inside.CertificateTests.{distance_rows};
-ghost use Rattle.dimacs_judging.specs.inside.Distances.{Improves};
-ghost use Rattle.dimacs_judging.specs.inside.LabelsAtOnce.{AreSmall, entries_at};
+ghost use Rattle.dimacs_claims.specs.{declared.block.Label.{Label}, Labels.{IsBlock}};
+ghost use Rattle.dimacs_judging.specs.{Distances.{Fits}, inside.CertificateTests.{distance_rows}, Tests.{AllClear}};
+ghost use Rattle.dimacs_judging.specs.{inside.Distances.{Improves}, inside.LabelsAtOnce.{AreSmall, entries_at}};
 ghost use Rattle.dimacs_judging.specs.inside.NodeLabels.{HasLabels, IsFirstTight, RelaxesArc};
-ghost use Rattle.dimacs_judging.specs.Tests.{AllClear};
 
 use crate::distance::{Distance, is_tight};
 use crate::leaving::has_few_labels;

@@ -1,12 +1,9 @@
 //! Judging that a flow costs least.
 
 ghost use Rattle.std.specs.Prelude.{◌≡◌, Ok};
-ghost use Rattle.dimacs_claims.specs.SolutionReading.{IsPlaced};
-ghost use Rattle.dimacs_claims.specs.SolutionTexts.{SolutionValue, claimed};
-ghost use Rattle.dimacs_judging.specs.declared.verdict.Verdict.TheVariants.{Min};
-ghost use Rattle.dimacs_judging.specs.MinJudge.{ShowsLeast, min_rows};
-ghost use Rattle.dimacs_judging.specs.Places.{ArePlaced};
-ghost use Rattle.dimacs_judging.specs.Tests.{Judges};
+ghost use Rattle.dimacs_claims.specs.{SolutionReading.{IsPlaced}, SolutionTexts.{SolutionValue, claimed}};
+ghost use Rattle.dimacs_judging.specs.{declared.verdict.Verdict.TheVariants.{Min}, MinJudge.{ShowsLeast, min_rows}};
+ghost use Rattle.dimacs_judging.specs.{Places.{ArePlaced}, Tests.{Judges}};
 
 use crate::agreement::nodes_agree;
 use crate::entries::placed;

@@ -4,11 +4,9 @@ ghost use Rattle.std.specs.Prelude.{◌≡◌, ◌+ℤ◌, ℕ, Some, IsTrue};
 ghost use Rattle.dimacs_network.specs.declared.network.ArcView.{ArcView};
 ghost use Rattle.dimacs_claims.specs.Labels.{IsBlock, IsWithinRadius, label};
 ghost use Rattle.dimacs_records.specs.Ranges.{IsWide};
-ghost use Rattle.dimacs_judging.specs.CertificateTests.{relax_row};
-ghost use Rattle.dimacs_judging.specs.inside.Leaving.{AreRelaxedFrom, IsRelaxedBy};
-ghost use Rattle.dimacs_judging.specs.LightestArcs.{AreLightest};
+ghost use Rattle.dimacs_judging.specs.{CertificateTests.{relax_row}, inside.Leaving.{AreRelaxedFrom, IsRelaxedBy}};
+ghost use Rattle.dimacs_judging.specs.{LightestArcs.{AreLightest}, Tests.{Clear}};
 ghost use Rattle.dimacs_judging.specs.inside.NodeLabels.{AreSupported, IsLabelled, entries};
-ghost use Rattle.dimacs_judging.specs.Tests.{Clear};
 
 use crate::distance::Distance;
 use crate::labels::escape_fault;

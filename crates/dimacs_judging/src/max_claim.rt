@@ -1,13 +1,10 @@
 //! The tests of a claimed maximum flow, before the cut or with it in one pass.
 
 ghost use Rattle.std.specs.Prelude.{◌≡◌, IfErr, IfOk, IfSome, Ok};
-ghost use Rattle.dimacs_claims.specs.SolutionReading.{IsPlaced};
-ghost use Rattle.dimacs_claims.specs.SolutionTexts.{SolutionValue};
-ghost use Rattle.dimacs_judging.specs.declared.verdict.Verdict.TheVariants.{Max};
-ghost use Rattle.dimacs_judging.specs.Feasible.{FeasibleMax};
+ghost use Rattle.dimacs_claims.specs.{SolutionReading.{IsPlaced}, SolutionTexts.{SolutionValue}};
+ghost use Rattle.dimacs_judging.specs.{declared.verdict.Verdict.TheVariants.{Max}, Feasible.{FeasibleMax}};
 ghost use Rattle.dimacs_judging.specs.MaxJudge.{IsMaxClaim, ShowsMaximum, max_claim_rows, max_rows};
-ghost use Rattle.dimacs_judging.specs.Places.{ArePlaced};
-ghost use Rattle.dimacs_judging.specs.Tests.{Judges, Refutes};
+ghost use Rattle.dimacs_judging.specs.{Places.{ArePlaced}, Tests.{Judges, Refutes}};
 
 use crate::agreement::{nodes_agree, value_agrees};
 use crate::flow::Flow;

@@ -1,13 +1,9 @@
 //! Judging that a flow is maximum.
 
 ghost use Rattle.std.specs.Prelude.{◌≡◌, Ok};
-ghost use Rattle.dimacs_claims.specs.SolutionReading.{IsPlaced};
-ghost use Rattle.dimacs_claims.specs.SolutionTexts.{SolutionValue, claimed};
-ghost use Rattle.dimacs_judging.specs.declared.verdict.Verdict.TheVariants.{Max};
-ghost use Rattle.dimacs_judging.specs.Feasible.{value};
-ghost use Rattle.dimacs_judging.specs.MaxJudge.{ShowsMaximum, max_rows};
-ghost use Rattle.dimacs_judging.specs.Places.{ArePlaced};
-ghost use Rattle.dimacs_judging.specs.Tests.{Judges};
+ghost use Rattle.dimacs_claims.specs.{SolutionReading.{IsPlaced}, SolutionTexts.{SolutionValue, claimed}};
+ghost use Rattle.dimacs_judging.specs.{declared.verdict.Verdict.TheVariants.{Max}, Feasible.{value}, Tests.{Judges}};
+ghost use Rattle.dimacs_judging.specs.{MaxJudge.{ShowsMaximum, max_rows}, Places.{ArePlaced}};
 
 use crate::agreement::nodes_agree;
 use crate::cuts::cut_tests;

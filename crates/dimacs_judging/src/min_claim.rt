@@ -1,12 +1,9 @@
 //! The tests of a claimed flow of least cost, before the potentials or with them in one pass.
 
 ghost use Rattle.std.specs.Prelude.{◌≡◌, IfErr, IfOk, IfSome, Ok};
-ghost use Rattle.dimacs_claims.specs.SolutionReading.{IsPlaced};
-ghost use Rattle.dimacs_claims.specs.SolutionTexts.{SolutionValue};
-ghost use Rattle.dimacs_judging.specs.declared.verdict.Verdict.TheVariants.{Min};
-ghost use Rattle.dimacs_judging.specs.Feasible.{FeasibleMin};
-ghost use Rattle.dimacs_judging.specs.MinJudge.{IsMinClaim, ShowsLeast, min_claim_rows, min_rows};
-ghost use Rattle.dimacs_judging.specs.Places.{ArePlaced};
+ghost use Rattle.dimacs_claims.specs.{SolutionReading.{IsPlaced}, SolutionTexts.{SolutionValue}};
+ghost use Rattle.dimacs_judging.specs.{declared.verdict.Verdict.TheVariants.{Min}, Feasible.{FeasibleMin}};
+ghost use Rattle.dimacs_judging.specs.{MinJudge.{IsMinClaim, ShowsLeast, min_claim_rows, min_rows}, Places.{ArePlaced}};
 ghost use Rattle.dimacs_judging.specs.Tests.{Judges, Refutes};
 
 use crate::agreement::{nodes_agree, value_agrees};

@@ -3,16 +3,12 @@
 ghost use Rattle.std.specs.Prelude.{◌≡◌, ◌<◌, ◌≤◌, ◌^◌, ◌-◌, ◌↔◌, ℕ, pos, neg_ℤ, List, All, IfOk, IfSome, OnOk, IsTrue};
 ghost use Rattle.std.specs.Result.{result_err};
 ghost use Rattle.dimacs_lines.specs.Limits.{most_nodes};
-ghost use Rattle.dimacs_network.specs.Arcs.{JoinsNodes};
-ghost use Rattle.dimacs_network.specs.declared.network.ArcView.{ArcView};
-ghost use Rattle.dimacs_claims.specs.declared.block.Label.{Label};
-ghost use Rattle.dimacs_claims.specs.Labels.{AreLabels, BlockValue, IsBlock};
+ghost use Rattle.dimacs_network.specs.{Arcs.{JoinsNodes}, declared.network.ArcView.{ArcView}};
+ghost use Rattle.dimacs_claims.specs.{declared.block.Label.{Label}, Labels.{AreLabels, BlockValue, IsBlock}};
 ghost use Rattle.dimacs_judging.specs.CertificateTests.{RelaxFails, label_rows, relax_row, support_row, weight_row};
-ghost use Rattle.dimacs_judging.specs.inside.CertificateTests.{distance_rows};
-ghost use Rattle.dimacs_judging.specs.Distances.{Fits};
-ghost use Rattle.dimacs_judging.specs.LightestArcs.{AreLightest};
+ghost use Rattle.dimacs_judging.specs.{inside.CertificateTests.{distance_rows}, Distances.{Fits}};
+ghost use Rattle.dimacs_judging.specs.{LightestArcs.{AreLightest}, Tests.{AllClear, Clear, TestsRow}};
 ghost use Rattle.dimacs_judging.specs.inside.NodeLabels.{AllUnlabelled, AreAsTested, AreUnlabelled, AreSupported, AreSupportedBelow, AreWide, DefaultsToNone, IsLabelled, IsFirstTight, RelaxesArc, entries};
-ghost use Rattle.dimacs_judging.specs.Tests.{AllClear, Clear, TestsRow};
 ghost use Rattle.dimacs_judging.specs.inside.Tests.{TestsRows, TestsAll, NamesReason};
 
 use crate::distance::{Distance, distance_in, improves, is_tight};

@@ -2,18 +2,13 @@
 
 ghost use Rattle.std.specs.Prelude.{◌≡◌, ◌≤◌, ◌^◌, ℕ, ℤ, All, length, pos, IsTrue, IfSome, OnSome};
 ghost use Rattle.dimacs_lines.specs.Limits.{most_count, most_nodes};
-ghost use Rattle.dimacs_network.specs.Arcs.{JoinsNodes};
-ghost use Rattle.dimacs_network.specs.DenseTables.{value_at};
-ghost use Rattle.dimacs_network.specs.Tables.{value_of};
+ghost use Rattle.dimacs_network.specs.{Arcs.{JoinsNodes}, DenseTables.{value_at}, Tables.{value_of}};
 ghost use Rattle.dimacs_network.specs.declared.network.ArcView.{ArcView};
 ghost use Rattle.dimacs_records.specs.declared.reasons.Reason.{Reason};
 ghost use Rattle.dimacs_claims.specs.Potentials.{potential_of};
-ghost use Rattle.dimacs_judging.specs.CertificateTests.{SlackFails};
-ghost use Rattle.dimacs_judging.specs.Cuts.{members};
-ghost use Rattle.dimacs_judging.specs.declared.one_pass.NodeState.{NodeState};
+ghost use Rattle.dimacs_judging.specs.{CertificateTests.{SlackFails}, Cuts.{members}, inside.Ranges.{IsOfSize}};
+ghost use Rattle.dimacs_judging.specs.{declared.one_pass.NodeState.{NodeState}, inside.Tests.{NamesReason}};
 ghost use Rattle.dimacs_judging.specs.inside.OnePass.{AddsArc, AddsAt, AreBlank, AreInitial, CostFitsOneMore, HavePassed, IsSmall, Passes, SetsState, indicator, state_with};
-ghost use Rattle.dimacs_judging.specs.inside.Ranges.{IsOfSize};
-ghost use Rattle.dimacs_judging.specs.inside.Tests.{NamesReason};
 
 use crate::arc_test::ArcTest;
 use crate::balances::NodeBalances;

@@ -1,8 +1,7 @@
 //! Judging that labels are distances.
 
 ghost use Rattle.dimacs_instance.specs.QueryTexts.{AreLawful, asked};
-ghost use Rattle.dimacs_judging.specs.Answers.{AnswersQueries};
-ghost use Rattle.dimacs_judging.specs.PathsJudge.{ShowsDistances, paths_rows};
+ghost use Rattle.dimacs_judging.specs.{Answers.{AnswersQueries}, PathsJudge.{ShowsDistances, paths_rows}};
 ghost use Rattle.dimacs_judging.specs.Tests.{Judges};
 
 use crate::agreement::nodes_agree;

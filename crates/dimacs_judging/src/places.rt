@@ -2,13 +2,10 @@
 
 ghost use Rattle.std.specs.Prelude.{◌≡◌, ◌≤◌, ◌<◌, ◌+◌, ◌++◌, ◌∷◌, [], List, Some, None, true, false, length, take, count_by, IfOk, IfErr, IfSome, IsOk, IsTrue, OnOk, OnErr, ◌↔◌};
 ghost use Rattle.dimacs_claims.specs.declared.solution.Entry.{Entry};
-ghost use Rattle.dimacs_network.specs.declared.network.ArcView.{ArcView};
-ghost use Rattle.dimacs_network.specs.Arcs.{joins, IsKthBetween, arc_at};
-ghost use Rattle.dimacs_judging.specs.Claims.{Carries, entry_row};
-ghost use Rattle.dimacs_judging.specs.Places.{ArePlaced, HavePlaced, placed_between};
+ghost use Rattle.dimacs_network.specs.{declared.network.ArcView.{ArcView}, Arcs.{joins, IsKthBetween, arc_at}};
+ghost use Rattle.dimacs_judging.specs.{Claims.{Carries, entry_row}, Places.{ArePlaced, HavePlaced, placed_between}};
 ghost use Rattle.dimacs_judging.specs.inside.Places.{IsIndexFor, PutsEntry, FindsFlow, left_order};
-ghost use Rattle.dimacs_judging.specs.inside.ArcChains.{IsFirstBetween};
-ghost use Rattle.dimacs_judging.specs.Tests.{FirstOfRow};
+ghost use Rattle.dimacs_judging.specs.{inside.ArcChains.{IsFirstBetween}, Tests.{FirstOfRow}};
 
 use crate::arc_chains::{ArcChains, GAP, has_ends};
 use crate::flow::Flow;

@@ -3,11 +3,8 @@
 ghost use Rattle.std.specs.Prelude.{◌≡◌, ◌*◌, ◌^◌, [], ◌∷◌, length};
 ghost use Rattle.dimacs_claims.specs.Potentials.{potential_of};
 ghost use Rattle.dimacs_judging.specs.Potentials as theory;
-ghost use Rattle.dimacs_judging.specs.Potentials.{Slack};
-ghost use Rattle.dimacs_judging.specs.CertificateTests.{SlackFails, slack_row};
-ghost use Rattle.dimacs_judging.specs.inside.Ranges.{IsOfSize};
-ghost use Rattle.dimacs_judging.specs.Tests.{Decides};
-ghost use Rattle.dimacs_judging.specs.inside.Tests.{NamesReason};
+ghost use Rattle.dimacs_judging.specs.{Potentials.{Slack}, CertificateTests.{SlackFails, slack_row}, Tests.{Decides}};
+ghost use Rattle.dimacs_judging.specs.{inside.Ranges.{IsOfSize}, inside.Tests.{NamesReason}};
 
 use crate::arc_test::{ArcTest, arcs_hold};
 use crate::flow::Flow;

@@ -3,10 +3,9 @@
 ghost use Rattle.std.specs.Prelude.{◌≡◌, ◌<◌, ◌≤◌, ◌↔◌, IsTrue, All, Some, IfOk, OnOk, map, length, slice_get};
 ghost use Rattle.dimacs_records.specs.declared.reasons.Reason.TheVariants as reasons;
 ghost use Rattle.dimacs_instance.specs.QueryTexts.{AreLawful, Pairs, asked};
-ghost use Rattle.dimacs_judging.specs.Answers.{AnswersQueries, answer_to, distance_from};
+ghost use Rattle.dimacs_judging.specs.{Answers.{AnswersQueries, answer_to, distance_from}, Tests.{TestsRow}};
 ghost use Rattle.dimacs_judging.specs.QueryTests.{HasBlock, HasFullBlock, IsServed, block_row, listed_row, nodes_asked, query_node_row, sources_asked};
 ghost use Rattle.dimacs_judging.specs.inside.QueryTests.{AreNumbers, TestsBlocks, radius_from};
-ghost use Rattle.dimacs_judging.specs.Tests.{TestsRow};
 
 use crate::verdict::{Answer, JudgeError, Verdict, Where};
 use dimacs_claims::Labels;

@@ -4,11 +4,8 @@ ghost use Rattle.std.specs.Prelude.{◌≡◌, ◌≤◌, ◌++◌, ◌∷◌, [
 ghost use Rattle.dimacs_lines.specs.Limits.{most_count, most_nodes};
 ghost use Rattle.dimacs_network.specs.Arcs.{JoinsNodes};
 ghost use Rattle.dimacs_claims.specs.Potentials.{potential_of};
-ghost use Rattle.dimacs_judging.specs.Cuts.{members};
-ghost use Rattle.dimacs_judging.specs.Feasible.{value};
-ghost use Rattle.dimacs_judging.specs.FlowJudges.{PassesMaxFlow, PassesMinFlow};
-ghost use Rattle.dimacs_judging.specs.Flows.{cost, net};
-ghost use Rattle.dimacs_judging.specs.FlowTests.{cost_row, feasible_rows};
+ghost use Rattle.dimacs_judging.specs.{Cuts.{members}, Feasible.{value}, FlowJudges.{PassesMaxFlow, PassesMinFlow}};
+ghost use Rattle.dimacs_judging.specs.{Flows.{cost, net}, FlowTests.{cost_row, feasible_rows}};
 ghost use Rattle.dimacs_judging.specs.inside.Tests.{TestsTotal};
 
 use crate::costs::cost_within;

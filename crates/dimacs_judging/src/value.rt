@@ -2,8 +2,7 @@
 
 ghost use Rattle.std.specs.Prelude.{◌≡◌, ◌≤◌, ◌==◌, ◌-ℤ◌, length};
 ghost use Rattle.dimacs_lines.specs.Limits.{most_count};
-ghost use Rattle.dimacs_judging.specs.Feasible.{value};
-ghost use Rattle.dimacs_judging.specs.Flows.{net, when};
+ghost use Rattle.dimacs_judging.specs.{Feasible.{value}, Flows.{net, when}};
 
 use crate::flow::Flow;
 use dimacs_instance::MaxInstance;

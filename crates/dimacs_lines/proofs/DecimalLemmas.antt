@@ -1,8 +1,6 @@
 -- The digits of a number, two at a time.
 use Rattle.std.proofs.Common.{◌≡◌, ◌+◌, ◌-◌, ◌*◌, ◌<◌, ◌/◌, ◌%◌, ◌∷◌, [], length, take, ℕ, arith, get_or, inl, inr, sym}
-use Rattle.std.proofs.lemmas.Bool.Decides.{leb_tells}
-use Rattle.std.proofs.lemmas.Bool.{lt-ltb, le-ltb}
-use Rattle.std.proofs.lemmas.Fmt.{decimal_digit}
+use Rattle.std.proofs.{lemmas.Bool.Decides.{leb_tells}, lemmas.Bool.{lt-ltb, le-ltb}, lemmas.Fmt.{decimal_digit}}
 use Rattle.std.proofs.Math.Dec.{ltb}
 use Rattle.std.specs.Fmt.{decimal}
 use Rattle.itoa.proofs.Decimal.{PAIRS_at, length_one, length_two, decimal_two}

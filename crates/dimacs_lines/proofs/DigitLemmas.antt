@@ -1,17 +1,11 @@
 -- Fields of digits, perhaps after a minus.
-use Rattle.std.proofs.Common.{◌≡◌, ◌+◌, ◌<◌, ◌≤◌, ◌∷◌, [], ℕ, suc, List, true, false, length, take, drop, get_or, refl, sym, arith}
-use Rattle.std.specs.Prelude.{ℤ, pos, neg_ℤ, ◌-ℤ◌, ◌^◌, ◌==◌, ◌||◌}
-use Rattle.std.specs.Int.Signed.{mag}
-use Rattle.std.proofs.lemmas.Int.{ints, to_z-of_z}
-use Rattle.std.proofs.Common.{w64, to_z, of_z, SFits, Option, Some, subst}
-use Rattle.std.specs.Prelude.{IfSome}
-use Rattle.std.specs.List.{position_or_len, prefix_len, All}
-use Rattle.std.specs.Char.{IsAsciiDigit, is_ascii_digit}
-use Rattle.std.proofs.lemmas.Bool.Decides.{nat_tests}
+use Rattle.std.proofs.Common.{◌≡◌, ◌+◌, ◌<◌, ◌≤◌, ◌∷◌, [], ℕ, suc, List, true, false, length, take, drop, get_or, refl, sym, arith, w64, to_z, of_z, SFits, Option, Some, subst}
+use Rattle.std.proofs.{lemmas.Int.{ints, to_z-of_z}, lemmas.Bool.Decides.{nat_tests}}
 use Rattle.std.proofs.lemmas.List.{get_or-take, length-take, drop_more}
 use Rattle.std.proofs.lemmas.List.Sums.{position_or_len_is, prefix_len_passes, prefix_len-le-length}
-use Rattle.dimacs_lines.specs.Fields.{is_blank}
-use Rattle.dimacs_lines.specs.Number.{Spells, place_sum}
+use Rattle.std.specs.{Prelude.{ℤ, pos, neg_ℤ, ◌-ℤ◌, ◌^◌, ◌==◌, ◌||◌, IfSome}, Int.Signed.{mag}}
+use Rattle.std.specs.{List.{position_or_len, prefix_len, All}, Char.{IsAsciiDigit, is_ascii_digit}}
+use Rattle.dimacs_lines.specs.{Fields.{is_blank}, Number.{Spells, place_sum}}
 
 pub digit_from : (b : ℕ) → is_ascii_digit b ≡ true → IsAsciiDigit b
 digit_from b h = (grind (arith, nat_tests), grind (arith, nat_tests))

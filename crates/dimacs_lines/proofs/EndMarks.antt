@@ -1,20 +1,13 @@
 -- The ends of numbers as the bits of a word.
 use Rattle.std.proofs.Common.{◌≡◌, ℕ, zero, suc, ◌+◌, ◌-◌, ◌*◌, ◌%◌, ◌^◌, ◌<◌, ◌≤◌, Bool, true, false, cond, List, [], ◌∷◌, length, take, drop, map, bit_and, get_or, inl, inr, refl, sym, ap, ap₂, subst, ◌∙◌, arith, lit<, pow-add, pow-suc, suc-mul, length-drop, length-take}
-use Rattle.std.specs.Prelude.{not}
-use Rattle.std.specs.Char.{is_ascii_digit, IsAsciiDigit}
-use Rattle.std.specs.Int.Bits.{and_self, and_zero_l}
-use Rattle.std.specs.Int.Count.{count_trailing_zeros}
-use Rattle.std.specs.List.{All, prefix_len}
-use Rattle.std.proofs.lemmas.Bool.{cases_lt}
-use Rattle.std.proofs.lemmas.List.{drop-drop, drop-take, drop_all, drop_more, length-map}
-use Rattle.std.proofs.lemmas.Nat.{and_block, pow_pos}
-use Rattle.std.proofs.Math.Nat.{mul-lt-mul_of_pos_right}
+use Rattle.std.proofs.{lemmas.Bool.{cases_lt}, lemmas.List.{drop-drop, drop-take, drop_all, drop_more, length-map}}
+use Rattle.std.proofs.{lemmas.Nat.{and_block, pow_pos}, Math.Nat.{mul-lt-mul_of_pos_right}}
+use Rattle.std.specs.{Prelude.{not}, Char.{is_ascii_digit, IsAsciiDigit}, Int.Bits.{and_self, and_zero_l}}
+use Rattle.std.specs.{Int.Count.{count_trailing_zeros}, List.{All, prefix_len}}
 use lib.Lanes.{mask_l}
-use Rattle.std.proofs.lemmas.List.Elements.{All-head, All-tail}
-use Rattle.std.proofs.lemmas.Simd.{mask_l-lt}
+use Rattle.std.proofs.{lemmas.List.Elements.{All-head, All-tail}, lemmas.Simd.{mask_l-lt}}
 use Rattle.dimacs_lines.specs.inside.Plain.{ends_of, ends_from}
-use Rattle.dimacs_lines.proofs.DigitLemmas.{All-digits}
-use Rattle.dimacs_lines.proofs.Marks.{count_trailing_zeros-shl, count_trailing_zeros-odd}
+use Rattle.dimacs_lines.proofs.{DigitLemmas.{All-digits}, Marks.{count_trailing_zeros-shl, count_trailing_zeros-odd}}
 
 -- the lowest bit is that of the first byte that is no digit
 first_end : (k : ℕ) (bs : List ℕ) → length bs ≡ k → count_trailing_zeros k (ends_of bs) ≡ prefix_len is_ascii_digit bs

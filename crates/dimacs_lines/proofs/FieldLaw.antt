@@ -1,11 +1,8 @@
 -- The runs of a line are its fields.
 use Rattle.std.proofs.Common.{◌≡◌, ◌≢◌, ◌+◌, ◌<◌, ◌≤◌, ◌∷◌, [], ℕ, zero, suc, List, true, false, length, take, drop, get_or, inl, inr, refl, ap, sym, subst, arith, drop-cons}
-use Rattle.std.specs.Prelude.{◌==◌}
-use Rattle.std.specs.List.{All, Any}
-use Rattle.std.proofs.Math.Nat.{add-sub_cancel_left}
-use Rattle.std.proofs.lemmas.Bool.{cases_lt, cond_both, eqb-true, eqb-false}
-use Rattle.std.proofs.lemmas.List.{drop_all}
-use Rattle.std.proofs.lemmas.List.Elements.{All-nil, All-cons, All-head, All-tail}
+use Rattle.std.proofs.{Math.Nat.{add-sub_cancel_left}, lemmas.Bool.{cases_lt, cond_both, eqb-true, eqb-false}}
+use Rattle.std.proofs.{lemmas.List.{drop_all}, lemmas.List.Elements.{All-nil, All-cons, All-head, All-tail}}
+use Rattle.std.specs.{Prelude.{◌==◌}, List.{All, Any}}
 use Rattle.dimacs_lines.specs.Fields.{is_blank, Run, onto_runs, runs_from, fields_of, AreApart, IsInRun, AreFields}
 use Rattle.dimacs_lines.proofs.FieldLemmas.{runs_start}
 

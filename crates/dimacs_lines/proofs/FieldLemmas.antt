@@ -1,13 +1,9 @@
 -- The runs of a line, one after another.
 use Rattle.std.proofs.Common.{◌≡◌, ◌+◌, ◌<◌, ◌≤◌, ◌∷◌, [], ℕ, suc, List, Bool, true, false, length, take, drop, get_or, refl, ap, sym, ◌∙◌, subst, arith, drop-cons, length-drop}
-use Rattle.std.specs.Prelude.{not, ◌==◌, if◌then◌else◌}
-use Rattle.std.specs.List.{position_or_len, All}
-use Rattle.std.proofs.Math.ListN.{drop_of_length-le}
-use Rattle.std.proofs.lemmas.Bool.{eq-eqb}
-use Rattle.std.proofs.lemmas.Bool.Decides.{nat_tests}
-use Rattle.std.proofs.lemmas.List.{drop-drop}
-use Rattle.std.proofs.lemmas.List.Elements.{All-nil, All-cons, All-head, All-tail}
+use Rattle.std.proofs.{Math.ListN.{drop_of_length-le}, lemmas.Bool.{eq-eqb}, lemmas.Bool.Decides.{nat_tests}}
+use Rattle.std.proofs.{lemmas.List.{drop-drop}, lemmas.List.Elements.{All-nil, All-cons, All-head, All-tail}}
 use Rattle.std.proofs.lemmas.List.Sums.{passes_at_first}
+use Rattle.std.specs.{Prelude.{not, ◌==◌, if◌then◌else◌}, List.{position_or_len, All}}
 use Rattle.dimacs_lines.specs.Fields.{is_blank, Run, onto_runs, runs_from}
 
 -- no run of what starts at place i starts before it

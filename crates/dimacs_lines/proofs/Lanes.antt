@@ -1,9 +1,9 @@
 -- A word as a list of lanes, the first one lowest.
 use Rattle.std.proofs.Common.{◌≡◌, ℕ, zero, suc, ◌+◌, ◌*◌, ◌/◌, ◌%◌, ◌^◌, ◌<◌, ◌≤◌, List, [], ◌∷◌, ◌++◌, length, map, take, drop, replicate, bit_xor, All, refl, ap, ap₂, ◌∙◌, arith, w64, lit<, add_comm, mul-suc, pow-suc, pow-add, shr-shr}
-use Rattle.std.specs.Int.{to_le_bytes, bytes_low_first, byte_at}
 use Rattle.std.proofs.Math.Nat.{zero-div, zero-mod, div-div-eq-div-mul}
 use Rattle.std.proofs.lemmas.List.Elements.{All-nil, All-cons, All-head, All-tail}
 use Rattle.std.proofs.lemmas.Nat.{xor_block, shr_high, mod_low, mod-pow-add, from_le_bytes-to_le_bytes_8}
+use Rattle.std.specs.Int.{to_le_bytes, bytes_low_first, byte_at}
 
 -- the word with these lanes of k bits
 abbrev pub word_of : ℕ → List ℕ → ℕ

@@ -1,12 +1,9 @@
 -- Which lanes of a word lack the bit of 16, and whether all hold digits.
 use Rattle.std.proofs.Common.{◌≡◌, ℕ, zero, suc, ◌+◌, ◌*◌, ◌/◌, ◌%◌, ◌^◌, ◌<◌, ◌↔◌, Bool, true, false, cond, eqb, ltb, ltb-true, List, [], ◌∷◌, length, replicate, bit_and, bit_xor, refl, sym, ap, ap₂, ◌∙◌, arith, lit<, eqb-true, eq-eqb, mul-one, zero-add, mul-suc, pow-add}
-use Rattle.std.specs.Int.Digits.{AllBelowBase}
-use Rattle.std.specs.Int.Bits.{shifted_half, shifted_even}
-use Rattle.std.specs.Int.Count.{count_trailing_zeros, under}
-use Rattle.std.specs.List.{All, prefix_len}
-use Rattle.std.proofs.lemmas.Bool.{agree_below_at, lt-ltb}
-use Rattle.std.proofs.lemmas.List.Elements.{All-head, All-tail}
+use Rattle.std.proofs.{lemmas.Bool.{agree_below_at, lt-ltb}, lemmas.List.Elements.{All-head, All-tail}}
 use Rattle.std.proofs.lemmas.Nat.{and_block, xor_block, and_le_r}
+use Rattle.std.specs.{Int.Digits.{AllBelowBase}, Int.Bits.{shifted_half, shifted_even}, List.{All, prefix_len}}
+use Rattle.std.specs.Int.Count.{count_trailing_zeros, under}
 use Rattle.dimacs_lines.specs.inside.Plain.{has_sixteen}
 use Rattle.dimacs_lines.proofs.Lanes.{word_of, AllBytes}
 

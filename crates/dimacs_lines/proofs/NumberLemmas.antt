@@ -1,11 +1,8 @@
 -- The value of digits, one more digit at a time.
 use Rattle.std.proofs.Common.{◌≡◌, ◌+◌, ◌-◌, ◌*◌, ◌^◌, ◌<◌, ◌≤◌, ◌++◌, ◌∷◌, [], ℕ, List, length, take, get_or, ap, ◌∙◌, arith, length-append, add-one}
-use Rattle.std.specs.Prelude.{min}
-use Rattle.std.specs.List.{All}
-use Rattle.std.specs.Char.{IsAsciiDigit}
-use Rattle.std.proofs.Math.Nat.{pow-suc, pow-le-pow_right}
-use Rattle.std.proofs.lemmas.List.{take_more, length-take-le}
+use Rattle.std.proofs.{Math.Nat.{pow-suc, pow-le-pow_right}, lemmas.List.{take_more, length-take-le}}
 use Rattle.std.proofs.lemmas.List.Elements.{All-head, All-tail, All-take}
+use Rattle.std.specs.{Prelude.{min}, List.{All}, Char.{IsAsciiDigit}}
 use Rattle.dimacs_lines.specs.Number.{place_sum}
 
 ten_more : (n : ℕ) → 10 ^ (n + 1) ≡ 10 ^ n * 10

@@ -1,10 +1,8 @@
 -- Writing through a buffer.
 use Rattle.std.proofs.Common.{◌++◌, ℕ, List, [], Bool, true, false, ap, sym, ◌∙◌, subst, append_assoc, refl, ◌≡◌}
 use Rattle.std.proofs.lemmas.List.{append-nil}
-use Rattle.dimacs_lines.specs.Devices.{Written, after_piece, one_more}
-use Rattle.dimacs_lines.specs.Puts.{AcceptsFront}
-use Rattle.dimacs_lines.specs.OutputBuffers.{IsWrittenBy}
-use Rattle.dimacs_lines.specs.inside.OutputBuffers.{IsPut}
+use Rattle.dimacs_lines.specs.{Devices.{Written, after_piece, one_more}, Puts.{AcceptsFront}}
+use Rattle.dimacs_lines.specs.{OutputBuffers.{IsWrittenBy}, inside.OutputBuffers.{IsPut}}
 use Rattle.dimacs_lines.proofs.PutLemmas.{after_piece-after_piece, AcceptsFront-after, AcceptsFront-longer}
 
 -- more is held, or nothing after a fault

@@ -1,8 +1,8 @@
 -- One product joins each two lanes: times t * B + 1, each lane of base B gets t times the lane below it added.
 use Rattle.std.proofs.Common.{◌≡◌, ℕ, suc, ◌+◌, ◌-◌, ◌*◌, ◌/◌, ◌%◌, ◌^◌, ◌<◌, ◌≤◌, List, [], ◌∷◌, length, replicate, bit_and, sym, ap, ap₂, subst, ◌∙◌, arith, div-add-mod', pow-add, mod-eq_of_lt}
 use Rattle.std.proofs.Math.Nat.{zero-mod}
-use Rattle.std.specs.Int.Bits.{and_zero_r}
 use Rattle.std.proofs.lemmas.Nat.{and_block, and_mask, and_mod, and_le_r, field_of, mod_low, shr_high, mul-add-lt}
+use Rattle.std.specs.Int.Bits.{and_zero_r}
 use Rattle.dimacs_lines.proofs.Lanes.{word_of}
 
 -- each two digits of base t as one of base t * t

@@ -1,12 +1,9 @@
 -- Pieces that lie one after another in a buffer.
 use Rattle.std.proofs.Common.{◌≡◌, ◌+◌, ◌-◌, ◌≤◌, ◌++◌, ℕ, List, Result, Ok, Err, length, take, drop, ap, sym, ◌∙◌, arith, length-drop}
-use Rattle.std.specs.Prelude.{IfOk, slice_range, min, Bool, not}
-use Rattle.std.proofs.lemmas.Slice.{between_from_start, between_is}
-use Rattle.std.proofs.Math.Seq.{take-add}
+use Rattle.std.proofs.{lemmas.Slice.{between_from_start, between_is}, Math.Seq.{take-add}}
 use Rattle.std.proofs.lemmas.List.{drop_at, take-append-le, length-take-le, drop-drop, drop_min, take-take}
-use Rattle.std.proofs.lemmas.List.Sums.{prefix_len-le-length}
-use Rattle.std.specs.List.{position_or_len}
-use Rattle.std.proofs.lemmas.List.Edits.{length-between}
+use Rattle.std.proofs.{lemmas.List.Sums.{prefix_len-le-length}, lemmas.List.Edits.{length-between}}
+use Rattle.std.specs.{Prelude.{IfOk, slice_range, min, Bool, not}, List.{position_or_len}}
 use borrow.Rule.Slice.PartMut.{put_mid}
 
 -- reading back what was put after a front of this length

@@ -1,15 +1,11 @@
 -- The value of digits, by places and from the first digit on.
 use Rattle.std.proofs.Common.{◌≡◌, ℕ, zero, suc, ◌+◌, ◌-◌, ◌*◌, ◌/◌, ◌%◌, ◌^◌, ◌<◌, Bool, true, false, cond, eqb, ltb, List, [], ◌∷◌, ◌++◌, length, map, take, replicate, bit_xor, refl, sym, ap, ◌∙◌, arith, lit<, subst, leb-true, ltb-true, lt-ltb, eqb-true, eq-eqb, pow-suc, get_or-take, length-take}
-use Rattle.std.specs.Prelude.{◌||◌, not}
-use Rattle.std.specs.Char.{is_ascii_digit, IsAsciiDigit}
-use Rattle.std.specs.Int.Digits.{AllBelowBase, number_from_digits, number_from_digits_after}
-use Rattle.std.specs.List.{All, prefix_len, AllPass}
-use Rattle.std.proofs.lemmas.Bool.{and_parts, agree_below_at}
-use Rattle.std.proofs.lemmas.Bool.Decides.{nat_tests}
+use Rattle.std.proofs.{lemmas.Bool.{and_parts, agree_below_at}, lemmas.Bool.Decides.{nat_tests}}
 use Rattle.std.proofs.lemmas.List.Elements.{All-nil, All-cons, All-head, All-tail, All-weaker}
 use Rattle.std.proofs.lemmas.List.Sums.{prefix_len_passes}
-use Rattle.dimacs_lines.specs.Number.{place_sum}
-use Rattle.dimacs_lines.specs.inside.Plain.{has_sixteen}
+use Rattle.std.specs.{Prelude.{◌||◌, not}, Char.{is_ascii_digit, IsAsciiDigit}, List.{All, prefix_len, AllPass}}
+use Rattle.std.specs.Int.Digits.{AllBelowBase, number_from_digits, number_from_digits_after}
+use Rattle.dimacs_lines.specs.{Number.{place_sum}, inside.Plain.{has_sixteen}}
 
 -- xor with 48 turns a digit's code into its value; shown by testing all bytes
 digit_value : (b : ℕ) → is_ascii_digit b ≡ true → bit_xor b 48 ≡ b - 48

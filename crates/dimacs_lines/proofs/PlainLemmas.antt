@@ -1,16 +1,10 @@
 -- Numbers in a buffer with a given byte right after them.
 use Rattle.std.proofs.Common.{◌≡◌, ◌+◌, ◌-◌, ◌*◌, ◌^◌, ◌<◌, ◌≤◌, ◌++◌, ◌∷◌, [], ℕ, List, length, take, drop, get_or, ap, ap₂, sym, ◌∙◌, arith, length-append, length-drop, pow-add, take-take, to_z, w64}
-use Rattle.std.specs.Prelude.{pos, neg_ℤ}
-use Rattle.std.specs.Char.{IsAsciiDigit}
-use Rattle.std.specs.List.{All}
-use Rattle.std.proofs.Math.Nat.{pow-le-pow_right}
-use Rattle.std.proofs.lemmas.Int.{ints}
+use Rattle.std.proofs.{Math.Nat.{pow-le-pow_right}, lemmas.Int.{ints}}
 use Rattle.std.proofs.lemmas.List.{take-append-drop, drop-drop, drop-take, drop_more, length-take, length-take-le}
-use Rattle.dimacs_lines.specs.Number.{place_sum}
-use Rattle.dimacs_lines.specs.Plain.{StandsAt}
-use Rattle.dimacs_lines.specs.inside.Plain.{DigitsAt}
-use Rattle.dimacs_lines.proofs.DigitLemmas.{spells_digits, spells_minus}
-use Rattle.dimacs_lines.proofs.NumberLemmas.{place_sum-lt}
+use Rattle.std.specs.{Prelude.{pos, neg_ℤ}, Char.{IsAsciiDigit}, List.{All}}
+use Rattle.dimacs_lines.specs.{Number.{place_sum}, Plain.{StandsAt}, inside.Plain.{DigitsAt}}
+use Rattle.dimacs_lines.proofs.{DigitLemmas.{spells_digits, spells_minus}, NumberLemmas.{place_sum-lt}}
 
 -- digits, and the byte right after them
 pub digits_stand : (bytes : List ℕ) (at stop count n : ℕ) → at + count < length bytes → 0 < count → count ≤ 16 → All IsAsciiDigit (take count (drop at bytes)) → n ≡ place_sum (take count (drop at bytes))

@@ -1,9 +1,7 @@
 -- One put after another.
 use Rattle.std.proofs.Common.{◌≡◌, ◌++◌, ◌+◌, ℕ, List, Option, None, Some, take, drop, refl, ap, sym, ◌∙◌, append_assoc}
-use Rattle.std.proofs.Math.Seq.{take-add}
-use Rattle.std.proofs.lemmas.List.{take-append-drop}
-use Rattle.dimacs_lines.specs.Devices.{after_piece}
-use Rattle.dimacs_lines.specs.Puts.{AcceptsFront}
+use Rattle.std.proofs.{Math.Seq.{take-add}, lemmas.List.{take-append-drop}}
+use Rattle.dimacs_lines.specs.{Devices.{after_piece}, Puts.{AcceptsFront}}
 
 -- two pieces after each other are one piece
 pub after_piece-after_piece : (old : Option (List ℕ)) (a b : List ℕ) → after_piece (after_piece old a) b ≡ after_piece old (a ++ b)

@@ -1,20 +1,12 @@
 -- The bytes held, and the text that is left.
 use Rattle.std.proofs.Common.{◌≡◌, ◌≢◌, ◌+◌, ◌-◌, ◌<◌, ◌≤◌, ◌++◌, ◌∷◌, [], ℕ, List, Option, Some, None, Result, Ok, Err, length, drop, refl, ap, sym, ◌∙◌, arith, inl, inr, length-append, append_assoc, append-nil, eq-eqb, Bool, true, false}
-use Rattle.std.proofs.lemmas.Bool.{eqb-true}
-use Rattle.std.specs.Prelude.{◌==◌}
-use Rattle.std.specs.Prelude.{not}
-use Rattle.std.specs.List.{position_or_len, before_first, after_first}
-use Rattle.std.proofs.lemmas.List.{drop_at, length-take}
-use Rattle.std.proofs.lemmas.List.Folds.{prefix_len-append}
-use Rattle.std.proofs.lemmas.List.Sums.{prefix_len-le-length}
-use Rattle.dimacs_lines.specs.declared.reader.LinesError.{LinesError}
+use Rattle.std.proofs.{lemmas.Bool.{eqb-true}, lemmas.List.{drop_at, length-take}}
+use Rattle.std.proofs.{lemmas.List.Folds.{prefix_len-append}, lemmas.List.Sums.{prefix_len-le-length}}
+use Rattle.std.specs.{Prelude.{◌==◌, not}, List.{position_or_len, before_first, after_first}}
+use Rattle.dimacs_lines.specs.{declared.reader.LinesError.{LinesError}, declared.reader.Progress.TheVariants.{Open}}
 use Rattle.dimacs_lines.specs.declared.reader.LinesError.TheVariants.{TooMany, TooLong, Device, Memory}
-use Rattle.dimacs_lines.specs.declared.reader.Progress.TheVariants.{Open}
-use Rattle.dimacs_lines.specs.Limits.{longest_line}
-use Rattle.dimacs_lines.specs.Devices.{before_piece}
-use Rattle.dimacs_lines.specs.Lines.{is_end, lines}
-use Rattle.dimacs_lines.specs.Reader.{State, NextLine, ComesAt}
-use Rattle.dimacs_lines.specs.inside.Buffer.{IsEnough, GivesHeld, RefusesFirst}
+use Rattle.dimacs_lines.specs.{Limits.{longest_line}, Devices.{before_piece}, Lines.{is_end, lines}}
+use Rattle.dimacs_lines.specs.{Reader.{State, NextLine, ComesAt}, inside.Buffer.{IsEnough, GivesHeld, RefusesFirst}}
 use Rattle.dimacs_lines.proofs.TextLemmas.{lines_step, before_first-whole, after_first-whole}
 
 pub before_piece-before_piece : (a b : List ℕ) (rest : Option (List ℕ)) → before_piece a (before_piece b rest) ≡ before_piece (a ++ b) rest

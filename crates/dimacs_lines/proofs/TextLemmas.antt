@@ -1,10 +1,8 @@
 -- The first line of a text, and what follows it.
 use Rattle.std.proofs.Common.{◌≡◌, ◌≢◌, ◌+◌, ◌<◌, ◌++◌, ◌∷◌, [], ℕ, suc, List, Option, Some, None, Bool, true, false, length, take, drop, get_or, refl, ap, sym, ◌∙◌, arith, length-append}
-use Rattle.std.specs.Prelude.{unwrap_or}
-use Rattle.std.specs.List.{position_or_len, onto_first, before_first, after_first}
-use Rattle.std.proofs.Math.ListN.{get_or-append}
-use Rattle.std.proofs.lemmas.List.{take-append-le, drop-append-le}
+use Rattle.std.proofs.{Math.ListN.{get_or-append}, lemmas.List.{take-append-le, drop-append-le}}
 use Rattle.std.proofs.lemmas.List.Sums.{position_or_len_is, fails_before_first, passes_at_first}
+use Rattle.std.specs.{Prelude.{unwrap_or}, List.{position_or_len, onto_first, before_first, after_first}}
 use Rattle.memchr.specs.Find.{IsFirstByte, is_byte}
 use Rattle.dimacs_lines.specs.Lines.{is_end, lines}
 

@@ -1,7 +1,6 @@
 -- What sources have still to give, what sinks have accepted, and how faults are counted.
 use Rattle.std.specs.Prelude.{ℕ, ◌+◌, ◌%◌, ◌^◌, ◌++◌, ◌≡◌, ◌-◌, ◌==◌, ◌&&◌, nat_lt, Bool, if◌then◌else◌, List, [], ◌∷◌, Option, None, Some, IsSome, Result, Ok, Err, length, drop, min, max}
-use Rattle.std.specs.List.{list_any}
-use Rattle.std.specs.declared.io.Error.{Error}
+use Rattle.std.specs.{List.{list_any}, declared.io.Error.{Error}}
 
 -- The bytes to come before a piece was given, from those after it. Unknown bytes stay unknown.
 abbrev pub before_piece : List ℕ → Option (List ℕ) → Option (List ℕ)

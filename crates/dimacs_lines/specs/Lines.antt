@@ -1,6 +1,5 @@
 -- The lines of a text.
-use Rattle.std.specs.Prelude.{ℕ, ◌==◌, ◌≡◌, ◌++◌, Bool, List, [], ◌∷◌, length, if◌then◌else◌}
-use Rattle.std.specs.List.{onto_first}
+use Rattle.std.specs.{Prelude.{ℕ, ◌==◌, ◌≡◌, ◌++◌, Bool, List, [], ◌∷◌, length, if◌then◌else◌}, List.{onto_first}}
 
 -- byte 10, the line feed, ends a line
 abbrev pub is_end : ℕ → Bool

@@ -1,7 +1,6 @@
 -- The number that a field spells.
 use Rattle.std.specs.Prelude.{ℕ, ◌+◌, ◌-◌, ◌*◌, ◌^◌, ◌≡◌, ◌==◌, ◌<◌, ◌||◌, Bool, false, List, [], ◌∷◌, length, if◌then◌else◌, ℤ, pos, neg_ℤ, ◌≤ℤ◌, Result, Ok, Err}
-use Rattle.std.specs.List.{All}
-use Rattle.std.specs.Char.{IsAsciiDigit}
+use Rattle.std.specs.{List.{All}, Char.{IsAsciiDigit}}
 use Rattle.dimacs_lines.specs.declared.numbers.NumberFault.{NumberFault}
 use Rattle.dimacs_lines.specs.declared.numbers.NumberFault.TheVariants.{BadNumber, NumberRange}
 

@@ -1,9 +1,7 @@
 -- What was written to a sink through a buffer.
-use Rattle.std.specs.Prelude.{ℕ, ℤ, ◌≡◌, ◌++◌, ◌∷◌, [], List, Bool, true, false}
-use Rattle.std.specs.List.{flat_map}
+use Rattle.std.specs.{Prelude.{ℕ, ℤ, ◌≡◌, ◌++◌, ◌∷◌, [], List, Bool, true, false}, List.{flat_map}}
 use Rattle.std.specs.Fmt.{signed_decimal}
-use Rattle.dimacs_lines.specs.Devices.{Written, after_piece, one_more}
-use Rattle.dimacs_lines.specs.Puts.{AcceptsFront}
+use Rattle.dimacs_lines.specs.{Devices.{Written, after_piece, one_more}, Puts.{AcceptsFront}}
 
 -- the bytes in the buffer, and whether a write has failed
 pub record BufferState : Type 0 where

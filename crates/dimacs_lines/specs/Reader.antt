@@ -1,12 +1,9 @@
 -- The state of a line reader, and its next line.
 use Rattle.std.specs.Prelude.{ℕ, ◌+◌, ◌≡◌, ◌≢◌, ◌≤◌, ◌<◌, List, [], ◌∷◌, length, Option, Some, None, Result, Ok, Err}
-use Rattle.dimacs_lines.specs.declared.reader.LinesError.{LinesError}
-use Rattle.dimacs_lines.specs.declared.reader.LinesError.TheVariants.{TooMany, TooLong, Device, Memory}
-use Rattle.dimacs_lines.specs.declared.reader.Progress.{Progress}
+use Rattle.dimacs_lines.specs.{declared.reader.LinesError.{LinesError}, declared.reader.Progress.{Progress}}
+use Rattle.dimacs_lines.specs.{declared.reader.LinesError.TheVariants.{TooMany, TooLong, Device, Memory}, Lines.{lines}}
 use Rattle.dimacs_lines.specs.declared.reader.Progress.TheVariants.{Open, Ended, Failed}
-use Rattle.dimacs_lines.specs.Limits.{longest_line, most_lines}
-use Rattle.dimacs_lines.specs.Devices.{before_piece, one_more}
-use Rattle.dimacs_lines.specs.Lines.{lines}
+use Rattle.dimacs_lines.specs.{Limits.{longest_line, most_lines}, Devices.{before_piece, one_more}}
 
 pub record State : Type 0 where
   -- the bytes that were read and aren't given yet

@@ -1,7 +1,6 @@
 //! Decimal digits, two at a time.
 
-ghost use Rattle.std.specs.Prelude.{◌≡◌, ◌<◌, length, take};
-ghost use Rattle.std.specs.Fmt.{decimal};
+ghost use Rattle.std.specs.{Prelude.{◌≡◌, ◌<◌, length, take}, Fmt.{decimal}};
 ghost use Rattle.dimacs_lines.specs.inside.Decimals.{two_digits};
 
 /// The two digits of each number below a hundred: a copy of a private table of `itoa`.

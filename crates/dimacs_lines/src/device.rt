@@ -1,8 +1,7 @@
 //! Traits for input and output, piece by piece, and their errors.
 
 ghost use Rattle.std.specs.Prelude.{◌≡◌, ◌<◌, ◌≤◌, [], ℕ, List, Option, take, length, IfOk, IfSome, OnErr, Ok};
-ghost use Rattle.dimacs_lines.specs.Devices.{before_piece, after_piece, CountsFault, CountsPut, Written};
-ghost use Rattle.dimacs_lines.specs.Puts.{Puts};
+ghost use Rattle.dimacs_lines.specs.{Devices.{before_piece, after_piece, CountsFault, CountsPut, Written}, Puts.{Puts}};
 
 use std::alloc::{AllocError, AllocFailed};
 use thiserror::Error;

@@ -1,12 +1,9 @@
 //! Eight digits at a time, in one 64-bit word.
 
 ghost use Rattle.std.specs.Prelude.{◌≡◌, ◌+◌, ◌-◌, ◌≤◌, ◌<◌, ◌++◌, ◌↔◌, length, map, replicate, take, drop, bit_xor, IsTrue, IfSome};
-ghost use Rattle.std.specs.Char.{is_ascii_digit, IsAsciiDigit};
-ghost use Rattle.std.specs.Int.{w64, to_le_bytes};
+ghost use Rattle.std.specs.{Char.{is_ascii_digit, IsAsciiDigit}, Int.{w64, to_le_bytes}, List.{All, prefix_len}};
 ghost use Rattle.std.specs.Int.Digits.{AllBelowBase, number_from_digits};
-ghost use Rattle.std.specs.List.{All, prefix_len};
-ghost use Rattle.dimacs_lines.specs.Number.{place_sum};
-ghost use Rattle.dimacs_lines.specs.inside.Plain.{has_sixteen};
+ghost use Rattle.dimacs_lines.specs.{Number.{place_sum}, inside.Plain.{has_sixteen}};
 
 /// Reads up to eight digits at `at`: their count and value. None if there is no digit, or if after fewer than eight
 /// comes another byte with the bit of 16 set. Blanks, signs and line ends don't have it.

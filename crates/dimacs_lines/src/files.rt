@@ -1,8 +1,7 @@
 //! Files and the standard output. No contract knows their contents: `coming` and `accepted` are `None`. The clauses
 //! `bytes` are for readers and writers whose bytes are known.
 
-ghost use Rattle.std.specs.Prelude.{◌≡◌, ◌≤◌, None, Some, length, IfOk};
-ghost use Rattle.std.specs.Io.KnownBytes.{ReadConsumes, WriteAppends};
+ghost use Rattle.std.specs.{Prelude.{◌≡◌, ◌≤◌, None, Some, length, IfOk}, Io.KnownBytes.{ReadConsumes, WriteAppends}};
 ghost use Rattle.dimacs_lines.specs.Devices.{CountsFault, CountsPut, NamesReason, one_more};
 
 use crate::device::{DeviceFault, Sink, Source};

@@ -1,7 +1,6 @@
 //! Numbers in fields: an optional sign, then one or more digits.
 
-ghost use Rattle.std.specs.Prelude.{◌≡◌, ◌^◌, ◌-◌, ◌↔◌, pos, neg_ℤ, ◌≤ℤ◌, min, length, IsTrue, ◌<◌};
-ghost use Rattle.std.specs.List.{All};
+ghost use Rattle.std.specs.{Prelude.{◌≡◌, ◌^◌, ◌-◌, ◌↔◌, pos, neg_ℤ, ◌≤ℤ◌, min, length, IsTrue, ◌<◌}, List.{All}};
 ghost use Rattle.std.specs.Char.{IsAsciiDigit};
 ghost use Rattle.dimacs_lines.specs.Number.{ReadsNumber, is_negative, digits_of, place_sum};
 

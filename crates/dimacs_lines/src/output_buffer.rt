@@ -2,10 +2,8 @@
 
 ghost use Rattle.std.specs.Prelude.{◌≡◌, ◌+◌, ◌/◌, ◌%◌, ◌<◌, ◌≤◌, [], ◌∷◌, ◌++◌, ℕ, List, false, length};
 ghost use Rattle.std.specs.Fmt.{decimal, signed_decimal};
-ghost use Rattle.dimacs_lines.specs.Puts.{Puts};
-ghost use Rattle.dimacs_lines.specs.Devices.{Written};
+ghost use Rattle.dimacs_lines.specs.{Puts.{Puts}, Devices.{Written}, inside.OutputBuffers.{IsPut}};
 ghost use Rattle.dimacs_lines.specs.OutputBuffers.{Appends, IsWritten, number_field, numbers_line};
-ghost use Rattle.dimacs_lines.specs.inside.OutputBuffers.{IsPut};
 ghost use Rattle.dimacs_lines.specs.inside.Decimals.{two_digits};
 
 use crate::decimals::{first_digits, two_digits};

@@ -2,9 +2,8 @@
 //! byte, a blank or the line's end. `Scan` reads all other lines.
 
 ghost use Rattle.std.specs.Prelude.{◌≡◌, ◌≤◌, ◌<◌, ◌+◌, ◌∷◌, pos, length, take, drop, IfSome, IfNone};
-ghost use Rattle.dimacs_lines.specs.Plain.{StandsAt};
 ghost use Rattle.std.specs.Bool.{MatchBool};
-ghost use Rattle.dimacs_lines.specs.inside.Plain.{DigitsAt, IsRunOfDigits, TakesMinus, ends_of};
+ghost use Rattle.dimacs_lines.specs.{Plain.{StandsAt}, inside.Plain.{DigitsAt, IsRunOfDigits, TakesMinus, ends_of}};
 
 use crate::digits::digits_value;
 use std::marker::Model;

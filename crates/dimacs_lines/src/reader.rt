@@ -2,9 +2,8 @@
 
 ghost use Rattle.std.specs.Prelude.{◌≡◌, ◌≢◌, ◌≤◌, ◌<◌, ◌+◌, [], Some, None, Ok, Err, IfOk, IfErr, OnOk, IfSome, length, take, drop, slice_range, ◌-◌};
 ghost use Rattle.std.specs.List.{position_or_len};
-ghost use Rattle.dimacs_lines.specs.Devices.{before_piece, CountsFault};
+ghost use Rattle.dimacs_lines.specs.{Devices.{before_piece, CountsFault}, Lines.{is_end, AreWholeLines}};
 ghost use Rattle.dimacs_lines.specs.Limits.{longest_line, most_lines, most_held, greatest_piece};
-ghost use Rattle.dimacs_lines.specs.Lines.{is_end, AreWholeLines};
 ghost use Rattle.dimacs_lines.specs.Reader.{NextLine, CountsDevice, text_left};
 ghost use Rattle.dimacs_lines.specs.inside.Buffer.{PullsMore, IsEnough, IsInterruption, GivesHeld};
 ghost use Rattle.dimacs_lines.specs.declared.reader.LinesError.{LinesError};

@@ -1,10 +1,8 @@
 //! The fields of a line, from left to right.
 
 ghost use Rattle.std.specs.Prelude.{◌≡◌, ◌≤◌, ◌<◌, ◌+◌, ◌-◌, ◌^◌, [], ◌∷◌, ℤ, pos, neg_ℤ, Some, not, true, length, take, drop, slice_index, IsTrue, ◌↔◌, IfNone, IfSome};
-ghost use Rattle.std.specs.List.{position_or_len, All};
-ghost use Rattle.std.specs.Char.{IsAsciiDigit};
-ghost use Rattle.dimacs_lines.specs.Fields.{is_blank, fields_of, AreFields};
-ghost use Rattle.dimacs_lines.specs.Number.{ReadsNumber, Spells, place_sum};
+ghost use Rattle.std.specs.{List.{position_or_len, All}, Char.{IsAsciiDigit}};
+ghost use Rattle.dimacs_lines.specs.{Fields.{is_blank, fields_of, AreFields}, Number.{ReadsNumber, Spells, place_sum}};
 
 use crate::digits::digits_at;
 use crate::numbers::{NumberFault, number, wide};

@@ -1,12 +1,10 @@
 -- Arcs between given ends.
 use Rattle.std.proofs.Common.{◌≡◌, ℕ, ◌+◌, List, true, false, take, count_by, Some, slice_get, arith}
-use Rattle.std.specs.Prelude.{◌==◌}
-use Rattle.std.proofs.lemmas.Bool.{eq-eqb, and_from}
-use Rattle.std.proofs.lemmas.Bool.Decides.{nat_tests}
+use Rattle.std.proofs.{lemmas.Bool.{eq-eqb, and_from}, lemmas.Bool.Decides.{nat_tests}}
 use Rattle.std.proofs.lemmas.List.Sums.{count_by_more_yes, count_by_more_no}
 use Rattle.std.proofs.lemmas.Option.{slice_get_within, get_or_from_slice_get}
-use Rattle.dimacs_network.specs.declared.network.ArcView.{ArcView}
-use Rattle.dimacs_network.specs.Arcs.{joins}
+use Rattle.std.specs.Prelude.{◌==◌}
+use Rattle.dimacs_network.specs.{declared.network.ArcView.{ArcView}, Arcs.{joins}}
 
 pub joins_ends : (tail head : ℕ) (a : ArcView) → a.tail ≡ tail → a.head ≡ head → joins tail head a ≡ true
 joins_ends tail head a same_tail same_head = and_from (a.tail == tail) (a.head == head) (eq-eqb a.tail tail same_tail) (eq-eqb a.head head same_head)

@@ -1,7 +1,6 @@
 -- How many items in a part of a list pass a test.
 use Rattle.std.proofs.Common.{◌≡◌, ℕ, ◌+◌, ◌<◌, ◌≤◌, inl, inr, Bool, true, false, List, length, take, get_or, count_by, sym, ap, ◌∙◌, refl, arith, suc, zero}
-use Rattle.std.proofs.lemmas.Bool.{cases_Bool}
-use Rattle.std.proofs.lemmas.List.Sums.{count_by_more_yes, count_by_more_no}
+use Rattle.std.proofs.{lemmas.Bool.{cases_Bool}, lemmas.List.Sums.{count_by_more_yes, count_by_more_no}}
 
 -- the same number, written in two ways
 pub taken : {X : Type 0} (p : X → Bool) (xs : List X) (m n : ℕ) → m ≡ n → count_by p (take m xs) ≡ count_by p (take n xs)

@@ -1,17 +1,11 @@
 -- The entries of a node map, in the order of the nodes.
 use Rattle.std.proofs.Common.{◌≡◌, inl, inr, ℕ, zero, suc, ◌<◌, ◌≤◌, ◌+◌, ◌==◌, List, [], ◌∷◌, ◌++◌, length, Option, None, Some, Bool, true, false, cond, refl, sym, ◌∙◌, ap, arith, add-one, subst}
-use Rattle.std.specs.Prelude.{count_by}
-use Rattle.std.specs.List.{All}
-use Rattle.std.proofs.lemmas.Bool.{cases_lt, eqb-true}
-use Rattle.std.proofs.lemmas.Bool.Decides.{nat_tests}
-use Rattle.std.proofs.lemmas.List.{append-nil, nil_from_length, length-append}
+use Rattle.std.proofs.{lemmas.Bool.{cases_lt, eqb-true}, lemmas.Bool.Decides.{nat_tests}}
+use Rattle.std.proofs.{lemmas.List.{append-nil, nil_from_length, length-append}, lemmas.List.Sums.{sum_by-append}}
 use Rattle.std.proofs.lemmas.List.Elements.{All-nil, All-cons, All-head, All-tail, All-append, All-weaker}
-use Rattle.std.proofs.lemmas.List.Sums.{sum_by-append}
-use Rattle.std.specs.Ordering.{nat_cmp, eq_by_cmp}
-use Rattle.std.specs.Cmp.{nat_cmp_total, nat_cmp_is, unsigned_tied}
-use Rattle.std.specs.declared.cmp.Ordering.{Ordering}
+use Rattle.std.specs.{Prelude.{count_by}, List.{All}, Ordering.{nat_cmp, eq_by_cmp}, declared.cmp.Ordering.{Ordering}}
+use Rattle.std.specs.{Cmp.{nat_cmp_total, nat_cmp_is, unsigned_tied}, FinMap.Entries.{by_order, put, find}}
 use Rattle.std.specs.declared.cmp.Ordering.TheVariants.{Less, Equal, Greater}
-use Rattle.std.specs.FinMap.Entries.{by_order, put, find}
 use Rattle.std.specs.FinMap.{FinMap, empty, insert, get, entries, from_entries, get-entries, get-from_entries, entries-insert, len-entries, len-empty, same_map, nat_cmp-IsAntisymmetric}
 use Rattle.dimacs_network.specs.Maps.{values_below, with_option}
 use Rattle.dimacs_network.proofs.MapLemmas.{get-values_below, get-values_below_past}

@@ -1,12 +1,9 @@
 -- Arcs that are stored in two parts.
 use Rattle.std.proofs.Common.{◌≡◌, ℕ, ◌<◌, ◌∷◌, ◌++◌, [], List, length, map, get_or, slice_get, Some, ap, ◌∙◌, refl, arith}
-use Rattle.std.specs.List.{zip}
-use Rattle.std.specs.Prelude.{option_map}
-use Rattle.std.proofs.lemmas.List.{length-map, map-append}
-use Rattle.std.proofs.lemmas.Option.{slice_get-get_or, slice_get-map}
+use Rattle.std.proofs.{lemmas.List.{length-map, map-append}, lemmas.Option.{slice_get-get_or, slice_get-map}}
 use Rattle.std.proofs.lemmas.Slice.Zip.{length-zip, get_or-zip}
-use Rattle.dimacs_network.specs.declared.network.ArcView.{ArcView}
-use Rattle.dimacs_network.specs.KeptArcs.{arcs_of}
+use Rattle.std.specs.{List.{zip}, Prelude.{option_map}}
+use Rattle.dimacs_network.specs.{declared.network.ArcView.{ArcView}, KeptArcs.{arcs_of}}
 
 zip-push : {F B : Type 0} (fs : List F) (bs : List B) (f : F) (b : B) → length bs ≡ length fs → zip (fs ++ f ∷ []) (bs ++ b ∷ []) ≡ zip fs bs ++ (f, b) ∷ []
 zip-push [] [] f b same = refl

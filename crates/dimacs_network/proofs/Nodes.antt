@@ -1,11 +1,9 @@
 -- The lemmas about node maps and node sets, for other crates.
 use Rattle.std.proofs.Common.{◌≡◌, ◌≢◌, ℕ, None, Some, false, cond, ◌==◌, ◌||◌, ◌∙◌, ap, arith}
 use Rattle.std.proofs.lemmas.Bool.Decides.{nat_tests}
-use Rattle.std.specs.Ordering.{nat_cmp}
-use Rattle.std.specs.Cmp.{nat_cmp_total, unsigned_tied}
-use Rattle.std.specs.FinMap.{FinMap, empty, insert, get}
-use Rattle.std.specs.FinMap as map
+use Rattle.std.specs.{Ordering.{nat_cmp}, Cmp.{nat_cmp_total, unsigned_tied}, FinMap.{FinMap, empty, insert, get}}
 use Rattle.std.specs.FinSet.{FinSet, contains}
+use Rattle.std.specs.FinMap as map
 use Rattle.std.specs.FinSet as set
 
 module _ {T : Type 0} where

@@ -1,15 +1,12 @@
 -- The pigeonhole principle: n different numbers below n are all numbers below n.
 use Rattle.std.proofs.Common.{◌≡◌, ℕ, ◌+◌, ◌<◌, ◌++◌, ◌∷◌, [], inl, inr, true, false, List, length, get_or, All, eqb, sym, ap, ◌∙◌, arith, suc, zero}
-use Rattle.std.specs.List.{range_with_len, IsDistinct, list_any, remove, position_or_len}
-use Rattle.std.specs.List.Sorted.{IsPermutation}
-use Rattle.std.proofs.lemmas.Bool.Decides.{nat_tests}
-use Rattle.std.proofs.lemmas.Bool.{cases_Bool, cases_lt}
-use Rattle.std.proofs.lemmas.List.{map-id, nil_from_length}
-use Rattle.std.proofs.lemmas.List.FromFn.{map-range_with_len_more}
+use Rattle.std.proofs.{lemmas.Bool.Decides.{nat_tests}, lemmas.Bool.{cases_Bool, cases_lt}}
+use Rattle.std.proofs.{lemmas.List.{map-id, nil_from_length}, lemmas.List.FromFn.{map-range_with_len_more}}
 use Rattle.std.proofs.lemmas.List.Sums.{fails_before_first, passes_at_first}
 use Rattle.std.proofs.lemmas.List.Sorted.{All-permutation, IsPermutation-refl, IsPermutation-sym, IsPermutation-cons, IsPermutation-to_front, IsPermutation-remove, IsPermutation-trans, length_permutation}
 use Rattle.std.proofs.lemmas.Map.Keys.{IsDistinct-IsPermutation, IsDistinct-tail, apart_from_distinct}
 use Rattle.std.proofs.lemmas.Map.Steps.{length-le_from_distinct_below}
+use Rattle.std.specs.{List.{range_with_len, IsDistinct, list_any, remove, position_or_len}, List.Sorted.{IsPermutation}}
 
 range_more : (n : ℕ) → range_with_len 0 (suc n) ≡ range_with_len 0 n ++ n ∷ []
 range_more n =

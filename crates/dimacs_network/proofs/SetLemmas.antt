@@ -1,19 +1,14 @@
 -- A set of nodes, by the bytes that hold it.
 use Rattle.std.proofs.Common.{◌≡◌, ◌≢◌, inl, inr, ℕ, ◌*◌, ◌/◌, ◌%◌, ◌<◌, ◌≤◌, ◌==◌, List, length, Bool, true, false, cond, is_some, refl, sym, ◌∙◌, ap, arith}
-use Rattle.std.specs.Prelude.{◌||◌, ◌&&◌, not, IsTrue, Result, Ok, Err, OnErr}
-use Rattle.std.proofs.lemmas.Bool.{cases_eq, cases_lt, eq-eqb, false≢true, ne_eqb}
-use Rattle.std.proofs.lemmas.List.{get_or_past}
+use Rattle.std.proofs.{lemmas.Bool.{cases_eq, cases_lt, eq-eqb, false≢true, ne_eqb}, lemmas.List.{get_or_past}}
 use Rattle.std.proofs.lemmas.Nat.Bits.{bit_at-zero}
-use Rattle.std.specs.Bool.{then_some}
-use Rattle.std.specs.Ordering.{nat_cmp}
-use Rattle.std.specs.Cmp.{nat_cmp_total, unsigned_tied}
-use Rattle.std.specs.FinMap.{contains_key-keys}
+use Rattle.std.specs.{Prelude.{◌||◌, ◌&&◌, not, IsTrue, Result, Ok, Err, OnErr}, Bool.{then_some}, Ordering.{nat_cmp}}
+use Rattle.std.specs.{Cmp.{nat_cmp_total, unsigned_tied}, FinMap.{contains_key-keys}}
 use Rattle.std.specs.FinSet.{contains, contains-from_list, same_set, nat_cmp-IsAntisymmetric}
-use Rattle.std.specs.FinSet as set
-use Rattle.dimacs_network.specs.Sets.{byte_at, has_bit, has_node, nodes_in}
-use Rattle.dimacs_network.specs.inside.Sets.{SameBytes}
+use Rattle.dimacs_network.specs.{Sets.{byte_at, has_bit, has_node, nodes_in}, inside.Sets.{SameBytes}}
 use Rattle.dimacs_network.proofs.MapLemmas.{get-values_below, get-values_below_past}
 use Rattle.dimacs_network.proofs.Nodes.{contains-empty, contains-insert}
+use Rattle.std.specs.FinSet as set
 
 is_some-then_some : (b : Bool) → is_some (then_some b (tt {0})) ≡ b
 is_some-then_some true = refl

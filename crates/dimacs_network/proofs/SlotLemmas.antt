@@ -2,8 +2,7 @@
 use Rattle.std.proofs.Common.{◌≡◌, ◌≢◌, inl, inr, ℕ, ◌+◌, ◌*◌, ◌/◌, ◌%◌, ◌-◌, ◌<◌, ◌≤◌, List, [], ◌++◌, length, replicate, set, get_or, refl, sym, ◌∙◌, ap, arith, get_or-set_same, get_or-set_other}
 use Rattle.std.proofs.lemmas.Bool.{cases_eq, cases_lt}
 use Rattle.std.proofs.lemmas.List.{get_or_append_left, get_or-append_right, get_or_past, get_or-replicate, length-replicate, length-set}
-use Rattle.dimacs_network.specs.declared.node_table.TheConstants.{NO_PAGE}
-use Rattle.dimacs_network.specs.Slots.{number_of, place_of, slot_value}
+use Rattle.dimacs_network.specs.{declared.node_table.TheConstants.{NO_PAGE}, Slots.{number_of, place_of, slot_value}}
 use Rattle.dimacs_network.specs.inside.Slots.{IsDirectory, SameNumbers}
 
 pub place_of-number : (directory : List ℕ) (id : ℕ) → place_of directory id ≡ number_of directory id * 64 + id % 64

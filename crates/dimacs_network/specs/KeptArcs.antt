@@ -1,6 +1,5 @@
 -- The arcs of instances, and how they are stored.
-use Rattle.std.specs.Prelude.{ℕ, ℤ, pos, List, map}
-use Rattle.std.specs.List.{zip}
+use Rattle.std.specs.{Prelude.{ℕ, ℤ, pos, List, map}, List.{zip}}
 use Rattle.dimacs_network.specs.declared.network.ArcView.{ArcView}
 
 -- an arc with a weight and nothing else

@@ -1,10 +1,7 @@
 -- A node table as a map.
-use Rattle.std.specs.Prelude.{ℕ, zero, suc, ◌*◌, ◌^◌, ◌-◌, ℤ, pos, int_lt, Option, None, Some}
-use Rattle.std.specs.Bool.{then_some}
-use Rattle.std.specs.Ordering.{nat_cmp}
-use Rattle.std.specs.FinMap.{FinMap, empty, insert}
-use Rattle.dimacs_network.specs.declared.node_table.NodeTable.{NodeTable}
-use Rattle.dimacs_network.specs.Tables.{reach_of, value_of}
+use Rattle.std.specs.{Prelude.{ℕ, zero, suc, ◌*◌, ◌^◌, ◌-◌, ℤ, pos, int_lt, Option, None, Some}, Bool.{then_some}}
+use Rattle.std.specs.{Ordering.{nat_cmp}, FinMap.{FinMap, empty, insert}}
+use Rattle.dimacs_network.specs.{declared.node_table.NodeTable.{NodeTable}, Tables.{reach_of, value_of}}
 
 module _ {T : Type 0} where
   -- the map, with this value at this ID if it is one

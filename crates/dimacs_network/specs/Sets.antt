@@ -1,10 +1,6 @@
 -- Sets of nodes, kept as a bit for each in bytes of 8 nodes.
-use Rattle.std.specs.Prelude.{ℕ, ◌*◌, ◌/◌, ◌%◌, ◌==◌, Bool, List, length, slice_index_or}
-use Rattle.std.specs.Bool.{then_some}
-use Rattle.std.specs.Int.{bit_at}
-use Rattle.std.specs.Ordering.{nat_cmp}
-use Rattle.std.specs.FinMap.{keys}
-use Rattle.std.specs.FinSet.{FinSet, from_list}
+use Rattle.std.specs.{Prelude.{ℕ, ◌*◌, ◌/◌, ◌%◌, ◌==◌, Bool, List, length, slice_index_or}, Bool.{then_some}}
+use Rattle.std.specs.{Int.{bit_at}, Ordering.{nat_cmp}, FinMap.{keys}, FinSet.{FinSet, from_list}}
 use Rattle.dimacs_network.specs.Maps.{values_below}
 
 -- the node's bit is set in its byte

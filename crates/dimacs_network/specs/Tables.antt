@@ -1,7 +1,6 @@
 -- Node tables.
 use Rattle.std.specs.Prelude.{ℕ, ◌+◌, ◌/◌, ◌≡◌, ◌<◌, ◌≤◌, length, max}
-use Rattle.dimacs_network.specs.declared.node_table.NodeTable.{NodeTable}
-use Rattle.dimacs_network.specs.Slots.{place_of, slot_value}
+use Rattle.dimacs_network.specs.{declared.node_table.NodeTable.{NodeTable}, Slots.{place_of, slot_value}}
 
 module _ {T : Type 0} where
   -- the value of a node

@@ -1,8 +1,7 @@
 //! The arcs of each tail or head, linked.
 
 ghost use Rattle.std.specs.Prelude.{◌≡◌, ◌<◌, length, slice_index, IfOk};
-ghost use Rattle.dimacs_network.specs.Tables.{value_of};
-ghost use Rattle.dimacs_network.specs.AdjacencyLists.{AreAdjacencyLists, end_of, other_end};
+ghost use Rattle.dimacs_network.specs.{Tables.{value_of}, AdjacencyLists.{AreAdjacencyLists, end_of, other_end}};
 
 use crate::network::{ArcView, Network};
 use crate::node_table::NodeTable;

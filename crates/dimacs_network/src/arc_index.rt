@@ -1,10 +1,8 @@
 //! An index of the arcs of a network by their ends.
 
 ghost use Rattle.std.specs.Prelude.{◌≤◌, List, length, IfOk, IsTrue};
-ghost use Rattle.dimacs_network.specs.declared.network.ArcView.{ArcView};
-ghost use Rattle.dimacs_network.specs.Arcs.{IsKthBetween};
-ghost use Rattle.dimacs_network.specs.ArcOrder.{HasRoom, Indexes};
-ghost use Rattle.dimacs_network.specs.inside.ArcOrder.{IsFirst};
+ghost use Rattle.dimacs_network.specs.{declared.network.ArcView.{ArcView}, Arcs.{IsKthBetween}};
+ghost use Rattle.dimacs_network.specs.{ArcOrder.{HasRoom, Indexes}, inside.ArcOrder.{IsFirst}};
 
 use crate::arc_order::{FEW, OutArc, fill_in_order};
 use crate::network::Network;

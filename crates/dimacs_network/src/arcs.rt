@@ -1,8 +1,7 @@
 //! The arcs of instances, and how they are stored.
 
 ghost use Rattle.std.specs.Prelude.{◌≡◌, pos};
-ghost use Rattle.dimacs_network.specs.declared.network.ArcView.{ArcView};
-ghost use Rattle.dimacs_network.specs.declared.arcs.ArcEnds.{ArcEnds};
+ghost use Rattle.dimacs_network.specs.{declared.network.ArcView.{ArcView}, declared.arcs.ArcEnds.{ArcEnds}};
 ghost use Rattle.dimacs_network.specs.KeptArcs.{capacity_arc, cost_arc, weight_arc};
 
 use crate::network::ArcView;

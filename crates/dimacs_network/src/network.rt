@@ -1,8 +1,7 @@
 //! The interface of a network.
 
 ghost use Rattle.std.specs.Prelude.{◌≡◌, ◌<◌, ℕ, List, Some, length, slice_get};
-ghost use Rattle.dimacs_network.specs.declared.network.ArcView.{ArcView};
-ghost use Rattle.dimacs_network.specs.Arcs.{IsKthBetween};
+ghost use Rattle.dimacs_network.specs.{declared.network.ArcView.{ArcView}, Arcs.{IsKthBetween}};
 
 /// An arc of any instance. For a maximum flow `low` and `cost` are 0; in a graph `low` and `cap` are 0, and `cost` is
 /// the weight.

@@ -2,8 +2,7 @@
 
 ghost use Rattle.std.specs.Prelude.{◌≡◌, ◌≢◌, ◌<◌, ◌≤◌, ◌/◌, ◌%◌, ℕ, IsTrue, IsOk, OnOk, OnErr, false, length, true};
 ghost use Rattle.std.specs.FinSet as set;
-ghost use Rattle.dimacs_network.specs.Sets.{byte_at, has_bit};
-ghost use Rattle.dimacs_network.specs.inside.Sets.{SameBytes};
+ghost use Rattle.dimacs_network.specs.{Sets.{byte_at, has_bit}, inside.Sets.{SameBytes}};
 
 use crate::node_table::fill;
 use dimacs_lines::Memory;

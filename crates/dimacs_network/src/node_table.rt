@@ -1,8 +1,7 @@
 //! A value for each node, blank until it is set.
 
 ghost use Rattle.std.specs.Prelude.{◌≡◌, ◌≢◌, ◌<◌, ◌≤◌, ◌+◌, ◌/◌, ℕ, length, max, slice_index_or, IfOk, IsOk, MatchOption, OnOk, OnErr};
-ghost use Rattle.dimacs_network.specs.Slots.{place_of};
-ghost use Rattle.dimacs_network.specs.inside.Slots.{IsDirectory, SameNumbers};
+ghost use Rattle.dimacs_network.specs.{Slots.{place_of}, inside.Slots.{IsDirectory, SameNumbers}};
 
 use dimacs_lines::Memory;
 use std::alloc::Global;

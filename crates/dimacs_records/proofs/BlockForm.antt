@@ -1,16 +1,12 @@
 -- The line of a block, with its optional last field.
 use Rattle.std.proofs.Common.{◌≡◌, ℕ, ◌∷◌, [], List, true, false, Option, Some, None, Result, Err, length, map, refl, ap, ◌∙◌, subst, arith}
-use Rattle.std.specs.Prelude.{◌==◌, ℤ, pos, codes}
 use Rattle.std.proofs.lemmas.Bool.{ne_eqb}
+use Rattle.std.specs.Prelude.{◌==◌, ℤ, pos, codes}
 use Rattle.dimacs_lines.specs.Fields.{Run}
-use Rattle.dimacs_records.specs.declared.kinds.TextKind.TheVariants.{Labels}
-use Rattle.dimacs_records.specs.declared.records.Record.{Record}
-use Rattle.dimacs_records.specs.declared.records.Record.TheVariants.{LabelsBlock}
-use Rattle.dimacs_records.specs.declared.reasons.Reason.TheVariants.{FieldCount}
-use Rattle.dimacs_records.specs.declared.faults.LineFault.{LineFault}
-use Rattle.dimacs_records.specs.declared.field_reader.FieldReader.{FieldReader}
-use Rattle.dimacs_records.specs.Forms.{FieldType, Id, Count, Radius}
-use Rattle.dimacs_records.specs.Spelling.{Amount}
+use Rattle.dimacs_records.specs.{declared.kinds.TextKind.TheVariants.{Labels}, declared.records.Record.{Record}}
+use Rattle.dimacs_records.specs.{declared.records.Record.TheVariants.{LabelsBlock}, Spelling.{Amount}}
+use Rattle.dimacs_records.specs.{declared.reasons.Reason.TheVariants.{FieldCount}, Forms.{FieldType, Id, Count, Radius}}
+use Rattle.dimacs_records.specs.{declared.faults.LineFault.{LineFault}, declared.field_reader.FieldReader.{FieldReader}}
 use Rattle.dimacs_records.specs.inside.FieldReader.{fault_at, TakesField, TakesNext, TakesLast, finished, IsUntouched, ReadsForm, ReadsLetter, text_of_run, texts_left}
 use Rattle.dimacs_records.proofs.FormLemmas.{missing_next, at_missing, reads_form}
 

@@ -1,17 +1,11 @@
 -- The canonical lines of records spell exactly these records.
 use Rattle.std.proofs.Common.{◌≡◌, ◌≤◌, ◌++◌, ◌∷◌, [], ℕ, suc, List, Some, false, length, map, refl, ap, ◌∙◌, arith, append_assoc}
+use Rattle.std.proofs.{lemmas.List.{length-map}, lemmas.List.Elements.{All-head, All-tail, All-map, All-weaker}}
 use Rattle.std.specs.List.{All, flat_map}
-use Rattle.std.proofs.lemmas.List.{length-map}
-use Rattle.std.proofs.lemmas.List.Elements.{All-head, All-tail, All-map, All-weaker}
-use Rattle.dimacs_lines.specs.Lines.{lines}
-use Rattle.dimacs_lines.specs.Limits.{longest_line, most_lines}
-use Rattle.dimacs_records.specs.declared.kinds.TextKind.{TextKind}
-use Rattle.dimacs_records.specs.declared.records.Record.{Record}
-use Rattle.dimacs_records.specs.Spelling.{SpellsRecord, letter_of, parts_of, texts_in, is_skip}
-use Rattle.dimacs_records.specs.Canonical.{text_of, canonical_line, canonical_text, CanBeSpelled}
-use Rattle.dimacs_records.specs.Printed.{after_blank}
-use Rattle.dimacs_records.specs.Faults.{Spell}
-use Rattle.dimacs_records.specs.Texts.{AreSpelled}
+use Rattle.dimacs_lines.specs.{Lines.{lines}, Limits.{longest_line, most_lines}}
+use Rattle.dimacs_records.specs.{declared.kinds.TextKind.{TextKind}, declared.records.Record.{Record}, Faults.{Spell}}
+use Rattle.dimacs_records.specs.{Spelling.{SpellsRecord, letter_of, parts_of, texts_in, is_skip}, Printed.{after_blank}}
+use Rattle.dimacs_records.specs.{Canonical.{text_of, canonical_line, canonical_text, CanBeSpelled}, Texts.{AreSpelled}}
 use Rattle.dimacs_records.specs.Readings.{numbered, records_of}
 use Rattle.dimacs_records.proofs.PlainLines.{IsPlain, ArePlain, texts_in-spaced, lines-spaced, length-spaced}
 use Rattle.dimacs_records.proofs.PlainForms.{IsPlainForm, plain_form, plain_parts, parts_spell, length-parts}

@@ -1,27 +1,17 @@
 -- Reading a text line by line: the clean lines so far, and the first condition at the next one.
 use Rattle.std.proofs.Common.{◌≡◌, ℕ, suc, ◌+◌, ◌<◌, ◌∷◌, ◌++◌, [], List, Bool, false, true, Option, Some, None, length, refl, ap, sym, ◌∙◌, arith, length-append}
-use Rattle.std.specs.Prelude.{IsTrue}
-use Rattle.std.specs.List.{All}
-use Rattle.std.proofs.lemmas.Bool.{true≢false, ne_eqb}
-use Rattle.std.proofs.lemmas.List.Elements.{All-contains, Contains-append_left}
-use Rattle.dimacs_records.specs.declared.kinds.TextKind.{TextKind}
-use Rattle.dimacs_records.specs.declared.records.Record.{Record}
-use Rattle.dimacs_records.specs.declared.reasons.Reason.{Reason}
+use Rattle.std.proofs.{lemmas.Bool.{true≢false, ne_eqb}, lemmas.List.Elements.{All-contains, Contains-append_left}}
+use Rattle.std.specs.{Prelude.{IsTrue}, List.{All}}
+use Rattle.dimacs_records.specs.{declared.kinds.TextKind.{TextKind}, declared.records.Record.{Record}}
+use Rattle.dimacs_records.specs.{declared.reasons.Reason.{Reason}, Forms.{FieldType, forms}, Readings.{IsAllowed}}
 use Rattle.dimacs_records.specs.declared.reasons.Reason.TheVariants.{LineTooLong, LineLimit}
-use Rattle.dimacs_records.specs.Forms.{FieldType, forms}
-use Rattle.dimacs_records.specs.Spelling.{SpellsRecord, texts_in, is_skip}
+use Rattle.dimacs_records.specs.{Spelling.{SpellsRecord, texts_in, is_skip}, Conditions.{limit_condition, condition}}
 use Rattle.dimacs_records.specs.Shapes.{fields_condition, types_in, letter_condition, shape_condition}
-use Rattle.dimacs_records.specs.Conditions.{limit_condition, condition}
 use Rattle.dimacs_records.specs.Order.{FaultPlace, at, limit_places, shape_places, record_places, places, FirstOf}
-use Rattle.dimacs_records.specs.Readings.{IsAllowed}
 use Rattle.dimacs_records.specs.Faults.{Condition, of_limit, of_shape, of_record, Spell, records_in, IsClean}
-use Rattle.dimacs_records.proofs.FirstLemmas.{none_is}
-use Rattle.dimacs_records.proofs.PlaceLemmas.{test_at}
-use Rattle.dimacs_records.proofs.FirstLaws.{first_after, first_before, first_listed}
-use Rattle.dimacs_records.proofs.SplitLemmas.{same, sooner, later, two_places}
-use Rattle.dimacs_records.proofs.SpellLaws.{spells_one}
-use Rattle.dimacs_records.proofs.ShapeLaws.{spelled_shape}
-use Rattle.dimacs_records.proofs.FaultLaws.{spell_same}
+use Rattle.dimacs_records.proofs.{FirstLemmas.{none_is}, PlaceLemmas.{test_at}, SpellLaws.{spells_one}}
+use Rattle.dimacs_records.proofs.{FirstLaws.{first_after, first_before, first_listed}, ShapeLaws.{spelled_shape}}
+use Rattle.dimacs_records.proofs.{SplitLemmas.{same, sooner, later, two_places}, FaultLaws.{spell_same}}
 
 -- the condition holds at no field and for no reason
 abbrev pub NoneHolds : (ℕ → Reason → Bool) → Type 0

@@ -2,17 +2,13 @@
 use Rattle.std.proofs.Common.{◌≡◌, ℕ, ◌∷◌, [], List, Option, Some, None, refl}
 use Rattle.std.specs.Prelude.{pos, negsuc, codes}
 use Rattle.dimacs_lines.specs.Limits.{most_nodes}
-use Rattle.dimacs_records.specs.declared.kinds.TextKind.{TextKind}
+use Rattle.dimacs_records.specs.{declared.kinds.TextKind.{TextKind}, declared.records.End.TheVariants.{Source, Sink}}
 use Rattle.dimacs_records.specs.declared.kinds.TextKind.TheVariants.{Max, Min, Graph, Queries, Solution, Cut, Potentials, Labels}
-use Rattle.dimacs_records.specs.declared.records.End.TheVariants.{Source, Sink}
-use Rattle.dimacs_records.specs.declared.records.QueryKind.TheVariants.{Sources, Pairs}
-use Rattle.dimacs_records.specs.declared.records.Record.{Record}
+use Rattle.dimacs_records.specs.{declared.records.QueryKind.TheVariants.{Sources, Pairs}, Shapes.{shape_condition}}
+use Rattle.dimacs_records.specs.{declared.records.Record.{Record}, Order.{FaultPlace, at, shape_places}}
 use Rattle.dimacs_records.specs.declared.records.Record.TheVariants.{MaxProblem, MaxNode, MaxArc, MinProblem, MinNode, MinArc, GraphProblem, GraphArc, QueriesProblem, SourceQuery, PairQuery, SolutionValue, SolutionEntry, CutProblem, CutNode, PotentialsProblem, PotentialsNode, LabelsProblem, LabelsBlock, LabelsNode}
 use Rattle.dimacs_records.specs.declared.reasons.Reason.TheVariants.{UnknownLine, FieldCount, NumberRange, BadWord, ProblemMissing, RecordOrder, NodeRange, NodeTwice, EndTwice, EndMissing, BoundOrder, TooMany, TooFew, SolutionMissing, SolutionTwice, PredUnknown, PastRadius}
-use Rattle.dimacs_records.specs.Order.{FaultPlace, at, shape_places}
-use Rattle.dimacs_records.specs.Shapes.{shape_condition}
-use Rattle.dimacs_records.proofs.FirstLemmas.{first_by}
-use Rattle.dimacs_records.proofs.ConditionLemmas.{first_place, first_reason_at_end}
+use Rattle.dimacs_records.proofs.{FirstLemmas.{first_by}, ConditionLemmas.{first_place, first_reason_at_end}}
 
 abbrev first_shape : TextKind → List (List ℕ) → Option FaultPlace
 first_shape kind texts = first_by (λ (p : FaultPlace). shape_condition kind texts p.field p.reason) shape_places

@@ -1,16 +1,11 @@
 -- The first condition for a record after others, by a search.
-use Rattle.std.proofs.Common.{◌≡◌, List, Bool, Option, Some, None, refl, arith}
-use Rattle.std.specs.Prelude.{IsTrue}
-use Rattle.std.specs.List.{Contains}
-use Rattle.std.proofs.lemmas.List.Elements.{All-contains}
-use Rattle.dimacs_records.specs.declared.kinds.TextKind.{TextKind}
-use Rattle.dimacs_records.specs.declared.records.Record.{Record}
-use Rattle.dimacs_records.specs.declared.reasons.Reason.{Reason}
+use Rattle.std.proofs.{Common.{◌≡◌, List, Bool, Option, Some, None, refl, arith}, lemmas.List.Elements.{All-contains}}
+use Rattle.std.specs.{Prelude.{IsTrue}, List.{Contains}}
+use Rattle.dimacs_records.specs.{declared.kinds.TextKind.{TextKind}, declared.records.Record.{Record}}
+use Rattle.dimacs_records.specs.{declared.reasons.Reason.{Reason}, declared.faults.LineFault.{LineFault}}
 use Rattle.dimacs_records.specs.declared.reasons.Reason.TheVariants.{ProblemMissing, EndMissing, TooFew, SolutionMissing}
-use Rattle.dimacs_records.specs.declared.faults.LineFault.{LineFault}
-use Rattle.dimacs_records.specs.Conditions.{condition, end_condition}
+use Rattle.dimacs_records.specs.{Conditions.{condition, end_condition}, Faults.{FirstAtEnd}}
 use Rattle.dimacs_records.specs.Order.{FaultPlace, at, record_places, end_reasons}
-use Rattle.dimacs_records.specs.Faults.{FirstAtEnd}
 use Rattle.dimacs_records.specs.Readings.{IsAllowed, IsFirstCondition, IsComplete}
 use Rattle.dimacs_records.proofs.FirstLemmas.{first_by, is_first, none_is}
 

@@ -1,9 +1,8 @@
 -- How many items of a list pass a test.
 use Rattle.std.proofs.Common.{◌≡◌, inl, inr, ℕ, ◌+◌, ◌≤◌, ◌==◌, Bool, true, false, cond, List, [], ◌∷◌, ◌++◌, count_by, refl, arith}
-use Rattle.std.specs.List.{list_any}
-use Rattle.std.proofs.lemmas.Bool.{cases_Bool, cond-true, cond-false}
-use Rattle.std.proofs.lemmas.Bool.Decides.{nat_tests}
+use Rattle.std.proofs.{lemmas.Bool.{cases_Bool, cond-true, cond-false}, lemmas.Bool.Decides.{nat_tests}}
 use Rattle.std.proofs.lemmas.List.Sums.{sum_by-append, sum_by-cons}
+use Rattle.std.specs.List.{list_any}
 
 module _ {A : Type 0} (p : A → Bool) (x : A) (xs : List A) where
   pub count_by-cons : count_by p (x ∷ xs) ≡ cond (p x) 1 0 + count_by p xs

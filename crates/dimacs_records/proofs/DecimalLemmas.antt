@@ -1,17 +1,11 @@
 -- The decimal text of a number spells it.
 use Rattle.std.proofs.Common.{◌≡◌, ◌+◌, ◌/◌, ◌%◌, ◌^◌, ◌<◌, ◌≤◌, ◌++◌, ◌∷◌, [], ℕ, suc, List, length, refl, sym, ap, arith, length-append}
-use Rattle.std.specs.Prelude.{ℤ, pos, negsuc, neg_ℤ}
-use Rattle.std.specs.List.{All}
-use Rattle.std.specs.Char.{IsAsciiDigit}
-use Rattle.std.specs.Fmt.{decimal, signed_decimal}
-use Rattle.std.proofs.lemmas.Bool.Decides.{nat_tests}
-use Rattle.std.proofs.lemmas.Fmt.{decimal_by_steps_wide, length-decimal-le_wide}
-use Rattle.std.proofs.lemmas.Int.{ints}
-use Rattle.std.proofs.lemmas.List.Elements.{All-nil, All-cons, All-push, All-weaker}
+use Rattle.std.proofs.{lemmas.Bool.Decides.{nat_tests}, lemmas.Fmt.{decimal_by_steps_wide, length-decimal-le_wide}}
+use Rattle.std.proofs.{lemmas.Int.{ints}, lemmas.List.Elements.{All-nil, All-cons, All-push, All-weaker}}
+use Rattle.std.specs.{Prelude.{ℤ, pos, negsuc, neg_ℤ}, List.{All}, Char.{IsAsciiDigit}, Fmt.{decimal, signed_decimal}}
 use Rattle.dimacs_lines.specs.Number.{place_sum, Spells, IsWithin}
 use Rattle.dimacs_records.proofs.PlainLines.{IsVisible, IsPlain}
-use Rattle.dimacs_lines.proofs.NumberLemmas.{place_sum-push}
-use Rattle.dimacs_lines.proofs.DigitLemmas.{digit_is_no_sign, digit_is_no_minus}
+use Rattle.dimacs_lines.proofs.{NumberLemmas.{place_sum-push}, DigitLemmas.{digit_is_no_sign, digit_is_no_minus}}
 
 -- these digits spell n
 record AreDigits (n : ℕ) (digits : List ℕ) : Type 0 where

@@ -1,32 +1,23 @@
 -- Reading line by line.
 use Rattle.std.proofs.Common.{◌≡◌, ◌≢◌, ℕ, suc, ◌<◌, ◌≤◌, ◌+◌, ◌++◌, ◌∷◌, [], List, true, false, Option, Some, None, Result, Ok, Err, length, refl, ap, sym, ◌∙◌, subst, arith, append_assoc, inl, inr}
-use Rattle.std.specs.Prelude.{nat_lt, ◌==◌, IfErr, OnOk}
-use Rattle.std.proofs.lemmas.Bool.{true≢false, and_right, le-ltb, lt-ltb}
-use Rattle.std.proofs.lemmas.List.Elements.{All-nil, All-cons}
+use Rattle.std.proofs.{lemmas.Bool.{true≢false, and_right, le-ltb, lt-ltb}, lemmas.List.Elements.{All-nil, All-cons}}
 use Rattle.std.proofs.lemmas.List.{append-nil, length-append}
-use Rattle.dimacs_lines.specs.Lines.{lines}
-use Rattle.dimacs_lines.specs.Reader.{State, GivesLine, AtEnd, Stops, text_left}
-use Rattle.dimacs_lines.specs.declared.reader.LinesError.{LinesError}
-use Rattle.dimacs_lines.specs.declared.reader.LinesError.TheVariants as line_errors
-use Rattle.dimacs_lines.specs.Limits.{longest_line, most_lines}
-use Rattle.dimacs_records.specs.declared.kinds.TextKind.{TextKind}
-use Rattle.dimacs_records.specs.declared.records.Record.{Record}
-use Rattle.dimacs_records.specs.declared.faults.TakeError.{TakeError}
-use Rattle.dimacs_records.specs.declared.faults.TakeError.TheVariants as take_errors
-use Rattle.dimacs_records.specs.declared.faults.ReadError.{ReadError}
-use Rattle.dimacs_records.specs.declared.faults.ReadError.TheVariants as read_errors
+use Rattle.std.specs.Prelude.{nat_lt, ◌==◌, IfErr, OnOk}
+use Rattle.dimacs_lines.specs.{Lines.{lines}, Reader.{State, GivesLine, AtEnd, Stops, text_left}}
+use Rattle.dimacs_lines.specs.{declared.reader.LinesError.{LinesError}, Limits.{longest_line, most_lines}}
+use Rattle.dimacs_records.specs.{declared.kinds.TextKind.{TextKind}, declared.records.Record.{Record}}
+use Rattle.dimacs_records.specs.{declared.faults.TakeError.{TakeError}, declared.faults.ReadError.{ReadError}}
 use Rattle.dimacs_records.specs.Readings.{LineRecord, on_line, numbered, records_of, AreBefore, IsAllowed, IsFirstCondition, RefusesRecord, GiveValue, ReadsLines, RefusesEnd, IsComplete, IsReadWhole, RefusesLine}
-use Rattle.dimacs_records.specs.declared.reasons.Reason.TheVariants.{LineLimit, LineTooLong}
-use Rattle.dimacs_records.specs.declared.faults.LineFault.{LineFault}
-use Rattle.dimacs_records.specs.Spelling.{SpellsRecord, texts_in, is_skip}
-use Rattle.dimacs_records.specs.Conditions.{limit_condition}
-use Rattle.dimacs_records.specs.LineReader.{ReadsLine}
-use Rattle.dimacs_records.specs.Order.{at, limit_places, places, FirstOf}
+use Rattle.dimacs_records.specs.{declared.reasons.Reason.TheVariants.{LineLimit, LineTooLong}, LineReader.{ReadsLine}}
+use Rattle.dimacs_records.specs.{declared.faults.LineFault.{LineFault}, Spelling.{SpellsRecord, texts_in, is_skip}}
+use Rattle.dimacs_records.specs.{Conditions.{limit_condition}, Order.{at, limit_places, places, FirstOf}}
 use Rattle.dimacs_records.specs.Faults.{Condition, Spell, IsClean, records_in}
 use Rattle.dimacs_records.specs.inside.Driver.{IsReadSoFar, ReadsNext, TakesLine, ComesAfter, read_error, lines_error}
-use Rattle.dimacs_records.proofs.FirstLemmas.{is_first}
-use Rattle.dimacs_records.proofs.PlaceLemmas.{test_at}
+use Rattle.dimacs_records.proofs.{FirstLemmas.{is_first}, PlaceLemmas.{test_at}}
 use Rattle.dimacs_records.proofs.CleanLines.{NoneHolds, clean_nothing, clean_skip, clean_record, first_limit, first_shape, first_record}
+use Rattle.dimacs_lines.specs.declared.reader.LinesError.TheVariants as line_errors
+use Rattle.dimacs_records.specs.declared.faults.TakeError.TheVariants as take_errors
+use Rattle.dimacs_records.specs.declared.faults.ReadError.TheVariants as read_errors
 
 pub records_of-numbered : (n : ℕ) (by_line : List (Option Record)) → records_of (numbered n by_line) ≡ records_in by_line
 records_of-numbered n [] = refl

@@ -1,17 +1,13 @@
 -- A text has at most one fault.
 use Rattle.std.proofs.Common.{◌≡◌, ℕ, ◌+◌, ◌∷◌, ◌++◌, [], List, Option, Some, None, length, refl, ap, sym, ◌∙◌, inl, inr}
-use Rattle.std.specs.Prelude.{IsTrue}
 use Rattle.std.proofs.lemmas.Bool.{true≢false}
-use Rattle.dimacs_records.specs.declared.kinds.TextKind.{TextKind}
-use Rattle.dimacs_records.specs.declared.records.Record.{Record}
-use Rattle.dimacs_records.specs.declared.reasons.Reason.{Reason}
-use Rattle.dimacs_records.specs.Spelling.{texts_in}
-use Rattle.dimacs_records.specs.Conditions.{end_condition}
+use Rattle.std.specs.Prelude.{IsTrue}
+use Rattle.dimacs_records.specs.{declared.kinds.TextKind.{TextKind}, declared.records.Record.{Record}}
+use Rattle.dimacs_records.specs.{declared.reasons.Reason.{Reason}, Spelling.{texts_in}, Conditions.{end_condition}}
 use Rattle.dimacs_records.specs.Order.{FaultPlace, at, places, end_reasons, FirstOf}
 use Rattle.dimacs_records.specs.Faults.{Condition, Spell, records_in, IsClean, FaultyLine, FirstAtEnd}
 use Rattle.dimacs_records.specs.FaultLaws.{OneFaultLaw, NoFaultLaw}
-use Rattle.dimacs_records.proofs.FirstLemmas.{first_unique}
-use Rattle.dimacs_records.proofs.SpellLaws.{spells_one}
+use Rattle.dimacs_records.proofs.{FirstLemmas.{first_unique}, SpellLaws.{spells_one}}
 use Rattle.dimacs_records.proofs.SplitLemmas.{same, sooner, later, two_places}
 
 -- lines spell only one list of records

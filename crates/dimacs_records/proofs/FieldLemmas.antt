@@ -1,25 +1,17 @@
 -- The content of a field, and why it is refused.
-use Rattle.std.proofs.Common.{◌≡◌, ℕ, ◌∷◌, [], List, Bool, true, false, Option, Some, None, Err, length, refl, arith, inl, inr}
-use Rattle.std.proofs.Common.{SFits, w64, ◌^◌, ◌-◌}
-use Rattle.std.specs.Prelude.{ℤ, pos, neg_ℤ, ◌≤ℤ◌, int_lt, ◌||◌, not, nat_lt}
-use Rattle.std.specs.List.{list_all}
-use Rattle.std.specs.Char.{IsAsciiDigit, is_ascii_digit}
-use Rattle.std.specs.Str.{bytes_eq}
+use Rattle.std.proofs.Common.{◌≡◌, ℕ, ◌∷◌, [], List, Bool, true, false, Option, Some, None, Err, length, refl, arith, inl, inr, SFits, w64, ◌^◌, ◌-◌}
 use Rattle.std.proofs.lemmas.Bool.{ltb-true, lt-ltb, and_from, and_right, or_from, eq-eqb, and_parts}
-use Rattle.std.proofs.lemmas.Bool.Decides.{nat_tests}
-use Rattle.std.proofs.lemmas.List.Sums.{AllPass-from_list_all, list_all-from_AllPass}
-use Rattle.std.proofs.lemmas.List.Elements.{All-weaker}
-use Rattle.std.proofs.lemmas.Int.{ints}
+use Rattle.std.proofs.{lemmas.Bool.Decides.{nat_tests}, lemmas.List.Sums.{AllPass-from_list_all, list_all-from_AllPass}}
+use Rattle.std.proofs.{lemmas.List.Elements.{All-weaker}, lemmas.Int.{ints}}
+use Rattle.std.specs.{Prelude.{ℤ, pos, neg_ℤ, ◌≤ℤ◌, int_lt, ◌||◌, not, nat_lt}, List.{list_all}, Str.{bytes_eq}}
+use Rattle.std.specs.Char.{IsAsciiDigit, is_ascii_digit}
 use Rattle.dimacs_lines.specs.Number.{digits_of, IsNumber, number_in, IsWithin, Spells, ReadsNumber}
 use Rattle.dimacs_lines.specs.declared.numbers.NumberFault.{NumberFault}
-use Rattle.dimacs_lines.specs.declared.numbers.NumberFault.TheVariants as number_faults
-use Rattle.dimacs_records.specs.declared.reasons.Reason.TheVariants.{NumberRange}
-use Rattle.dimacs_records.specs.Forms.{FieldType, Word, Either, Number}
-use Rattle.dimacs_records.specs.Spelling.{Part, Text, Amount, SpellsField}
-use Rattle.dimacs_records.specs.Shapes.{is_number}
-use Rattle.dimacs_records.specs.inside.FieldReader.{field_reason, number_reason}
-use Rattle.dimacs_records.specs.Earlier.{or_else}
+use Rattle.dimacs_records.specs.{declared.reasons.Reason.TheVariants.{NumberRange}, Shapes.{is_number}}
+use Rattle.dimacs_records.specs.{Forms.{FieldType, Word, Either, Number}, Spelling.{Part, Text, Amount, SpellsField}}
+use Rattle.dimacs_records.specs.{inside.FieldReader.{field_reason, number_reason}, Earlier.{or_else}}
 use Rattle.dimacs_lines.proofs.DigitLemmas.{digit_from}
+use Rattle.dimacs_lines.specs.declared.numbers.NumberFault.TheVariants as number_faults
 
 digit_to : (b : ℕ) → IsAsciiDigit b → is_ascii_digit b ≡ true
 digit_to b h = grind (arith, nat_tests, h.0, h.1)

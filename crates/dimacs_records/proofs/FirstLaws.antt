@@ -1,7 +1,7 @@
 -- The first item of a part of a list is the first of the whole list.
 use Rattle.std.proofs.Common.{◌∷◌, ◌++◌, List, get_or, ap, refl, sym, ◌∙◌, append_assoc, arith}
-use Rattle.std.specs.List.{All, Contains}
 use Rattle.std.proofs.lemmas.List.Elements.{All-append, Contains-append_left, Contains-append_right, Contains-get_or}
+use Rattle.std.specs.List.{All, Contains}
 use Rattle.dimacs_records.specs.Order.{FirstOf}
 
 -- the first item is in the list

@@ -1,8 +1,7 @@
 -- The first item of a list, by a search.
 use Rattle.std.proofs.Common.{◌≡◌, ◌++◌, ◌∷◌, [], List, Bool, true, false, Option, Some, None, refl, ap, sym, ◌∙◌, subst}
-use Rattle.std.specs.Prelude.{IsTrue, if◌then◌else◌}
-use Rattle.std.specs.List.{All}
 use Rattle.std.proofs.lemmas.List.Elements.{All-nil, All-cons, All-head, All-tail}
+use Rattle.std.specs.{Prelude.{IsTrue, if◌then◌else◌}, List.{All}}
 use Rattle.dimacs_records.specs.Order.{FirstOf}
 
 -- the first item that passes a test

@@ -1,12 +1,9 @@
 -- The fields of a spelled record have their types.
 use Rattle.std.proofs.Common.{◌≡◌, ℕ, suc, ◌∷◌, [], List, Some, length, ap, refl}
-use Rattle.dimacs_records.specs.declared.kinds.TextKind.{TextKind}
-use Rattle.dimacs_records.specs.declared.records.Record.{Record}
-use Rattle.dimacs_records.specs.Forms.{FieldType, Word, Either, Number, forms}
+use Rattle.dimacs_records.specs.{declared.kinds.TextKind.{TextKind}, declared.records.Record.{Record}}
+use Rattle.dimacs_records.specs.{Forms.{FieldType, Word, Either, Number, forms}, Shapes.{types_in}, Readings.{IsOfKind}}
 use Rattle.dimacs_records.specs.Spelling.{Part, Text, Amount, SpellsField, SpellFields, letter_of, parts_of}
-use Rattle.dimacs_records.specs.Shapes.{types_in}
 use Rattle.dimacs_records.specs.Canonical.{CanBeSpelled, Fits, FitAll}
-use Rattle.dimacs_records.specs.Readings.{IsOfKind}
 use Rattle.dimacs_records.proofs.SpellLaws.{as_many, form_types}
 
 fits_said : (type : FieldType) (text : List ℕ) (part : Part) → SpellsField type text part → Fits type part

@@ -1,18 +1,13 @@
 -- The fields after a letter, taken one after another.
 use Rattle.std.proofs.Common.{◌≡◌, ℕ, suc, ◌∷◌, [], List, Bool, true, false, Option, Some, None, Result, Err, length, map, refl, ap, sym, ◌∙◌, subst, arith}
-use Rattle.std.specs.Prelude.{◌==◌, if◌then◌else◌}
-use Rattle.std.proofs.lemmas.Bool.{eq-eqb, eqb-true, ne_eqb}
-use Rattle.std.proofs.lemmas.Bool.Decides.{nat_tests}
+use Rattle.std.proofs.{lemmas.Bool.{eq-eqb, eqb-true, ne_eqb}, lemmas.Bool.Decides.{nat_tests}}
 use Rattle.std.proofs.lemmas.List.{length-map}
+use Rattle.std.specs.Prelude.{◌==◌, if◌then◌else◌}
 use Rattle.dimacs_lines.specs.Fields.{Run}
-use Rattle.dimacs_records.specs.declared.kinds.TextKind.{TextKind}
-use Rattle.dimacs_records.specs.declared.records.Record.{Record}
-use Rattle.dimacs_records.specs.declared.reasons.Reason.{Reason}
-use Rattle.dimacs_records.specs.declared.reasons.Reason.TheVariants.{FieldCount}
-use Rattle.dimacs_records.specs.declared.faults.LineFault.{LineFault}
-use Rattle.dimacs_records.specs.declared.field_reader.FieldReader.{FieldReader}
-use Rattle.dimacs_records.specs.Earlier.{or_else}
-use Rattle.dimacs_records.specs.Forms.{FieldType}
+use Rattle.dimacs_records.specs.{declared.kinds.TextKind.{TextKind}, declared.records.Record.{Record}}
+use Rattle.dimacs_records.specs.{declared.reasons.Reason.{Reason}, declared.reasons.Reason.TheVariants.{FieldCount}}
+use Rattle.dimacs_records.specs.{declared.faults.LineFault.{LineFault}, declared.field_reader.FieldReader.{FieldReader}}
+use Rattle.dimacs_records.specs.{Earlier.{or_else}, Forms.{FieldType}}
 use Rattle.dimacs_records.specs.Spelling.{Part, SpellFields, kind_of, letter_of, parts_of}
 use Rattle.dimacs_records.specs.inside.FieldReader.{field_reason, fault_at, fault_in, fields_fault, TakesField, TakesNext, without_fault, finished, IsUntouched, ReadsForm, text_of_run, texts_left}
 use Rattle.dimacs_records.proofs.FieldLemmas.{or_else-none}

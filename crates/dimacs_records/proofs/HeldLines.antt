@@ -1,17 +1,11 @@
 -- Reading the lines in plain form that are in the buffer.
 use Rattle.std.proofs.Common.{◌≡◌, ◌+◌, ◌<◌, ◌++◌, ◌∷◌, [], ℕ, List, Option, None, Some, Result, take, drop, refl, ap, sym, ◌∙◌, arith, append_assoc, length-append}
+use Rattle.std.proofs.{lemmas.List.{take_at}, Math.Seq.{take-add}}
 use Rattle.std.specs.Prelude.{IfErr, OnOk}
-use Rattle.dimacs_lines.specs.Devices.{before_piece}
-use Rattle.std.proofs.lemmas.List.{take_at}
-use Rattle.std.proofs.Math.Seq.{take-add}
-use Rattle.dimacs_lines.specs.Lines.{lines, AreWholeLines}
-use Rattle.dimacs_lines.specs.Reader.{State, GivesLine}
-use Rattle.dimacs_lines.specs.declared.reader.Progress.TheVariants.{Open}
-use Rattle.dimacs_lines.specs.Limits.{most_lines}
-use Rattle.dimacs_records.specs.declared.faults.TakeError.{TakeError}
-use Rattle.dimacs_records.specs.declared.kinds.TextKind.{TextKind}
-use Rattle.dimacs_records.specs.declared.records.Record.{Record}
-use Rattle.dimacs_records.specs.inside.Driver.{IsReadSoFar, ReadsNext}
+use Rattle.dimacs_lines.specs.{Devices.{before_piece}, Lines.{lines, AreWholeLines}, Reader.{State, GivesLine}}
+use Rattle.dimacs_lines.specs.{declared.reader.Progress.TheVariants.{Open}, Limits.{most_lines}}
+use Rattle.dimacs_records.specs.{declared.faults.TakeError.{TakeError}, declared.kinds.TextKind.{TextKind}}
+use Rattle.dimacs_records.specs.{declared.records.Record.{Record}, inside.Driver.{IsReadSoFar, ReadsNext}}
 use Rattle.dimacs_records.specs.inside.Plain.{SpellsFirst}
 use Rattle.dimacs_records.specs.Readings.{LineRecord, on_line, records_of, AreBefore, IsAllowed, RefusesRecord}
 use Rattle.dimacs_records.proofs.DriverLemmas.{at_number, comes_after, read_one, take_record}

@@ -1,24 +1,17 @@
 -- The line of a letter.
 use Rattle.std.proofs.Common.{◌≡◌, ℕ, suc, ◌≤◌, ◌∷◌, [], List, Bool, true, false, Option, Some, None, Result, Ok, Err, length, refl, ap, sym, ◌∙◌, subst, arith}
-use Rattle.std.specs.Prelude.{IsTrue, ◌==◌, nat_le}
-use Rattle.std.specs.List.{Contains, list_all}
-use Rattle.std.specs.Str.{bytes_eq}
-use Rattle.dimacs_records.specs.declared.kinds.TextKind.{TextKind}
+use Rattle.std.proofs.{lemmas.Bool.{leb-true}, lemmas.List.Sums.{AllPass-from_list_all}}
+use Rattle.std.proofs.lemmas.Slice.Eq.{bytes_eq-Decides}
+use Rattle.std.specs.{Prelude.{IsTrue, ◌==◌, nat_le}, List.{Contains, list_all}, Str.{bytes_eq}}
+use Rattle.dimacs_records.specs.{declared.kinds.TextKind.{TextKind}, declared.records.Record.{Record}}
 use Rattle.dimacs_records.specs.declared.kinds.TextKind.TheVariants.{Max, Min, Graph, Queries, Solution, Cut, Potentials, Labels, Distances}
-use Rattle.dimacs_records.specs.declared.records.Record.{Record}
-use Rattle.dimacs_records.specs.declared.reasons.Reason.TheVariants.{UnknownLine}
-use Rattle.dimacs_records.specs.declared.faults.LineFault.{LineFault}
-use Rattle.dimacs_records.specs.Forms.{FieldType, Form, forms}
-use Rattle.dimacs_records.specs.Spelling.{is_skip}
+use Rattle.dimacs_records.specs.{declared.reasons.Reason.TheVariants.{UnknownLine}, Forms.{FieldType, Form, forms}}
+use Rattle.dimacs_records.specs.{declared.faults.LineFault.{LineFault}, Spelling.{is_skip}, LineReader.{ReadsLine}}
 use Rattle.dimacs_records.specs.Shapes.{types_in, letter_condition, shape_condition}
 use Rattle.dimacs_records.specs.Order.{FaultPlace, at, shape_places, FirstOf}
 use Rattle.dimacs_records.specs.inside.FieldReader.{form_fault, ReadsForm, ReadsLetter, ReadsTypes}
-use Rattle.dimacs_records.specs.LineReader.{ReadsLine}
 use Rattle.dimacs_records.proofs.FirstLemmas.{first_by, is_first}
 use Rattle.dimacs_records.proofs.PlaceLemmas.{first_of_shape, place_of, place_in, test_at}
-use Rattle.std.proofs.lemmas.Bool.{leb-true}
-use Rattle.std.proofs.lemmas.List.Sums.{AllPass-from_list_all}
-use Rattle.std.proofs.lemmas.Slice.Eq.{bytes_eq-Decides}
 
 -- a form with this letter and these types
 record FormOf (all : List Form) (letter : List ℕ) (types : List FieldType) : Type 0 where

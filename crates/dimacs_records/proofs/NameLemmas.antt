@@ -1,14 +1,11 @@
 -- Nodes with numbers as lists, one more of them, and as maps.
 use Rattle.std.proofs.Common.{◌≡◌, ◌≢◌, ◌≤◌, ℕ, ◌∷◌, ◌++◌, ◌||◌, [], List, map, Bool, true, false, Option, Some, None, is_some, refl, ap, ap₂, sym, ◌∙◌, cond, arith}
-use Rattle.std.specs.Prelude.{ℤ, count_by, not, pos, unwrap_or}
-use Rattle.std.specs.List.{filter, list_any}
-use Rattle.std.specs.Ordering.{eq_by_cmp, int_eq, nat_cmp}
-use Rattle.std.specs.Cmp.{nat_cmp_total, signed_Decides, unsigned_tied}
+use Rattle.std.proofs.{lemmas.Bool.{eqb-true, false_from_ne_true}, lemmas.Option.{cond_some}}
+use Rattle.std.proofs.lemmas.List.Elements.{All-push}
+use Rattle.std.specs.{Prelude.{ℤ, count_by, not, pos, unwrap_or}, List.{filter, list_any}}
+use Rattle.std.specs.{Ordering.{eq_by_cmp, int_eq, nat_cmp}, Cmp.{nat_cmp_total, signed_Decides, unsigned_tied}}
 use Rattle.std.specs.FinMap.{FinMap, empty, from_entries, from_entries_push, get, get-empty, get-from_entries, get-retain_keys, insert, nat_cmp-IsAntisymmetric, same_map}
 use Rattle.std.specs.FinMap.Entries.{find, is_some-find}
-use Rattle.std.proofs.lemmas.Bool.{eqb-true, false_from_ne_true}
-use Rattle.std.proofs.lemmas.Option.{cond_some}
-use Rattle.std.proofs.lemmas.List.Elements.{All-push}
 use Rattle.dimacs_records.specs.NodeValues.{NameNodes, has_value, is_nonzero, is_of, without_zeros}
 use Rattle.dimacs_lines.specs.Limits.{IsNode}
 use Rattle.dimacs_records.proofs.CountLemmas.{count_by-cons, count_yes, none_passes, once_more, same_test}

@@ -1,20 +1,13 @@
 -- The first fault, by what the tests know about the earlier records.
 use Rattle.std.proofs.Common.{◌≡◌, [], List, false, true, Option, Some, None, Err, refl, ◌∙◌}
-use Rattle.dimacs_records.specs.declared.kinds.TextKind.{TextKind}
+use Rattle.dimacs_records.specs.{declared.kinds.TextKind.{TextKind}, declared.order.Context.{Context}}
 use Rattle.dimacs_records.specs.declared.kinds.TextKind.TheVariants.{Max, Labels, Distances, Solution}
-use Rattle.dimacs_records.specs.declared.order.Context.{Context}
-use Rattle.dimacs_records.specs.declared.records.Record.{Record}
+use Rattle.dimacs_records.specs.{declared.records.Record.{Record}, declared.reasons.Reason.{Reason}, Order.{FaultPlace}}
 use Rattle.dimacs_records.specs.declared.records.Record.TheVariants.{CutProblem, DistancesNode, DistancesProblem, GraphProblem, LabelsNode, LabelsProblem, MaxProblem, MinProblem, PotentialsProblem, QueriesProblem}
-use Rattle.dimacs_records.specs.declared.reasons.Reason.{Reason}
-use Rattle.dimacs_records.specs.declared.reasons.Reason.TheVariants.{ProblemMissing}
-use Rattle.dimacs_records.specs.declared.faults.TakeError.{TakeError}
-use Rattle.dimacs_records.specs.declared.faults.TakeError.TheVariants.{Refused}
-use Rattle.dimacs_records.specs.Conditions.{needs_problem}
-use Rattle.dimacs_records.specs.Earlier.{is_problem}
-use Rattle.dimacs_records.specs.Faults.{FirstAtEnd}
-use Rattle.dimacs_records.specs.Order.{FaultPlace}
+use Rattle.dimacs_records.specs.{declared.reasons.Reason.TheVariants.{ProblemMissing}, Conditions.{needs_problem}}
+use Rattle.dimacs_records.specs.{declared.faults.TakeError.{TakeError}, declared.faults.TakeError.TheVariants.{Refused}}
+use Rattle.dimacs_records.specs.{Earlier.{is_problem}, Faults.{FirstAtEnd}, Spelling.{kind_of}}
 use Rattle.dimacs_records.specs.Readings.{IsAllowed, IsComplete, IsFirstCondition, RefusesEnd, RefusesRecord}
-use Rattle.dimacs_records.specs.Spelling.{kind_of}
 use Rattle.dimacs_records.specs.Tests.{Passes, PassesEnd, answer_at, answer_at_end, place_by, reason_by, end_context_of, context_after}
 use Rattle.dimacs_records.proofs.ConditionLemmas.{first_place, first_reason_at_end, is_allowed, is_complete, is_first_at_end, is_first_condition}
 

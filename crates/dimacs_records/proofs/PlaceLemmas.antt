@@ -1,14 +1,10 @@
 -- The first fault of a line's fields is the first condition in the order.
 use Rattle.std.proofs.Common.{◌≡◌, ℕ, zero, suc, ◌≤◌, ◌∷◌, ◌++◌, [], List, Bool, true, false, Option, Some, None, length, refl, ◌∙◌, arith}
-use Rattle.std.specs.Prelude.{◌==◌, not, if◌then◌else◌}
-use Rattle.std.specs.List.{All}
-use Rattle.std.proofs.lemmas.Bool.{eq-eqb, ne_eqb}
-use Rattle.std.proofs.lemmas.List.Elements.{All-nil, All-cons, All-head, All-tail}
-use Rattle.dimacs_records.specs.declared.reasons.Reason.{Reason}
+use Rattle.std.proofs.{lemmas.Bool.{eq-eqb, ne_eqb}, lemmas.List.Elements.{All-nil, All-cons, All-head, All-tail}}
+use Rattle.std.specs.{Prelude.{◌==◌, not, if◌then◌else◌}, List.{All}}
+use Rattle.dimacs_records.specs.{declared.reasons.Reason.{Reason}, declared.faults.LineFault.{LineFault}}
 use Rattle.dimacs_records.specs.declared.reasons.Reason.TheVariants.{UnknownLine, FieldCount, BadNumber, NumberRange, BadWord}
-use Rattle.dimacs_records.specs.declared.faults.LineFault.{LineFault}
-use Rattle.dimacs_records.specs.Earlier.{or_else}
-use Rattle.dimacs_records.specs.Forms.{FieldType, Word, Either, Number}
+use Rattle.dimacs_records.specs.{Earlier.{or_else}, Forms.{FieldType, Word, Either, Number}}
 use Rattle.dimacs_records.specs.Shapes.{field_condition, fields_condition, letter_condition}
 use Rattle.dimacs_records.specs.Order.{FaultPlace, at, field_places, shape_places}
 use Rattle.dimacs_records.specs.inside.FieldReader.{fault_at, fault_in, fields_fault, form_fault}

@@ -1,18 +1,14 @@
 -- The forms of each kind have printable words and short numbers, and so do their records.
 use Rattle.std.proofs.Common.{◌≡◌, ◌≤◌, ◌∷◌, [], ℕ, suc, List, Bool, true, false, length, map, refl, ap, sym, subst, arith, inl, inr}
-use Rattle.std.specs.Prelude.{ℤ, ◌&&◌, not, nat_lt, nat_le, int_le}
-use Rattle.std.specs.List.{Contains, list_all}
+use Rattle.std.proofs.{lemmas.Bool.{and_parts, not-true, ltb-true, leb-true}, lemmas.Int.{ints}}
+use Rattle.std.proofs.{lemmas.List.Elements.{All-contains}, lemmas.List.Sums.{AllPass-from_list_all}}
+use Rattle.std.specs.{Prelude.{ℤ, ◌&&◌, not, nat_lt, nat_le, int_le}, List.{Contains, list_all}}
 use Rattle.std.specs.Char.{is_ascii_graphic}
-use Rattle.std.proofs.lemmas.Bool.{and_parts, not-true, ltb-true, leb-true}
-use Rattle.std.proofs.lemmas.Int.{ints}
-use Rattle.std.proofs.lemmas.List.Elements.{All-contains}
-use Rattle.std.proofs.lemmas.List.Sums.{AllPass-from_list_all}
 use Rattle.dimacs_lines.specs.Number.{IsWithin}
-use Rattle.dimacs_records.specs.declared.kinds.TextKind.{TextKind}
+use Rattle.dimacs_records.specs.{declared.kinds.TextKind.{TextKind}, Canonical.{text_of, Fits, FitAll}}
 use Rattle.dimacs_records.specs.declared.kinds.TextKind.TheVariants.{Max, Min, Graph, Queries, Solution, Cut, Potentials, Labels, Distances}
 use Rattle.dimacs_records.specs.Forms.{FieldType, Word, Either, Number, Form, forms}
 use Rattle.dimacs_records.specs.Spelling.{Part, Text, Amount, SpellsField, SpellFields, is_comment}
-use Rattle.dimacs_records.specs.Canonical.{text_of, Fits, FitAll}
 use Rattle.dimacs_records.proofs.PlainLines.{IsPlain, ArePlain}
 use Rattle.dimacs_records.proofs.DecimalLemmas.{lowest, highest, spells_signed_decimal, plain_signed_decimal}
 

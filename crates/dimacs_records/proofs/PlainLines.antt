@@ -1,16 +1,10 @@
 -- Short printable texts, and the line of such texts with one blank between them.
 use Rattle.std.proofs.Common.{◌≡◌, ◌+◌, ◌*◌, ◌<◌, ◌≤◌, ◌++◌, ◌∷◌, [], ℕ, suc, List, true, false, length, map, refl, ap, ◌∙◌, arith, length-append}
-use Rattle.std.specs.Prelude.{◌==◌}
-use Rattle.std.specs.List.{All, flat_map}
-use Rattle.std.specs.Char.{is_ascii_graphic}
-use Rattle.std.proofs.lemmas.Bool.{cond_both, eq-eqb, ne_eqb}
-use Rattle.std.proofs.lemmas.Bool.Decides.{nat_tests}
+use Rattle.std.proofs.{lemmas.Bool.{cond_both, eq-eqb, ne_eqb}, lemmas.Bool.Decides.{nat_tests}}
 use Rattle.std.proofs.lemmas.List.Elements.{All-nil, All-cons, All-head, All-tail, All-append, All-weaker}
-use Rattle.dimacs_lines.specs.Lines.{is_end, lines}
-use Rattle.dimacs_lines.specs.Fields.{is_blank, Run, onto_runs, runs_from}
-use Rattle.dimacs_records.specs.Spelling.{texts_in}
-use Rattle.dimacs_records.specs.inside.FieldReader.{text_of_run}
-use Rattle.dimacs_records.specs.Printed.{after_blank}
+use Rattle.std.specs.{Prelude.{◌==◌}, List.{All, flat_map}, Char.{is_ascii_graphic}}
+use Rattle.dimacs_lines.specs.{Lines.{is_end, lines}, Fields.{is_blank, Run, onto_runs, runs_from}}
+use Rattle.dimacs_records.specs.{Spelling.{texts_in}, inside.FieldReader.{text_of_run}, Printed.{after_blank}}
 
 -- a printable ASCII byte: no blank and no line end
 abbrev pub IsVisible : ℕ → Type 0

@@ -1,24 +1,16 @@
 -- The record of a line in the plain form.
 use Rattle.std.proofs.Common.{◌≡◌, ◌+◌, ◌-◌, ◌^◌, ◌<◌, ◌≤◌, ◌++◌, ◌∷◌, [], ℕ, List, Bool, true, false, length, drop, refl, ap, sym, ◌∙◌, subst, arith, append_assoc, SFits, w64}
-use Rattle.std.specs.Prelude.{◌==◌, ◌||◌, if◌then◌else◌, ℤ, pos, neg_ℤ}
-use Rattle.std.specs.List.{All, flat_map, list_all, Contains}
-use Rattle.std.specs.Char.{IsAsciiDigit}
-use Rattle.std.proofs.lemmas.Bool.{and_parts}
-use Rattle.std.proofs.lemmas.Bool.Decides.{nat_tests}
-use Rattle.std.proofs.lemmas.Int.{ints}
+use Rattle.std.proofs.{lemmas.Bool.{and_parts}, lemmas.Bool.Decides.{nat_tests}, lemmas.Int.{ints}}
 use Rattle.std.proofs.lemmas.List.{append-nil, length-append}
 use Rattle.std.proofs.lemmas.List.Elements.{All-nil, All-cons, All-head, All-tail, All-weaker}
-use Rattle.dimacs_lines.specs.Number.{Spells, IsWithin}
-use Rattle.dimacs_lines.specs.Plain.{StandsAt}
-use Rattle.dimacs_lines.specs.Limits.{most_nodes}
-use Rattle.dimacs_records.specs.declared.kinds.TextKind.{TextKind}
-use Rattle.dimacs_records.specs.declared.records.Record.{Record}
+use Rattle.std.specs.{Prelude.{◌==◌, ◌||◌, if◌then◌else◌, ℤ, pos, neg_ℤ}, List.{All, flat_map, list_all, Contains}}
+use Rattle.std.specs.Char.{IsAsciiDigit}
+use Rattle.dimacs_lines.specs.{Number.{Spells, IsWithin}, Plain.{StandsAt}, Limits.{most_nodes}}
+use Rattle.dimacs_records.specs.{declared.kinds.TextKind.{TextKind}, declared.records.Record.{Record}}
 use Rattle.dimacs_records.specs.Forms.{FieldType, Word, Either, Number, Id, Whole, Wide, Form, forms}
-use Rattle.dimacs_records.specs.inside.Plain.{Stand, IsPlainLine, SpellsFirst}
-use Rattle.dimacs_records.specs.Printed.{after_blank}
+use Rattle.dimacs_records.specs.{inside.Plain.{Stand, IsPlainLine, SpellsFirst}, Printed.{after_blank}}
 use Rattle.dimacs_records.specs.Spelling.{Part, Text, Amount, SpellsField, SpellFields, kind_of, letter_of, parts_of, texts_in, is_comment}
-use Rattle.dimacs_records.proofs.DecimalLemmas.{visible_digit}
-use Rattle.dimacs_records.proofs.PlainForms.{IsPlainForm, plain_form}
+use Rattle.dimacs_records.proofs.{DecimalLemmas.{visible_digit}, PlainForms.{IsPlainForm, plain_form}}
 use Rattle.dimacs_records.proofs.PlainLines.{IsVisible, IsPlain, ArePlain, texts_in-spaced, lines-spaced, length-spaced}
 
 visible_sign : (b : ℕ) → (b == 43 || b == 45) ≡ true → IsVisible b

@@ -3,22 +3,16 @@ use Rattle.std.proofs.Common.{◌≡◌, ℕ, suc, ◌<◌, ◌≤◌, ◌+◌, 
 use Rattle.std.proofs.Math.Seq.{split_at, get_or-append_seam}
 use Rattle.std.proofs.lemmas.Bool.{true≢false, ltb-false, false_from_ne_true, cases_lt}
 use Rattle.dimacs_lines.specs.Limits.{longest_line, most_lines}
-use Rattle.dimacs_records.specs.declared.kinds.TextKind.{TextKind}
-use Rattle.dimacs_records.specs.declared.records.Record.{Record}
-use Rattle.dimacs_records.specs.declared.reasons.Reason.TheVariants.{LineTooLong, LineLimit}
-use Rattle.dimacs_records.specs.declared.faults.ReadError.{ReadError}
-use Rattle.dimacs_records.specs.declared.faults.ReadError.TheVariants as read_errors
-use Rattle.dimacs_records.specs.Spelling.{texts_in}
-use Rattle.dimacs_records.specs.Conditions.{limit_condition}
-use Rattle.dimacs_records.specs.Order.{FaultPlace, at}
+use Rattle.dimacs_records.specs.{declared.kinds.TextKind.{TextKind}, declared.records.Record.{Record}}
+use Rattle.dimacs_records.specs.{declared.reasons.Reason.TheVariants.{LineTooLong, LineLimit}, Spelling.{texts_in}}
+use Rattle.dimacs_records.specs.{declared.faults.ReadError.{ReadError}, Conditions.{limit_condition}}
+use Rattle.dimacs_records.specs.{Order.{FaultPlace, at}, Texts.{AreSpelled, SpellsValue, Reads, AreFaultless}}
 use Rattle.dimacs_records.specs.Faults.{Condition, of_limit, of_shape, of_record, Spell, records_in, IsClean, IsFaultless, Fault}
 use Rattle.dimacs_records.specs.Readings.{LineRecord, records_of, numbered, IsAllowed, ReadsLines}
-use Rattle.dimacs_records.specs.Texts.{AreSpelled, SpellsValue, Reads, AreFaultless}
-use Rattle.dimacs_records.proofs.SpellLaws.{spells_one}
-use Rattle.dimacs_records.proofs.ShapeLaws.{spelled_shape}
+use Rattle.dimacs_records.proofs.{SpellLaws.{spells_one}, ShapeLaws.{spelled_shape}}
 use Rattle.dimacs_records.proofs.FaultLaws.{spell_same, one_fault, no_fault}
-use Rattle.dimacs_records.proofs.CleanLines.{NoneHolds, records_in-append}
-use Rattle.dimacs_records.proofs.DriverLemmas.{within, records_of-numbered}
+use Rattle.dimacs_records.proofs.{CleanLines.{NoneHolds, records_in-append}, DriverLemmas.{within, records_of-numbered}}
+use Rattle.dimacs_records.specs.declared.faults.ReadError.TheVariants as read_errors
 
 -- what the lines before a line spell, what it spells, and what those after it spell
 record SpelledAt (kind : TextKind) (before : List (List ℕ)) (line : List ℕ) (by_line : List (Option Record)) : Type 0 where

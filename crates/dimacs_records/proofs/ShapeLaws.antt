@@ -1,17 +1,14 @@
 -- A line that spells a record has no condition of its shape.
 use Rattle.std.proofs.Common.{◌≡◌, ℕ, suc, ◌∷◌, [], List, Bool, true, false, Option, Some, None, length, refl, ap}
-use Rattle.std.specs.Prelude.{◌==◌, IsTrue, if◌then◌else◌}
 use Rattle.std.proofs.lemmas.Bool.{both_ways, eq-eqb, and_right}
-use Rattle.dimacs_records.specs.declared.kinds.TextKind.{TextKind}
-use Rattle.dimacs_records.specs.declared.records.Record.{Record}
-use Rattle.dimacs_records.specs.declared.reasons.Reason.{Reason}
+use Rattle.std.specs.Prelude.{◌==◌, IsTrue, if◌then◌else◌}
+use Rattle.dimacs_records.specs.{declared.kinds.TextKind.{TextKind}, declared.records.Record.{Record}}
+use Rattle.dimacs_records.specs.{declared.reasons.Reason.{Reason}, Forms.{FieldType, Word, Either, Number}}
 use Rattle.dimacs_records.specs.declared.reasons.Reason.TheVariants.{FieldCount, BadNumber, NumberRange, BadWord}
-use Rattle.dimacs_records.specs.Forms.{FieldType, Word, Either, Number}
 use Rattle.dimacs_records.specs.Spelling.{Part, SpellFields, SpellsRecord, parts_of}
 use Rattle.dimacs_records.specs.Shapes.{field_condition, fields_condition, letter_condition, shape_condition}
 use Rattle.dimacs_records.specs.inside.FieldReader.{field_reason}
-use Rattle.dimacs_records.proofs.FieldLemmas.{field_reason-said}
-use Rattle.dimacs_records.proofs.SpellLaws.{spelled_types}
+use Rattle.dimacs_records.proofs.{FieldLemmas.{field_reason-said}, SpellLaws.{spelled_types}}
 
 if_none : {X : Type 0} (t : Bool) (x : X) (o : Option X) → (if t then Some x else o) ≡ None → (t ≡ false) × (o ≡ None)
 if_none true x o h = absurd (cc)

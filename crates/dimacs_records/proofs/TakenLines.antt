@@ -1,11 +1,9 @@
 -- Records that lines can spell, for any source.
 use Rattle.std.proofs.Common.{ℕ, ◌<◌, ◌≤◌, ◌+◌, ◌++◌, ◌∷◌, [], List, Result, Ok, Err, arith}
+use Rattle.std.proofs.{lemmas.List.Elements.{All-nil, All-push, All-weaker}, lemmas.List.{length-append}}
 use Rattle.std.specs.Prelude.{OnOk}
-use Rattle.std.proofs.lemmas.List.Elements.{All-nil, All-push, All-weaker}
-use Rattle.std.proofs.lemmas.List.{length-append}
 use Rattle.dimacs_lines.specs.Limits.{most_lines}
-use Rattle.dimacs_records.specs.declared.kinds.TextKind.{TextKind}
-use Rattle.dimacs_records.specs.declared.records.Record.{Record}
+use Rattle.dimacs_records.specs.{declared.kinds.TextKind.{TextKind}, declared.records.Record.{Record}}
 use Rattle.dimacs_records.specs.declared.faults.TakeError.{TakeError}
 use Rattle.dimacs_records.specs.Readings.{LineRecord, on_line, AreBefore, IsGivenByLines, IsOfKind, HasTaken}
 

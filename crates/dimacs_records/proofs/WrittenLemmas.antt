@@ -1,11 +1,9 @@
 -- Records written one after another.
 use Rattle.std.proofs.Common.{◌≡◌, ◌<◌, ◌≤◌, ℕ, zero, suc, ◌∷◌, ◌++◌, [], List, Option, length, map, take, slice_get, refl, ap, sym, ◌∙◌, subst, append_assoc, add-one, arith}
-use Rattle.std.specs.Option.{option_map}
-use Rattle.std.proofs.lemmas.Grind.{flat_map-append}
-use Rattle.std.proofs.lemmas.List.{append-nil, length-map, take_all}
+use Rattle.std.proofs.{lemmas.Grind.{flat_map-append}, lemmas.List.{append-nil, length-map, take_all}}
 use Rattle.std.proofs.lemmas.Option.{slice_get-map}
-use Rattle.dimacs_lines.specs.Devices.{Written}
-use Rattle.dimacs_lines.specs.OutputBuffers.{BufferState, IsWritten}
+use Rattle.std.specs.Option.{option_map}
+use Rattle.dimacs_lines.specs.{Devices.{Written}, OutputBuffers.{BufferState, IsWritten}}
 use Rattle.dimacs_records.specs.declared.records.Record.{Record}
 use Rattle.dimacs_records.specs.Canonical.{AreLines, canonical_line, canonical_text, records_of_line}
 

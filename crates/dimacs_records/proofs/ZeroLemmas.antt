@@ -1,7 +1,6 @@
 -- Setting one value among those that aren't 0.
 use Rattle.std.proofs.Common.{◌≡◌, ℕ, ◌==◌, Bool, true, false, Option, Some, None, cond, refl, sym, ◌∙◌, ap}
-use Rattle.std.specs.Prelude.{ℤ, pos, not, if◌then◌else◌}
-use Rattle.std.specs.Ordering.{nat_cmp, int_eq}
+use Rattle.std.specs.{Prelude.{ℤ, pos, not, if◌then◌else◌}, Ordering.{nat_cmp, int_eq}}
 use Rattle.std.specs.Cmp.{nat_cmp_total, unsigned_tied}
 use Rattle.std.specs.FinMap.{FinMap, get, insert, remove, same_map, get-insert, get-remove, nat_cmp-IsAntisymmetric}
 use Rattle.dimacs_records.specs.NodeValues.{without_zeros}

@@ -1,8 +1,7 @@
 -- The blocks of labels or distances among the earlier records of a text.
 use Rattle.std.specs.Prelude.{ℕ, ◌==◌, Bool, List, [], ◌∷◌, ◌++◌, Option, Some, None, length, nat_lt, nat_le, ℤ, int_lt}
 use Rattle.std.specs.List.{fold, list_any}
-use Rattle.dimacs_records.specs.Earlier.{is_some_and}
-use Rattle.dimacs_records.specs.declared.records.Record.{Record}
+use Rattle.dimacs_records.specs.{Earlier.{is_some_and}, declared.records.Record.{Record}}
 use Rattle.dimacs_records.specs.declared.records.Record.TheVariants.{LabelsBlock, LabelsNode, DistancesBlock, DistancesNode}
 
 -- a `t` line, and the IDs of the `d` lines after it

@@ -1,12 +1,9 @@
 -- The canonical form of records.
 use Rattle.std.specs.Prelude.{ℕ, ◌≡◌, ◌<◌, ◌+◌, ◌⊎◌, List, [], ◌∷◌, ◌++◌, map, Option, Some, None}
-use Rattle.std.specs.List.{flat_map, Contains}
-use Rattle.std.specs.Fmt.{signed_decimal}
+use Rattle.std.specs.{List.{flat_map, Contains}, Fmt.{signed_decimal}}
 use Rattle.dimacs_lines.specs.Number.{IsWithin}
-use Rattle.dimacs_records.specs.declared.kinds.TextKind.{TextKind}
-use Rattle.dimacs_records.specs.declared.records.Record.{Record}
-use Rattle.dimacs_records.specs.Forms.{FieldType, Word, Either, Number, Form, forms}
-use Rattle.dimacs_records.specs.Printed.{spaced_line}
+use Rattle.dimacs_records.specs.{declared.kinds.TextKind.{TextKind}, declared.records.Record.{Record}}
+use Rattle.dimacs_records.specs.{Forms.{FieldType, Word, Either, Number, Form, forms}, Printed.{spaced_line}}
 use Rattle.dimacs_records.specs.Spelling.{Part, Text, Amount, kind_of, letter_of, parts_of}
 
 abbrev pub text_of : Part → List ℕ

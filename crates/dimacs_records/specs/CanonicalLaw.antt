@@ -1,12 +1,8 @@
 -- The theorem about canonical texts.
-use Rattle.std.specs.Prelude.{◌≤◌, List, Some, length, map}
-use Rattle.std.specs.List.{All}
-use Rattle.dimacs_lines.specs.Lines.{lines}
-use Rattle.dimacs_lines.specs.Limits.{most_lines}
-use Rattle.dimacs_records.specs.declared.kinds.TextKind.{TextKind}
-use Rattle.dimacs_records.specs.declared.records.Record.{Record}
-use Rattle.dimacs_records.specs.Canonical.{canonical_text, CanBeSpelled}
-use Rattle.dimacs_records.specs.Texts.{AreSpelled}
+use Rattle.std.specs.{Prelude.{◌≤◌, List, Some, length, map}, List.{All}}
+use Rattle.dimacs_lines.specs.{Lines.{lines}, Limits.{most_lines}}
+use Rattle.dimacs_records.specs.{declared.kinds.TextKind.{TextKind}, declared.records.Record.{Record}}
+use Rattle.dimacs_records.specs.{Canonical.{canonical_text, CanBeSpelled}, Texts.{AreSpelled}}
 
 -- if lines of the kind can spell these records, their canonical lines are within the limits and spell exactly them
 abbrev pub CanonicalLaw : Type 0

@@ -2,15 +2,12 @@
 use Rattle.std.specs.Prelude.{ℕ, ◌==◌, Bool, true, false, ◌&&◌, ◌||◌, not, List, [], ◌∷◌, Option, is_some, is_none, if◌then◌else◌, nat_lt, length, count_by, pos, int_lt}
 use Rattle.std.specs.List.{list_any}
 use Rattle.dimacs_lines.specs.Limits.{longest_line, most_lines}
-use Rattle.dimacs_records.specs.declared.kinds.TextKind.{TextKind}
+use Rattle.dimacs_records.specs.{declared.kinds.TextKind.{TextKind}, declared.order.Declared.{Declared}}
 use Rattle.dimacs_records.specs.declared.kinds.TextKind.TheVariants.{Max, Solution, Labels, Distances}
-use Rattle.dimacs_records.specs.declared.order.Declared.{Declared}
-use Rattle.dimacs_records.specs.declared.records.QueryKind.TheVariants.{Sources, Pairs}
-use Rattle.dimacs_records.specs.declared.records.Record.{Record}
+use Rattle.dimacs_records.specs.{declared.records.QueryKind.TheVariants.{Sources, Pairs}, Spelling.{kind_of}}
+use Rattle.dimacs_records.specs.{declared.records.Record.{Record}, declared.reasons.Reason.{Reason}}
 use Rattle.dimacs_records.specs.declared.records.Record.TheVariants.{MaxNode, MaxArc, MinNode, MinArc, GraphArc, SourceQuery, PairQuery, SolutionValue, CutNode, PotentialsNode, LabelsBlock, LabelsNode, DistancesBlock, DistancesNode}
-use Rattle.dimacs_records.specs.declared.reasons.Reason.{Reason}
 use Rattle.dimacs_records.specs.declared.reasons.Reason.TheVariants.{LineTooLong, ProblemMissing, ProblemTwice, RecordOrder, NodeRange, NodeTwice, EndTwice, EndMissing, BoundOrder, TooMany, TooFew, SolutionMissing, SolutionTwice, PredUnknown, LineLimit, PastRadius}
-use Rattle.dimacs_records.specs.Spelling.{kind_of}
 use Rattle.dimacs_records.specs.Earlier.{problem_in, is_problem, is_above, is_full, is_short, is_counted, counted_in, asks_for, names, is_max_node, is_end_node, is_flow_arc, is_value}
 use Rattle.dimacs_records.specs.Blocks.{block_in, is_labelled, is_full_block, is_short_block, is_past_block}
 

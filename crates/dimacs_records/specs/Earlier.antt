@@ -1,12 +1,10 @@
 -- The earlier records of a text.
 use Rattle.std.specs.Prelude.{ℕ, ◌==◌, Bool, true, false, List, [], ◌∷◌, Option, Some, None, is_some, length, nat_lt, nat_le}
 use Rattle.std.specs.List.{filter}
-use Rattle.dimacs_records.specs.declared.order.Declared.{Declared}
-use Rattle.dimacs_records.specs.declared.records.End.{End}
-use Rattle.dimacs_records.specs.declared.records.End.TheVariants.{Source, Sink}
+use Rattle.dimacs_records.specs.{declared.order.Declared.{Declared}, declared.records.End.{End}}
+use Rattle.dimacs_records.specs.{declared.records.End.TheVariants.{Source, Sink}, declared.records.Record.{Record}}
 use Rattle.dimacs_records.specs.declared.records.QueryKind.{QueryKind}
 use Rattle.dimacs_records.specs.declared.records.QueryKind.TheVariants.{Sources, Pairs}
-use Rattle.dimacs_records.specs.declared.records.Record.{Record}
 use Rattle.dimacs_records.specs.declared.records.Record.TheVariants.{MaxProblem, MaxNode, MaxArc, MinProblem, MinNode, MinArc, GraphProblem, GraphArc, QueriesProblem, SourceQuery, PairQuery, SolutionValue, CutProblem, CutNode, PotentialsProblem, PotentialsNode, LabelsProblem, LabelsBlock, DistancesProblem, DistancesBlock}
 
 -- what a problem line declares; queries have no NODES

@@ -1,9 +1,7 @@
 -- Theorems about the faults of texts.
 use Rattle.std.specs.Prelude.{ℕ, ◌≡◌, List, Option}
-use Rattle.dimacs_records.specs.declared.kinds.TextKind.{TextKind}
-use Rattle.dimacs_records.specs.declared.records.Record.{Record}
-use Rattle.dimacs_records.specs.declared.reasons.Reason.{Reason}
-use Rattle.dimacs_records.specs.Faults.{Fault, IsFaultless}
+use Rattle.dimacs_records.specs.{declared.kinds.TextKind.{TextKind}, declared.records.Record.{Record}}
+use Rattle.dimacs_records.specs.{declared.reasons.Reason.{Reason}, Faults.{Fault, IsFaultless}}
 
 -- a text has at most one fault
 abbrev pub OneFaultLaw : Type 0

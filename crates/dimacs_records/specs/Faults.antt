@@ -1,11 +1,8 @@
 -- The fault of a text: the first line at which a condition holds, and the first condition in the order there.
 use Rattle.std.specs.Prelude.{ℕ, ◌+◌, ◌≡◌, ◌⊎◌, true, false, List, [], ◌∷◌, ◌++◌, length, Option, Some, None, IsTrue}
-use Rattle.dimacs_records.specs.declared.kinds.TextKind.{TextKind}
-use Rattle.dimacs_records.specs.declared.records.Record.{Record}
-use Rattle.dimacs_records.specs.declared.reasons.Reason.{Reason}
-use Rattle.dimacs_records.specs.Spelling.{SpellsRecord, texts_in, is_skip}
-use Rattle.dimacs_records.specs.Shapes.{shape_condition}
-use Rattle.dimacs_records.specs.Conditions.{limit_condition, end_condition}
+use Rattle.dimacs_records.specs.{declared.kinds.TextKind.{TextKind}, declared.records.Record.{Record}}
+use Rattle.dimacs_records.specs.{declared.reasons.Reason.{Reason}, Spelling.{SpellsRecord, texts_in, is_skip}}
+use Rattle.dimacs_records.specs.{Shapes.{shape_condition}, Conditions.{limit_condition, end_condition}}
 use Rattle.dimacs_records.specs.Order.{IsRefusedAt, FaultPlace, at, places, end_reasons, FirstOf}
 
 -- the condition of the reason at place p holds for this line after the earlier records

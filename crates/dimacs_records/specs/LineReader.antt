@@ -1,11 +1,8 @@
 -- The result of reading a line.
 use Rattle.std.specs.Prelude.{ℕ, ◌≡◌, true, false, List, Option, Some, None, Result, Ok, Err, IsTrue}
-use Rattle.dimacs_records.specs.declared.kinds.TextKind.{TextKind}
-use Rattle.dimacs_records.specs.declared.records.Record.{Record}
-use Rattle.dimacs_records.specs.declared.faults.LineFault.{LineFault}
-use Rattle.dimacs_records.specs.Spelling.{SpellsRecord, is_skip}
-use Rattle.dimacs_records.specs.Shapes.{shape_condition}
-use Rattle.dimacs_records.specs.Order.{FaultPlace, at, shape_places, FirstOf}
+use Rattle.dimacs_records.specs.{declared.kinds.TextKind.{TextKind}, declared.records.Record.{Record}}
+use Rattle.dimacs_records.specs.{declared.faults.LineFault.{LineFault}, Spelling.{SpellsRecord, is_skip}}
+use Rattle.dimacs_records.specs.{Shapes.{shape_condition}, Order.{FaultPlace, at, shape_places, FirstOf}}
 
 -- a skipped line, the record that the fields spell, or the first condition of the shape
 abbrev pub ReadsLine : TextKind → List (List ℕ) → Result (Option Record) LineFault → Type 0

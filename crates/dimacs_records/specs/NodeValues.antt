@@ -1,8 +1,6 @@
 -- Lines with a node and a number.
-use Rattle.std.specs.Prelude.{ℕ, ℤ, ◌==◌, ◌≤◌, Bool, not, List, count_by, pos, unwrap_or}
-use Rattle.std.specs.List.{All}
-use Rattle.std.specs.Ordering.{int_eq, nat_cmp}
-use Rattle.std.specs.FinMap.{FinMap, get, retain_keys}
+use Rattle.std.specs.{Prelude.{ℕ, ℤ, ◌==◌, ◌≤◌, Bool, not, List, count_by, pos, unwrap_or}, List.{All}}
+use Rattle.std.specs.{Ordering.{int_eq, nat_cmp}, FinMap.{FinMap, get, retain_keys}}
 use Rattle.dimacs_lines.specs.Limits.{IsNode}
 
 abbrev pub is_of : ℕ → ℕ × ℤ → Bool

@@ -1,9 +1,6 @@
 -- Printed lines, field by field.
-use Rattle.std.specs.Prelude.{ℕ, List, [], ◌∷◌, ◌++◌, codes, map}
-use Rattle.std.specs.List.{flat_map}
-use Rattle.std.specs.Fmt.{signed_decimal}
-use Rattle.dimacs_records.specs.declared.printed.Part.{Part}
-use Rattle.dimacs_records.specs.declared.printed.Part.TheVariants.{Word, Number, Wide}
+use Rattle.std.specs.{Prelude.{ℕ, List, [], ◌∷◌, ◌++◌, codes, map}, List.{flat_map}, Fmt.{signed_decimal}}
+use Rattle.dimacs_records.specs.{declared.printed.Part.{Part}, declared.printed.Part.TheVariants.{Word, Number, Wide}}
 
 abbrev pub after_blank : List ℕ → List ℕ
 after_blank field = 32 ∷ field

@@ -1,7 +1,6 @@
 -- The ranges of the numbers in texts.
 use Rattle.std.specs.Prelude.{ℕ, ◌^◌, ◌-◌, ℤ, pos, neg_ℤ}
-use Rattle.dimacs_lines.specs.Limits.{most_nodes, IsNode}
-use Rattle.dimacs_lines.specs.Number.{IsWithin}
+use Rattle.dimacs_lines.specs.{Limits.{most_nodes, IsNode}, Number.{IsWithin}}
 
 -- an ID in a text without NODES
 abbrev pub IsId : ℕ → Type 0

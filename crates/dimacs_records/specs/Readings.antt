@@ -1,20 +1,15 @@
 -- The records that a reading stands for, and the results of its calls.
 use Rattle.std.specs.Prelude.{ℕ, suc, ◌+◌, ◌≡◌, ◌<◌, List, [], ◌∷◌, length, map, Option, Some, None, Result, Ok, Err, IsTrue}
 use Rattle.std.specs.List.{All}
-use Rattle.dimacs_lines.specs.Devices.{one_more}
-use Rattle.dimacs_lines.specs.Limits.{most_lines}
-use Rattle.dimacs_records.specs.declared.kinds.TextKind.{TextKind}
-use Rattle.dimacs_records.specs.declared.records.Record.{Record}
-use Rattle.dimacs_records.specs.declared.reasons.Reason.{Reason}
-use Rattle.dimacs_records.specs.declared.faults.LineFault.{LineFault}
-use Rattle.dimacs_records.specs.declared.faults.TakeError.{TakeError}
-use Rattle.dimacs_records.specs.declared.faults.TakeError.TheVariants as take_errors
-use Rattle.dimacs_records.specs.declared.faults.ReadError.{ReadError}
-use Rattle.dimacs_records.specs.declared.faults.ReadError.TheVariants as read_errors
-use Rattle.dimacs_records.specs.Spelling.{SpellsRecord}
-use Rattle.dimacs_records.specs.Conditions.{condition, end_condition}
+use Rattle.dimacs_lines.specs.{Devices.{one_more}, Limits.{most_lines}}
+use Rattle.dimacs_records.specs.{declared.kinds.TextKind.{TextKind}, declared.records.Record.{Record}}
+use Rattle.dimacs_records.specs.{declared.reasons.Reason.{Reason}, declared.faults.LineFault.{LineFault}}
+use Rattle.dimacs_records.specs.{declared.faults.TakeError.{TakeError}, declared.faults.ReadError.{ReadError}}
+use Rattle.dimacs_records.specs.{Spelling.{SpellsRecord}, Conditions.{condition, end_condition}}
 use Rattle.dimacs_records.specs.Order.{IsRefusedAt, FaultPlace, at, record_places, FirstOf}
 use Rattle.dimacs_records.specs.Faults.{IsClean, IsFaultless, FaultyLine, FirstAtEnd, Fault}
+use Rattle.dimacs_records.specs.declared.faults.TakeError.TheVariants as take_errors
+use Rattle.dimacs_records.specs.declared.faults.ReadError.TheVariants as read_errors
 
 -- a record and the number of its line
 pub record LineRecord : Type 0 where

@@ -1,21 +1,16 @@
 -- The tests of one more record by what is known of the earlier ones.
 use Rattle.std.specs.Prelude.{ℕ, ◌≡◌, ◌&&◌, ◌||◌, Bool, true, false, List, [], ◌∷◌, Option, Some, None, is_some, is_none, not, if◌then◌else◌, Result, Ok, Err}
 use Rattle.std.specs.List.{list_any}
-use Rattle.dimacs_records.specs.declared.faults.TakeError.{TakeError}
-use Rattle.dimacs_records.specs.declared.faults.TakeError.TheVariants.{Refused}
-use Rattle.dimacs_records.specs.declared.kinds.TextKind.{TextKind}
+use Rattle.dimacs_records.specs.{declared.faults.TakeError.{TakeError}, declared.faults.TakeError.TheVariants.{Refused}}
+use Rattle.dimacs_records.specs.{declared.kinds.TextKind.{TextKind}, declared.order.Declared.{Declared}}
 use Rattle.dimacs_records.specs.declared.kinds.TextKind.TheVariants.{Max, Labels, Distances, Solution}
-use Rattle.dimacs_records.specs.declared.order.Declared.{Declared}
-use Rattle.dimacs_records.specs.declared.order.Context.{Context}
-use Rattle.dimacs_records.specs.declared.reasons.Reason.{Reason}
+use Rattle.dimacs_records.specs.{declared.order.Context.{Context}, declared.reasons.Reason.{Reason}, Spelling.{kind_of}}
 use Rattle.dimacs_records.specs.declared.reasons.Reason.TheVariants.{RecordOrder, NodeTwice, EndTwice, EndMissing, TooFew, SolutionTwice, PredUnknown, PastRadius}
-use Rattle.dimacs_records.specs.declared.records.Record.{Record}
+use Rattle.dimacs_records.specs.{declared.records.Record.{Record}, Blocks.{block_in, is_full_block, is_short_block}}
 use Rattle.dimacs_records.specs.declared.records.Record.TheVariants.{LabelsNode, DistancesNode}
-use Rattle.dimacs_records.specs.Blocks.{block_in, is_full_block, is_short_block}
 use Rattle.dimacs_records.specs.Conditions.{bounded_ids, is_above_at, is_bound_wrong, is_refused_for, lacks_end, needs_problem}
 use Rattle.dimacs_records.specs.Earlier.{counted_in, is_counted, is_full, is_problem, is_short, is_value, problem_in}
 use Rattle.dimacs_records.specs.Order.{FaultPlace, end_reasons, record_places}
-use Rattle.dimacs_records.specs.Spelling.{kind_of}
 
 -- after this problem line and so many lines that it counts
 abbrev pub plain_context_of : Option Declared → ℕ → Context

@@ -1,14 +1,10 @@
 -- What a text spells, defined without faults, and the result of reading it.
-use Rattle.std.specs.Prelude.{ℕ, ◌≡◌, ◌≤◌, List, length, Option, Result, Ok, Err, ◌∷◌, ◌++◌}
-use Rattle.std.specs.List.{All}
+use Rattle.std.specs.{Prelude.{ℕ, ◌≡◌, ◌≤◌, List, length, Option, Result, Ok, Err, ◌∷◌, ◌++◌}, List.{All}}
 use Rattle.dimacs_lines.specs.Limits.{longest_line, most_lines}
-use Rattle.dimacs_records.specs.declared.kinds.TextKind.{TextKind}
-use Rattle.dimacs_records.specs.declared.records.Record.{Record}
-use Rattle.dimacs_records.specs.declared.reasons.Reason.{Reason}
-use Rattle.dimacs_records.specs.declared.faults.ReadError.{ReadError}
-use Rattle.dimacs_records.specs.declared.faults.ReadError.TheVariants as read_errors
-use Rattle.dimacs_records.specs.Faults.{Spell}
+use Rattle.dimacs_records.specs.{declared.kinds.TextKind.{TextKind}, declared.records.Record.{Record}, Faults.{Spell}}
+use Rattle.dimacs_records.specs.{declared.reasons.Reason.{Reason}, declared.faults.ReadError.{ReadError}}
 use Rattle.dimacs_records.specs.Readings.{LineRecord, numbered, IsAllowed, IsComplete}
+use Rattle.dimacs_records.specs.declared.faults.ReadError.TheVariants as read_errors
 
 -- the lines are within the limits, and each is skipped or spells the record at its position
 pub record AreSpelled (kind : TextKind) (all : List (List ℕ)) (by_line : List (Option Record)) : Type 0 where

@@ -1,10 +1,8 @@
 //! Writing records in the canonical form: one blank between fields, numbers in decimal, a line end.
 
 ghost use Rattle.std.specs.Prelude.{◌≡◌, ◌<◌, ℕ, List, [], ◌∷◌, ◌++◌, length, slice_get, pos, codes};
-ghost use Rattle.dimacs_lines.specs.Puts.{Puts};
-ghost use Rattle.dimacs_lines.specs.OutputBuffers.{Appends};
-ghost use Rattle.dimacs_records.specs.declared.printed.Part.TheVariants.{Number};
-ghost use Rattle.dimacs_records.specs.declared.records.Record.{Record};
+ghost use Rattle.dimacs_lines.specs.{Puts.{Puts}, OutputBuffers.{Appends}};
+ghost use Rattle.dimacs_records.specs.{declared.printed.Part.TheVariants.{Number}, declared.records.Record.{Record}};
 ghost use Rattle.dimacs_records.specs.Canonical.{AreLines, canonical_line, canonical_text, line_of, records_of_line};
 ghost use Rattle.dimacs_records.specs.Spelling.{Text, Amount};
 

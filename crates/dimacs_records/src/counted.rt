@@ -2,15 +2,10 @@
 
 ghost use Rattle.std.specs.Prelude.{◌≡◌, ◌++◌, ◌∷◌, [], ℕ, List, None, Some, IfErr, IfOk, OnOk, OnErr, true};
 ghost use Rattle.dimacs_lines.specs.Lines.{lines};
-ghost use Rattle.dimacs_records.specs.declared.kinds.TextKind.{TextKind};
-ghost use Rattle.dimacs_records.specs.declared.order.Context.{Context};
-ghost use Rattle.dimacs_records.specs.declared.records.Record.{Record};
-ghost use Rattle.dimacs_records.specs.Conditions.{needs_problem};
-ghost use Rattle.dimacs_records.specs.Earlier.{is_problem};
-ghost use Rattle.dimacs_records.specs.Faults.{Fault};
+ghost use Rattle.dimacs_records.specs.{declared.kinds.TextKind.{TextKind}, declared.order.Context.{Context}};
+ghost use Rattle.dimacs_records.specs.{declared.records.Record.{Record}, Conditions.{needs_problem}, Faults.{Fault}};
+ghost use Rattle.dimacs_records.specs.{Earlier.{is_problem}, Spelling.{kind_of}, Takings.{StandsFor}};
 ghost use Rattle.dimacs_records.specs.Readings.{CountsRead, LineRecord, IsAllowed, IsComplete, IsOfKind, RefusesEnd, RefusesRecord, records_of};
-ghost use Rattle.dimacs_records.specs.Spelling.{kind_of};
-ghost use Rattle.dimacs_records.specs.Takings.{StandsFor};
 ghost use Rattle.dimacs_records.specs.Tests.{Passes, PassesEnd, end_context_of, context_after};
 ghost use Rattle.dimacs_records.specs.Texts.{Reads, SpellsValue, AreFaultless};
 

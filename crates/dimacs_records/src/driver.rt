@@ -2,15 +2,11 @@
 
 ghost use Rattle.std.specs.Prelude.{◌≡◌, ◌≢◌, ◌+◌, ◌≤◌, [], ℕ, List, Option, Some, IfOk, IfErr, IfSome, OnOk, length, take};
 ghost use Rattle.std.specs.Option.{option_len};
-ghost use Rattle.dimacs_lines.specs.Devices.{before_piece};
-ghost use Rattle.dimacs_lines.specs.Lines.{lines, AreWholeLines};
-ghost use Rattle.dimacs_lines.specs.Reader.{text_left};
-ghost use Rattle.dimacs_lines.specs.declared.reader.Progress.TheVariants.{Open};
-ghost use Rattle.dimacs_lines.specs.Limits.{most_lines};
-ghost use Rattle.dimacs_records.specs.declared.faults.ReadError.TheVariants.{Device};
+ghost use Rattle.dimacs_lines.specs.{Devices.{before_piece}, Lines.{lines, AreWholeLines}, Reader.{text_left}};
+ghost use Rattle.dimacs_lines.specs.{declared.reader.Progress.TheVariants.{Open}, Limits.{most_lines}};
+ghost use Rattle.dimacs_records.specs.{declared.faults.ReadError.TheVariants.{Device}, inside.Plain.{TakesPlain}};
 ghost use Rattle.dimacs_records.specs.declared.records.Record.{Record};
 ghost use Rattle.dimacs_records.specs.Readings.{HasTaken, IsReadWhole, ReadsAll, ReadsLines, CountsRead, IsGivenByLines, numbered};
-ghost use Rattle.dimacs_records.specs.inside.Plain.{TakesPlain};
 ghost use Rattle.dimacs_records.specs.inside.Driver.{IsReadSoFar, ComesAfter, ReadsNext, ReadsSome, TakesLine, read_error, lines_error};
 
 use crate::faults::{At, ReadError, TakeError};

@@ -4,8 +4,7 @@
 
 ghost use Rattle.std.specs.Prelude.{◌≡◌, ◌≤ℤ◌, pos, neg_ℤ, ◌^◌, codes};
 ghost use Rattle.dimacs_lines.specs.Number.{IsWithin};
-ghost use Rattle.dimacs_records.specs.Earlier.{or_else};
-ghost use Rattle.dimacs_records.specs.Forms.{Nodes, Count, Id, Whole, Wide, Word, Either, Number};
+ghost use Rattle.dimacs_records.specs.{Earlier.{or_else}, Forms.{Nodes, Count, Id, Whole, Wide, Word, Either, Number}};
 ghost use Rattle.dimacs_records.specs.Spelling.{Text, Amount, end_word, query_word};
 ghost use Rattle.dimacs_records.specs.inside.FieldReader.{TakesField, TakesLast, ReadsAmount, IsUntouched, finished, fault_at, number_reason, word_of};
 

@@ -2,8 +2,7 @@
 //!
 //! Each function is a theorem: its contract states it, and its body is empty on purpose.
 
-ghost use Rattle.dimacs_records.specs.CanonicalLaw.{CanonicalLaw};
-ghost use Rattle.dimacs_records.specs.FaultLaws.{OneFaultLaw, NoFaultLaw};
+ghost use Rattle.dimacs_records.specs.{CanonicalLaw.{CanonicalLaw}, FaultLaws.{OneFaultLaw, NoFaultLaw}};
 
 /// A text has at most one fault.
 pub fn one_fault()

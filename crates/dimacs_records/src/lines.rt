@@ -1,9 +1,8 @@
 //! Reading a line as a record.
 
 ghost use Rattle.std.specs.Prelude.{◌≡◌};
-ghost use Rattle.dimacs_records.specs.declared.reasons.Reason.TheVariants.{UnknownLine};
+ghost use Rattle.dimacs_records.specs.{declared.reasons.Reason.TheVariants.{UnknownLine}, LineReader.{ReadsLine}};
 ghost use Rattle.dimacs_records.specs.Spelling.{texts_in, is_comment};
-ghost use Rattle.dimacs_records.specs.LineReader.{ReadsLine};
 ghost use Rattle.dimacs_records.specs.inside.FieldReader.{IsUntouched, ReadsLetter, texts_left, fault_at};
 
 mod cut;

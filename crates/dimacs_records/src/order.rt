@@ -1,13 +1,11 @@
 //! The tests of a record and of the end of a text, in the order in which faults are reported.
 
 ghost use Rattle.std.specs.Prelude.{◌≡◌, ◌&&◌, ◌||◌, not, false, true, Option, None, is_some, is_none, OnOk, OnErr, IfErr};
-ghost use Rattle.dimacs_records.specs.declared.faults.TakeError.TheVariants.{Refused};
-ghost use Rattle.dimacs_records.specs.declared.kinds.TextKind.{TextKind};
-ghost use Rattle.dimacs_records.specs.declared.order.Declared.{Declared};
+ghost use Rattle.dimacs_records.specs.{declared.faults.TakeError.TheVariants.{Refused}, Spelling.{kind_of}};
+ghost use Rattle.dimacs_records.specs.{declared.kinds.TextKind.{TextKind}, declared.order.Declared.{Declared}};
 ghost use Rattle.dimacs_records.specs.declared.records.Record.{Record};
 ghost use Rattle.dimacs_records.specs.Conditions.{is_above_at, bounded_ids, is_bound_wrong, needs_problem};
 ghost use Rattle.dimacs_records.specs.Earlier.{is_above, is_counted, is_full, is_problem, is_short, is_some_and};
-ghost use Rattle.dimacs_records.specs.Spelling.{kind_of};
 ghost use Rattle.dimacs_records.specs.Tests.{Passes, PassesEnd, answer_at, answer_at_end, plain_context_of, passes_count, needs_value, place_by, reason_by};
 
 use crate::faults::TakeError;

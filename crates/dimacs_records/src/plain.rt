@@ -3,8 +3,7 @@
 
 ghost use Rattle.std.specs.Prelude.{◌∷◌, [], pos, IfSome};
 ghost use Rattle.dimacs_records.specs.declared.kinds.TextKind.TheVariants.{Min, Queries, Cut, Potentials, Labels, Distances};
-ghost use Rattle.dimacs_records.specs.Forms.{Id, Whole};
-ghost use Rattle.dimacs_records.specs.inside.Plain.{IsPlainLine, SpellsArc, SpellsFirst};
+ghost use Rattle.dimacs_records.specs.{Forms.{Id, Whole}, inside.Plain.{IsPlainLine, SpellsArc, SpellsFirst}};
 ghost use Rattle.dimacs_records.specs.Spelling.{Amount};
 
 use crate::kinds::TextKind;

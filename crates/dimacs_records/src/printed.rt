@@ -1,7 +1,6 @@
 //! Writing lines of words and numbers.
 
-ghost use Rattle.dimacs_lines.specs.OutputBuffers.{Appends};
-ghost use Rattle.dimacs_lines.specs.Puts.{Puts};
+ghost use Rattle.dimacs_lines.specs.{OutputBuffers.{Appends}, Puts.{Puts}};
 ghost use Rattle.dimacs_records.specs.Printed.{after_blank, printed, printed_line};
 
 use dimacs_lines::{DeviceFault, OutputBuffer, Sink};

@@ -1,11 +1,8 @@
 //! What all kinds of text have in common.
 
 ghost use Rattle.std.specs.Prelude.{◌≡◌, ℕ, List, Some, IfOk};
-ghost use Rattle.dimacs_lines.specs.Lines.{lines};
-ghost use Rattle.dimacs_lines.specs.Puts.{Puts};
-ghost use Rattle.dimacs_records.specs.declared.kinds.TextKind.{TextKind};
-ghost use Rattle.dimacs_records.specs.Faults.{Fault};
-ghost use Rattle.dimacs_records.specs.Readings.{CountsRead};
+ghost use Rattle.dimacs_lines.specs.{Lines.{lines}, Puts.{Puts}};
+ghost use Rattle.dimacs_records.specs.{declared.kinds.TextKind.{TextKind}, Faults.{Fault}, Readings.{CountsRead}};
 ghost use Rattle.dimacs_records.specs.Texts.{ReadsAs};
 
 use crate::faults::ReadError;

@@ -1,18 +1,13 @@
 -- Arguments, one by one.
 use Rattle.std.proofs.Common.{◌≡◌, ◌≢◌, ◌∙◌, ◌+◌, ℕ, ◌∷◌, ◌++◌, [], ◌<◌, ◌≤◌, List, Option, Some, None, IfSome, IfNone, length, map, drop, take, get_or, refl, slice_get, suc, sym, ap, subst, arith, zero}
-use Rattle.std.specs.Option.{option_map}
-use Rattle.std.specs.Prelude.{codes}
 use Rattle.std.proofs.lemmas.List.{length-map}
-use Rattle.std.specs.String.{string_bytes}
-use Rattle.dimacs_runs.specs.declared.jobs.JudgeKind.{JudgeKind}
-use Rattle.dimacs_runs.specs.declared.jobs.JudgeKind.TheVariants as judges
-use Rattle.dimacs_runs.specs.declared.jobs.Job.{Job}
+use Rattle.std.specs.{Option.{option_map}, Prelude.{codes}, String.{string_bytes}}
+use Rattle.dimacs_runs.specs.{declared.jobs.JudgeKind.{JudgeKind}, declared.jobs.Job.{Job}, inside.Making.{names_of}}
 use Rattle.dimacs_runs.specs.declared.jobs.Job.TheVariants.{Convert, Show, Judge, Certify, Spread, Solve}
-use Rattle.dimacs_runs.specs.declared.jobs.SolveJob.{SolveJob}
-use Rattle.dimacs_runs.specs.declared.jobs.SpreadKind.{SpreadKind}
+use Rattle.dimacs_runs.specs.{declared.jobs.SolveJob.{SolveJob}, declared.jobs.SpreadKind.{SpreadKind}}
 use Rattle.dimacs_runs.specs.declared.jobs.SolveJob.TheVariants.{Max, Min, Paths}
-use Rattle.dimacs_runs.specs.inside.Making.{names_of}
 use Rattle.dimacs_runs.specs.Jobs.{AreCertifyFiles, AreOptions, Asks, AsksSolver, IsLimit, GiveLimit, certify_reads, certify_verb, file_count, judge_verb, solve_verb, spread_verb}
+use Rattle.dimacs_runs.specs.declared.jobs.JudgeKind.TheVariants as judges
 
 pub two_arguments : {A : Type 0} (f : A → List ℕ) (arguments : List A) (a b : A) (x y : List ℕ) → 2 ≤ length arguments → length arguments < 3 → a ≡ get_or arguments 0 a → b ≡ get_or arguments 1 b
     → x ≡ f a → y ≡ f b → map f arguments ≡ x ∷ y ∷ []

@@ -1,44 +1,34 @@
 -- The outcomes of certifying.
 use Rattle.std.proofs.Common.{◌≡◌, ◌≢◌, ◌∙◌, ℕ, ℤ, List, [], ◌∷◌, Ok, Err, refl, sym, subst, ap, inl, inr, length}
 use Rattle.std.specs.Prelude.{codes}
-use Rattle.dimacs_claims.specs.Cuts.{CutValue, SpellsCut, canonical_cut}
-use Rattle.dimacs_claims.specs.Labels.{LabelsValue}
-use Rattle.dimacs_claims.specs.LabelTexts.{SpellsLabels, canonical_labels}
+use Rattle.dimacs_claims.specs.{Cuts.{CutValue, SpellsCut, canonical_cut}, Labels.{LabelsValue}}
+use Rattle.dimacs_claims.specs.{LabelTexts.{SpellsLabels, canonical_labels}, declared.solution.Solution.{Solution}}
 use Rattle.dimacs_claims.specs.Potentials.{PotentialsValue, SpellsPotentials, canonical_potentials}
 use Rattle.dimacs_claims.specs.SolutionTexts.{SolutionValue, canonical_solution, claimed}
-use Rattle.dimacs_claims.specs.declared.solution.Solution.{Solution}
 use Rattle.dimacs_network.specs.Arcs.{NetworkValue}
-use Rattle.dimacs_instance.specs.MaxFlows.{MaxValue, IsMax}
-use Rattle.dimacs_instance.specs.MinFlows.{MinValue}
-use Rattle.dimacs_records.specs.declared.faults.At.{At}
-use Rattle.dimacs_records.specs.declared.kinds.TextKind.TheVariants as kinds
-use Rattle.dimacs_records.specs.declared.reasons.Reason.{Reason}
+use Rattle.dimacs_instance.specs.{MaxFlows.{MaxValue, IsMax}, MinFlows.{MinValue}}
+use Rattle.dimacs_records.specs.{declared.faults.At.{At}, declared.reasons.Reason.{Reason}}
 use Rattle.dimacs_records.specs.declared.reasons.Reason.TheVariants.{Feasible, NodesDiffer, NotLeast, NotMaximum}
-use Rattle.dimacs_judging.specs.declared.verdict.JudgeError.{JudgeError}
-use Rattle.dimacs_judging.specs.declared.verdict.JudgeError.TheVariants as judge_errors
-use Rattle.dimacs_judging.specs.declared.verdict.Verdict.TheVariants as verdicts
-use Rattle.dimacs_judging.specs.declared.verdict.Where.{Where}
-use Rattle.dimacs_judging.specs.declared.verdict.Where.TheVariants as places
-use Rattle.dimacs_judging.specs.InfeasibleJudge.{ShowsNoFlow}
-use Rattle.dimacs_judging.specs.MaxJudge.{ShowsMaximum, max_claim_rows}
-use Rattle.dimacs_judging.specs.MinJudge.{ShowsLeast, min_claim_rows}
-use Rattle.dimacs_judging.specs.Optimum.{Least, Maximum}
+use Rattle.dimacs_judging.specs.{declared.verdict.JudgeError.{JudgeError}, declared.verdict.Where.{Where}}
+use Rattle.dimacs_judging.specs.{InfeasibleJudge.{ShowsNoFlow}, MaxJudge.{ShowsMaximum, max_claim_rows}}
+use Rattle.dimacs_judging.specs.{MinJudge.{ShowsLeast, min_claim_rows}, Optimum.{Least, Maximum}}
 use Rattle.dimacs_judging.specs.Tests.{AllClear, FirstAlone, Refutes, Row}
 use Rattle.dimacs_judging.proofs.Firsts.{none_first}
-use Rattle.dimacs_judging.proofs.MaxJudge as max
-use Rattle.dimacs_judging.proofs.MinJudge as min
-use Rattle.dimacs_decide.specs.CertifiedMax.{CertifiesMax}
-use Rattle.dimacs_decide.specs.CertifiedMin.{CertifiesMin}
+use Rattle.dimacs_decide.specs.{CertifiedMax.{CertifiesMax}, CertifiedMin.{CertifiesMin}}
 use Rattle.dimacs_decide.specs.CertifiedPaths.{AreAllDistances, AreLabelsOfAll, CertifiesPaths}
-use Rattle.dimacs_runs.specs.declared.status.Status.{Status}
-use Rattle.dimacs_runs.specs.declared.status.Status.TheVariants.{Done, Refused, GaveUp}
-use Rattle.dimacs_runs.specs.declared.outcome.OutputText.TheVariants as output_texts
-use Rattle.dimacs_runs.specs.declared.report.Report.TheVariants as reports
+use Rattle.dimacs_runs.specs.{declared.status.Status.{Status}, Outputs.{WritesAlike, report_of}}
+use Rattle.dimacs_runs.specs.{declared.status.Status.TheVariants.{Done, Refused, GaveUp}, Refusals.{refusal_line}}
 use Rattle.dimacs_runs.specs.Certified.{CertificateOr, CertifiesDistances, CertifiesInfeasible, CertifiesLeast, CertifiesMaximum, IsCheaperText, IsCutText, IsFeasibleText, IsGreaterText, IsPotentialsText, IsSetText, uncertified}
-use Rattle.dimacs_runs.specs.Outputs.{WritesAlike, report_of}
-use Rattle.dimacs_runs.specs.Refusals.{refusal_line}
 use Rattle.dimacs_runs.specs.Verdicts.{distances_line, failure_line}
 use Rattle.dimacs_runs.specs.inside.Outcomes.{MayCertify, with_text, judge_stop, outcome_of}
+use Rattle.dimacs_records.specs.declared.kinds.TextKind.TheVariants as kinds
+use Rattle.dimacs_judging.specs.declared.verdict.JudgeError.TheVariants as judge_errors
+use Rattle.dimacs_judging.specs.declared.verdict.Verdict.TheVariants as verdicts
+use Rattle.dimacs_judging.specs.declared.verdict.Where.TheVariants as places
+use Rattle.dimacs_judging.proofs.MaxJudge as max
+use Rattle.dimacs_judging.proofs.MinJudge as min
+use Rattle.dimacs_runs.specs.declared.outcome.OutputText.TheVariants as output_texts
+use Rattle.dimacs_runs.specs.declared.report.Report.TheVariants as reports
 
 -- ---- the claim
 -- if a text of one kind exists, no test of the claim fails, and no text of the other kind exists

@@ -1,48 +1,34 @@
 -- What runs write with `Done` is judged yes.
 use Rattle.std.proofs.Common.{◌≡◌, ◌∙◌, ℕ, ◌≤◌, ◌<◌, List, [], ◌∷◌, Option, None, length, map, inl, inr, refl, ap, ap₂, sym, subst, arith}
-use Rattle.std.specs.Prelude.{ℤ, if◌then◌else◌, is_some}
-use Rattle.std.specs.List.{All, Contains, flat_map}
 use Rattle.std.proofs.lemmas.List.{get_or-map, get_or_default, length-map}
 use Rattle.std.proofs.lemmas.List.Elements.{All-cons, All-head, All-tail, All-weaker}
+use Rattle.std.specs.{Prelude.{ℤ, if◌then◌else◌, is_some}, List.{All, Contains, flat_map}}
 use Rattle.dimacs_lines.specs.Limits.{IsNode}
-use Rattle.dimacs_claims.specs.Cuts.{CutValue, SpellsCut, canonical_cut}
-use Rattle.dimacs_claims.specs.DistanceTexts.{AreBare, IsBare}
+use Rattle.dimacs_claims.specs.{Cuts.{CutValue, SpellsCut, canonical_cut}, DistanceTexts.{AreBare, IsBare}}
 use Rattle.dimacs_claims.specs.Labels.{BlockValue, LabelsValue, label, label_in}
 use Rattle.dimacs_claims.specs.LabelTexts.{SpellsLabels, canonical_labels}
 use Rattle.dimacs_claims.specs.Potentials.{PotentialsValue, SpellsPotentials, canonical_potentials}
 use Rattle.dimacs_claims.specs.SolutionTexts.{SolutionValue, SpellsSolution, canonical_solution}
 use Rattle.dimacs_claims.proofs.LabelLaws.{labels_round_trip}
 use Rattle.dimacs_network.specs.Arcs.{NetworkValue}
-use Rattle.dimacs_instance.specs.Graph.{SpellsGraph}
-use Rattle.dimacs_instance.specs.MaxFlows.{IsMax, MaxValue}
-use Rattle.dimacs_instance.specs.MaxTexts.{SpellsMax}
-use Rattle.dimacs_instance.specs.MinFlows.{IsMin, MinValue}
-use Rattle.dimacs_instance.specs.MinTexts.{SpellsMin}
+use Rattle.dimacs_instance.specs.{Graph.{SpellsGraph}, MaxFlows.{IsMax, MaxValue}, MaxTexts.{SpellsMax}}
+use Rattle.dimacs_instance.specs.{MinFlows.{IsMin, MinValue}, MinTexts.{SpellsMin}}
 use Rattle.dimacs_instance.specs.QueryTexts.{AreIds, AreLawful, Pairs, QueriesValue, Sources, SpellsQueries}
-use Rattle.dimacs_judging.specs.Answers.{answer_to, distance_from}
-use Rattle.dimacs_judging.specs.declared.verdict.Answer.{Answer}
-use Rattle.dimacs_judging.specs.InfeasibleJudge.{ShowsNoFlow}
-use Rattle.dimacs_judging.specs.MaxJudge.{ShowsMaximum}
-use Rattle.dimacs_judging.specs.MinJudge.{ShowsLeast}
-use Rattle.dimacs_judging.specs.PathsJudge.{PassesPaths, ShowsDistances}
+use Rattle.dimacs_judging.specs.{Answers.{answer_to, distance_from}, declared.verdict.Answer.{Answer}}
+use Rattle.dimacs_judging.specs.{InfeasibleJudge.{ShowsNoFlow}, MaxJudge.{ShowsMaximum}, MinJudge.{ShowsLeast}}
+use Rattle.dimacs_judging.specs.{PathsJudge.{PassesPaths, ShowsDistances}, inside.Labels.{block_at}}
 use Rattle.dimacs_judging.specs.QueryTests.{HasBlock, HasFullBlock, IsServed, sources_asked}
 use Rattle.dimacs_judging.specs.inside.QueryTests.{ends_of, radius_from, radius_in}
-use Rattle.dimacs_judging.specs.inside.Labels.{block_at}
-use Rattle.dimacs_judging.proofs.BlockNumbers.{block_found}
-use Rattle.dimacs_judging.proofs.InfeasibleJudge.{infeasible_clear}
-use Rattle.dimacs_judging.proofs.MaxJudge.{max_clear}
-use Rattle.dimacs_judging.proofs.MinJudge.{min_clear}
-use Rattle.dimacs_judging.proofs.PathsPassing.{passing_shows, paths_clear}
+use Rattle.dimacs_judging.proofs.{BlockNumbers.{block_found}, InfeasibleJudge.{infeasible_clear}, MaxJudge.{max_clear}}
+use Rattle.dimacs_judging.proofs.{MinJudge.{min_clear}, PathsPassing.{passing_shows, paths_clear}}
 use Rattle.dimacs_decide.specs.CertifiedPaths.{AreLabelsOfAll, block_source, sources_of}
-use Rattle.dimacs_runs.specs.declared.jobs.JudgeKind.TheVariants as judges
 use Rattle.dimacs_runs.specs.declared.jobs.JudgeKind.TheVariants.{Max, Min, Infeasible, Paths}
-use Rattle.dimacs_runs.specs.declared.jobs.SolveJob.TheVariants as solves
-use Rattle.dimacs_runs.specs.declared.status.Status.TheVariants.{Done}
-use Rattle.dimacs_runs.specs.Judged.{Judged, paths_lines}
+use Rattle.dimacs_runs.specs.{declared.status.Status.TheVariants.{Done}, Judged.{Judged, paths_lines}}
 use Rattle.dimacs_runs.specs.Laws.{AskOf, CertifiedLaw, SolvedLaw}
 use Rattle.dimacs_runs.specs.Verdicts.{answer_line, distances_line, infeasible_line, max_line, min_line}
-use Rattle.dimacs_runs.proofs.JudgingLemmas.{least_shown, maximum_shown}
-use Rattle.dimacs_runs.proofs.SolutionTexts.{max_spelled, min_spelled}
+use Rattle.dimacs_runs.proofs.{JudgingLemmas.{least_shown, maximum_shown}, SolutionTexts.{max_spelled, min_spelled}}
+use Rattle.dimacs_runs.specs.declared.jobs.JudgeKind.TheVariants as judges
+use Rattle.dimacs_runs.specs.declared.jobs.SolveJob.TheVariants as solves
 
 -- ---- texts that spell what passes are judged yes
 module _ (instance claim certificate : List ℕ) where

@@ -1,38 +1,23 @@
 -- The reports on judged texts.
 use Rattle.std.proofs.Common.{◌≡◌, ℕ, List, [], ◌∷◌, Result, Ok, Err, refl, sym, subst, ap, ◌∙◌}
-use Rattle.dimacs_records.specs.declared.faults.ReadError.{ReadError}
-use Rattle.dimacs_records.specs.declared.reasons.Reason.{Reason}
-use Rattle.dimacs_judging.specs.declared.verdict.JudgeError.{JudgeError}
-use Rattle.dimacs_judging.specs.declared.verdict.JudgeError.TheVariants as judge_errors
-use Rattle.dimacs_judging.specs.declared.verdict.Verdict.{Verdict}
-use Rattle.dimacs_judging.specs.declared.verdict.Verdict.TheVariants as verdicts
-use Rattle.dimacs_judging.specs.declared.verdict.Where.{Where}
-use Rattle.dimacs_judging.specs.Answers.{AnswersQueries}
-use Rattle.std.specs.Prelude.{ℤ}
-use Rattle.dimacs_claims.specs.Cuts.{CutValue}
-use Rattle.dimacs_claims.specs.Labels.{BlockValue}
-use Rattle.dimacs_claims.specs.Potentials.{PotentialsValue}
-use Rattle.dimacs_claims.specs.SolutionTexts.{SolutionValue}
-use Rattle.dimacs_claims.specs.SolutionReading.{AnswersAlike}
-use Rattle.dimacs_instance.specs.MaxFlows.{MaxValue}
-use Rattle.dimacs_instance.specs.MinFlows.{MinValue}
-use Rattle.dimacs_instance.specs.QueryTexts as queries
-use Rattle.dimacs_instance.specs.QueryTexts.{QueriesValue}
-use Rattle.std.specs.List.{flat_map}
-use Rattle.dimacs_runs.specs.Judged.{paths_lines}
-use Rattle.dimacs_judging.specs.Claims.{claimed_flow}
-use Rattle.dimacs_judging.specs.MaxJudge.{ShowsMaximum}
-use Rattle.dimacs_judging.specs.MinJudge.{ShowsLeast}
-use Rattle.dimacs_judging.specs.Optimum.{Least, Maximum}
+use Rattle.dimacs_records.specs.{declared.faults.ReadError.{ReadError}, declared.reasons.Reason.{Reason}}
+use Rattle.dimacs_judging.specs.{declared.verdict.JudgeError.{JudgeError}, declared.verdict.Verdict.{Verdict}}
+use Rattle.dimacs_judging.specs.{declared.verdict.Where.{Where}, Answers.{AnswersQueries}, Claims.{claimed_flow}}
+use Rattle.dimacs_judging.specs.{MaxJudge.{ShowsMaximum}, MinJudge.{ShowsLeast}, Optimum.{Least, Maximum}}
 use Rattle.dimacs_judging.specs.Tests.{Row, Judges}
-use Rattle.dimacs_runs.specs.declared.status.Status.{Status}
+use Rattle.std.specs.{Prelude.{ℤ}, List.{flat_map}}
+use Rattle.dimacs_claims.specs.{Cuts.{CutValue}, Labels.{BlockValue}, Potentials.{PotentialsValue}}
+use Rattle.dimacs_claims.specs.{SolutionTexts.{SolutionValue}, SolutionReading.{AnswersAlike}}
+use Rattle.dimacs_instance.specs.{MaxFlows.{MaxValue}, MinFlows.{MinValue}, QueryTexts.{QueriesValue}}
+use Rattle.dimacs_runs.specs.{Judged.{paths_lines}, declared.status.Status.{Status}, Runs.{ReportsAlone}}
 use Rattle.dimacs_runs.specs.declared.status.Status.TheVariants.{Done, Refused, GaveUp}
-use Rattle.dimacs_runs.specs.Judgings.{CountsDevices, VerdictOr}
-use Rattle.dimacs_runs.specs.inside.Judgings.{ReadsIn, TextSpells}
-use Rattle.dimacs_runs.specs.Runs.{ReportsAlone}
+use Rattle.dimacs_runs.specs.{Judgings.{CountsDevices, VerdictOr}, inside.Judgings.{ReadsIn, TextSpells}}
 use Rattle.dimacs_runs.specs.inside.Outcomes.{MayReport, judge_outcome, outcome_of}
 use Rattle.dimacs_runs.specs.Verdicts.{answer_line, failure_line, sources_line, verdict_lines}
 use Rattle.dimacs_judging.proofs.Firsts.{none_first}
+use Rattle.dimacs_judging.specs.declared.verdict.JudgeError.TheVariants as judge_errors
+use Rattle.dimacs_judging.specs.declared.verdict.Verdict.TheVariants as verdicts
+use Rattle.dimacs_instance.specs.QueryTexts as queries
 
 -- ---- what the judges' verdicts show
 pub maximum_shown : (i : MaxValue) (s : SolutionValue) (c : CutValue) → ShowsMaximum i s c → Maximum i (claimed_flow i.arcs s.entries)

@@ -1,32 +1,19 @@
 -- The labels of certified distances have as few lines as the distances, so that they fit a text.
 use Rattle.std.proofs.Common.{◌≡◌, ◌≢◌, inl, inr, eqb, ℕ, suc, ◌<◌, ◌≤◌, ◌∷◌, [], List, Bool, true, false, Option, Some, None, Ok, length, take, drop, map, get_or, refl, ap, ap₂, sym, ◌∙◌, subst, arith}
-use Rattle.std.specs.Prelude.{is_some, ◌==◌, ◌||◌}
-use Rattle.std.specs.List.{IsDistinct, flat_map, list_any}
-use Rattle.std.specs.Map.{keys_of, lookup}
-use Rattle.std.specs.Option.{IsSome}
-use Rattle.std.proofs.Math.Seq.{split_at}
-use Rattle.std.proofs.lemmas.Bool.{cases_Bool, eqb-true, ne_eqb}
-use Rattle.std.proofs.lemmas.Cmp.{nat_eq_equiv}
+use Rattle.std.proofs.{Math.Seq.{split_at}, lemmas.Bool.{cases_Bool, eqb-true, ne_eqb}, lemmas.Cmp.{nat_eq_equiv}}
 use Rattle.std.proofs.lemmas.List.{get_or-map, get_or_default, length-append, length-map}
-use Rattle.std.proofs.lemmas.Map.Keys.{IsDistinct-from_apart}
-use Rattle.std.proofs.lemmas.Map.Made.{is_some-lookup}
+use Rattle.std.proofs.{lemmas.Map.Keys.{IsDistinct-from_apart}, lemmas.Map.Made.{is_some-lookup}}
 use Rattle.std.proofs.lemmas.Map.Steps.{length-le_from_keys}
-use Rattle.dimacs_lines.specs.Limits.{IsNode}
-use Rattle.dimacs_lines.specs.Lines.{lines}
+use Rattle.std.specs.{Prelude.{is_some, ◌==◌, ◌||◌}, List.{IsDistinct, flat_map, list_any}, Map.{keys_of, lookup}}
+use Rattle.std.specs.Option.{IsSome}
+use Rattle.dimacs_lines.specs.{Limits.{IsNode}, Lines.{lines}}
 use Rattle.dimacs_network.specs.Arcs.{NetworkValue}
-use Rattle.dimacs_records.specs.declared.kinds.TextKind.TheVariants.{Distances}
-use Rattle.dimacs_records.specs.Faults.{Fault}
-use Rattle.dimacs_records.specs.Texts.{Reads}
-use Rattle.dimacs_claims.specs.declared.block.Label.{Label}
-use Rattle.dimacs_claims.specs.DistanceTexts.{GivesDistances, SpellsDistances, bare}
+use Rattle.dimacs_records.specs.{declared.kinds.TextKind.TheVariants.{Distances}, Faults.{Fault}, Texts.{Reads}}
+use Rattle.dimacs_claims.specs.{declared.block.Label.{Label}, DistanceTexts.{GivesDistances, SpellsDistances, bare}}
 use Rattle.dimacs_claims.specs.Labels.{AreLabels, BlockValue, IsBlock, LabelsValue, label, label_in, no_label}
-use Rattle.dimacs_claims.specs.LabelTexts.{FitText, block_lines, label_line, label_records}
-use Rattle.dimacs_claims.specs.inside.ById.{id_at}
-use Rattle.dimacs_claims.proofs.BlockLemmas.{is_some-label, label_id}
-use Rattle.dimacs_claims.proofs.ByIdLemmas.{fresh_apart}
-use Rattle.dimacs_claims.proofs.LabelLaws.{fit_read}
-use Rattle.dimacs_judging.specs.inside.Labels.{block_at}
-use Rattle.dimacs_judging.specs.QueryTests.{HasBlock}
+use Rattle.dimacs_claims.specs.{LabelTexts.{FitText, block_lines, label_line, label_records}, inside.ById.{id_at}}
+use Rattle.dimacs_claims.proofs.{BlockLemmas.{is_some-label, label_id}, ByIdLemmas.{fresh_apart}, LabelLaws.{fit_read}}
+use Rattle.dimacs_judging.specs.{inside.Labels.{block_at}, QueryTests.{HasBlock}}
 use Rattle.dimacs_judging.proofs.BlockNumbers.{block_found}
 use Rattle.dimacs_decide.specs.CertifiedPaths.{AreLabelsOfAll, block_source}
 use Rattle.dimacs_decide.proofs.CertifiedPathsLemmas.{same_place}

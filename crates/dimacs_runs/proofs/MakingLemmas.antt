@@ -1,23 +1,17 @@
 -- How a run ends that reads files, and creates one for the text that comes of them.
 use Rattle.std.proofs.Common.{ℕ, ◌≡◌, ◌≢◌, ◌++◌, ◌∙◌, List, [], ◌∷◌, Option, None, Some, Result, Ok, Err, refl, sym, ap, append-nil, arith, drop, flat_map, inl, inr, map}
-use Rattle.std.specs.Result.{IsErrAnd}
 use Rattle.std.proofs.lemmas.Grind.{flat_map-append}
+use Rattle.std.specs.Result.{IsErrAnd}
 use Rattle.dimacs_lines.specs.Devices.{Written}
-use Rattle.dimacs_runs.specs.declared.failure.CommandError.{CommandError}
-use Rattle.dimacs_runs.specs.declared.failure.Failure.{Failure}
-use Rattle.dimacs_runs.specs.declared.status.RunError.{RunError}
-use Rattle.dimacs_runs.specs.declared.status.RunError.TheVariants.{Device, Memory}
-use Rattle.dimacs_runs.specs.declared.status.Status.{Status}
-use Rattle.dimacs_runs.specs.declared.outcome.OutputText.{OutputText}
+use Rattle.dimacs_runs.specs.{declared.failure.CommandError.{CommandError}, declared.failure.Failure.{Failure}}
+use Rattle.dimacs_runs.specs.{declared.status.RunError.{RunError}, declared.status.Status.{Status}}
+use Rattle.dimacs_runs.specs.{declared.status.RunError.TheVariants.{Device, Memory}, declared.outcome.Outcome.{Outcome}}
+use Rattle.dimacs_runs.specs.{declared.outcome.OutputText.{OutputText}, Judgings.{CountsDevices, OneMore}}
 use Rattle.dimacs_runs.specs.declared.outcome.OutputText.TheVariants.{Cut, Labels, Nothing, Potentials, Solution}
-use Rattle.dimacs_runs.specs.declared.outcome.Outcome.{Outcome}
-use Rattle.dimacs_runs.specs.Commands.{Contents, Making, MakesOfFiles, files_for, seen_by}
+use Rattle.dimacs_runs.specs.{Commands.{Contents, Making, MakesOfFiles, files_for, seen_by}, Outputs.{ReportsAll}}
 use Rattle.dimacs_runs.specs.Files.{Created, FileEvent, FilesSeen, NotCreated, NotOpened, Opened, Read, ReadFile, Sees, WrittenFile, closed_written, failures}
-use Rattle.dimacs_runs.specs.Judgings.{CountsDevices, OneMore}
-use Rattle.dimacs_runs.specs.Outputs.{ReportsAll}
-use Rattle.dimacs_runs.specs.inside.Commands.{FailsWith, IsFirstOf, named}
+use Rattle.dimacs_runs.specs.{inside.Commands.{FailsWith, IsFirstOf, named}, inside.Reports.{report_lines}}
 use Rattle.dimacs_runs.specs.inside.Making.{AnswersFiles, IsWritten, WritesOutcome, WritesReport}
-use Rattle.dimacs_runs.specs.inside.Reports.{report_lines}
 use Rattle.dimacs_runs.specs.inside.Outcomes.{EndsWriting, IfEnds, faults_by, text_bytes, nowhere, unclaimed_texts}
 use Rattle.dimacs_runs.proofs.FileLemmas.{all_after, all_before, closings, one_first, sees_then, sees_two, names_failure, why_nothing}
 use Rattle.dimacs_runs.proofs.PlanLemmas.{is_error, opened_none, reports_all_named, sees_nothing}

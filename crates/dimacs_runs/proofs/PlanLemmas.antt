@@ -1,27 +1,19 @@
 -- How a run over the files of a plan ends.
 use Rattle.std.proofs.Common.{ℕ, ◌≡◌, ◌≢◌, ◌++◌, ◌∙◌, ◌⊎◌, List, [], ◌∷◌, Option, None, Some, Result, Ok, Err, refl, sym, ap, append_assoc, append-nil, arith, flat_map, inl, inr, map}
+use Rattle.std.proofs.{lemmas.Grind.{flat_map-append}, lemmas.Result.{err_from_is_err_and}}
 use Rattle.std.specs.Result.{IsErrAnd}
-use Rattle.std.proofs.lemmas.Grind.{flat_map-append}
-use Rattle.std.proofs.lemmas.Result.{err_from_is_err_and}
 use Rattle.dimacs_lines.specs.Devices.{Written}
-use Rattle.dimacs_runs.specs.declared.failure.CommandError.{CommandError}
-use Rattle.dimacs_runs.specs.declared.failure.Failure.{Failure}
-use Rattle.dimacs_runs.specs.declared.jobs.JudgeKind.{JudgeKind}
-use Rattle.dimacs_runs.specs.declared.jobs.JudgeKind.TheVariants as judges
-use Rattle.dimacs_runs.specs.declared.jobs.SolveJob.{SolveJob}
-use Rattle.dimacs_runs.specs.declared.jobs.SolveJob.TheVariants as solves
-use Rattle.dimacs_runs.specs.declared.status.RunError.{RunError}
-use Rattle.dimacs_runs.specs.declared.status.RunError.TheVariants.{Device, Memory}
-use Rattle.dimacs_runs.specs.declared.status.Status.{Status}
+use Rattle.dimacs_runs.specs.{declared.failure.CommandError.{CommandError}, declared.failure.Failure.{Failure}}
+use Rattle.dimacs_runs.specs.{declared.jobs.JudgeKind.{JudgeKind}, declared.jobs.SolveJob.{SolveJob}, Runs.{Reports}}
+use Rattle.dimacs_runs.specs.{declared.status.RunError.{RunError}, declared.status.Status.{Status}}
+use Rattle.dimacs_runs.specs.{declared.status.RunError.TheVariants.{Device, Memory}, Judged.{IsClaim, Judged}}
 use Rattle.dimacs_runs.specs.Commands.{Contents, Plan, RunsFiles, Reporting, ReportsJudged, WritesSolved, accepted_before, accepted_after, closed_empty, seen_by}
 use Rattle.dimacs_runs.specs.Files.{Created, FileEvent, FilesSeen, NotCreated, NotOpened, Opened, Read, ReadFile, Sees, WrittenFile, Wrote, after_events, failures}
-use Rattle.dimacs_runs.specs.Judged.{IsClaim, Judged}
-use Rattle.dimacs_runs.specs.Judgings.{CountsDevices, OneMore}
-use Rattle.dimacs_runs.specs.Outputs.{MayWrite, ReportsAll}
-use Rattle.dimacs_runs.specs.Runs.{Reports}
-use Rattle.dimacs_runs.specs.Solved.{AreQueries, Solved}
-use Rattle.dimacs_runs.specs.inside.Commands.{FailsWith, IsFirstOf, named}
+use Rattle.dimacs_runs.specs.{Judgings.{CountsDevices, OneMore}, Outputs.{MayWrite, ReportsAll}}
+use Rattle.dimacs_runs.specs.{Solved.{AreQueries, Solved}, inside.Commands.{FailsWith, IsFirstOf, named}}
 use Rattle.dimacs_runs.proofs.FileLemmas.{AnyRead, Closed, all_after, all_before, closings, sees_then, names_failure, why_nothing}
+use Rattle.dimacs_runs.specs.declared.jobs.JudgeKind.TheVariants as judges
+use Rattle.dimacs_runs.specs.declared.jobs.SolveJob.TheVariants as solves
 
 pub opened_none : (names : List (List ℕ)) → flat_map failures (map Opened names) ≡ []
 opened_none [] = refl

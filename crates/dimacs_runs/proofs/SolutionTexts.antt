@@ -1,28 +1,20 @@
 -- The texts of solutions with an entry for every arc spell them.
 use Rattle.std.proofs.Common.{◌≡◌, ℕ, suc, ◌+◌, ◌-◌, ◌*◌, ◌^◌, ◌<◌, ◌≤◌, ◌==◌, ◌∷◌, [], List, Bool, true, false, ℤ, pos, ◌≤ℤ◌, length, take, refl, ap, ap₂, sym, ◌∙◌, subst, arith}
-use Rattle.std.specs.List.{All, AllZip}
-use Rattle.std.proofs.Math.ListN.{get_or-map}
-use Rattle.std.proofs.lemmas.Int.{ints}
-use Rattle.std.proofs.lemmas.List.{length-map, take_all}
+use Rattle.std.proofs.{Math.ListN.{get_or-map}, lemmas.Int.{ints}, lemmas.List.{length-map, take_all}}
 use Rattle.std.proofs.lemmas.List.Elements.{All-cons, All-from_get_or, All-head, All-nil, All-tail}
 use Rattle.std.proofs.lemmas.Slice.Zip.{AllZip-long}
+use Rattle.std.specs.List.{All, AllZip}
 use Rattle.dimacs_lines.specs.Limits.{most_count, most_nodes}
 use Rattle.dimacs_records.specs.Ranges.{IsWide}
 use Rattle.dimacs_claims.specs.declared.solution.Entry.{Entry}
 use Rattle.dimacs_claims.specs.SolutionTexts.{IsLawful, IsLawfulEntry, SolutionValue, SpellsSolution, canonical_solution, on_lines_from, renumbered}
 use Rattle.dimacs_claims.proofs.SolutionLemmas.{solution_round_trip}
-use Rattle.dimacs_network.specs.declared.network.ArcView.{ArcView}
-use Rattle.dimacs_network.specs.Arcs.{JoinsNodes, no_arc}
-use Rattle.dimacs_instance.specs.MaxFlows.{HasCapacityAlone, IsMax, MaxValue}
-use Rattle.dimacs_instance.specs.MinFlows.{HasBounds, IsMin, MinValue}
-use Rattle.dimacs_judging.specs.Claims.{Carries, entry_at, no_entry}
-use Rattle.dimacs_decide.specs.Entries.{IsSolutionOf}
-use Rattle.dimacs_judging.specs.Feasible.{value}
-use Rattle.dimacs_judging.specs.Flows.{cost, net, sum_arcs, when}
-use Rattle.dimacs_judging.specs.FlowTests.{cost_through}
-use Rattle.dimacs_judging.specs.MaxJudge.{IsMaxClaim}
-use Rattle.dimacs_judging.specs.MinJudge.{IsMinClaim}
+use Rattle.dimacs_network.specs.{declared.network.ArcView.{ArcView}, Arcs.{JoinsNodes, no_arc}}
+use Rattle.dimacs_instance.specs.{MaxFlows.{HasCapacityAlone, IsMax, MaxValue}, MinFlows.{HasBounds, IsMin, MinValue}}
+use Rattle.dimacs_judging.specs.{Claims.{Carries, entry_at, no_entry}, Feasible.{value}, FlowTests.{cost_through}}
+use Rattle.dimacs_judging.specs.{Flows.{cost, net, sum_arcs, when}, MaxJudge.{IsMaxClaim}, MinJudge.{IsMinClaim}}
 use Rattle.dimacs_judging.specs.Rows.{amount_at}
+use Rattle.dimacs_decide.specs.Entries.{IsSolutionOf}
 use Rattle.dimacs_decide.proofs.SolutionLemmas.{carried}
 
 -- ---- the lines of entries

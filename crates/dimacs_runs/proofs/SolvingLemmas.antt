@@ -1,38 +1,25 @@
 -- The outcomes of solvers.
 use Rattle.std.proofs.Common.{◌≡◌, ◌≢◌, ◌∙◌, ◌+◌, ℕ, List, Result, Ok, Err, IfOk, refl, sym, ap, inl, inr, arith}
-use Rattle.std.proofs.lemmas.Int.{ints}
-use Rattle.std.proofs.lemmas.Bool.{cases_order}
-use Rattle.dimacs_network.specs.declared.network.ArcView.{ArcView}
-use Rattle.dimacs_network.specs.Arcs.{NetworkValue}
-use Rattle.dimacs_instance.specs.MaxFlows.{MaxValue}
-use Rattle.dimacs_instance.specs.MinFlows.{MinValue}
-use Rattle.dimacs_instance.specs.QueryTexts.{QueriesValue}
+use Rattle.std.proofs.{lemmas.Int.{ints}, lemmas.Bool.{cases_order}}
+use Rattle.dimacs_network.specs.{declared.network.ArcView.{ArcView}, Arcs.{NetworkValue}}
+use Rattle.dimacs_instance.specs.{MaxFlows.{MaxValue}, MinFlows.{MinValue}, QueryTexts.{QueriesValue}}
 use Rattle.dimacs_claims.specs.SolutionTexts.{claimed}
 use Rattle.dimacs_records.specs.declared.reasons.Reason.{Reason}
-use Rattle.dimacs_judging.specs.declared.verdict.Where.{Where}
-use Rattle.dimacs_judging.specs.declared.verdict.Where.TheVariants.{Arc}
-use Rattle.dimacs_records.specs.declared.reasons.Reason.TheVariants as reasons
+use Rattle.dimacs_judging.specs.{declared.verdict.Where.{Where}, declared.verdict.Where.TheVariants.{Arc}}
 use Rattle.dimacs_judging.specs.QueryTests.{query_node_row}
-use Rattle.dimacs_judging.proofs.Firsts.{one_of_row}
-use Rattle.dimacs_judging.proofs.QueriesPassing.{query_node_one_way}
-use Rattle.dimacs_solve.specs.declared.error.SolveError.{SolveError}
-use Rattle.dimacs_solve.specs.declared.error.SolveError.TheVariants as solve_errors
-use Rattle.dimacs_solve.specs.declared.maximum.MaxAnswer.{MaxAnswer}
-use Rattle.dimacs_solve.specs.declared.maximum.MaxAnswer.TheVariants as answers
-use Rattle.dimacs_solve.specs.declared.least.MinAnswer.{MinAnswer}
-use Rattle.dimacs_solve.specs.declared.least.MinAnswer.TheVariants as min_answers
-use Rattle.dimacs_solve.specs.Paths.{IsFirstNegative, SolvesPaths}
-use Rattle.dimacs_solve.specs.SolveMax.{SolvesMax}
-use Rattle.dimacs_solve.specs.SolveMin.{SolvesMin}
-use Rattle.dimacs_runs.specs.declared.status.Status.TheVariants.{Refused}
-use Rattle.dimacs_runs.specs.declared.status.RunError.{RunError}
-use Rattle.dimacs_runs.specs.declared.status.RunError.TheVariants.{Device}
-use Rattle.dimacs_runs.specs.Judgings.{CountsDevices}
-use Rattle.dimacs_runs.specs.Outputs.{MayWrite}
-use Rattle.dimacs_runs.specs.declared.outcome.Outcome.{Outcome}
+use Rattle.dimacs_judging.proofs.{Firsts.{one_of_row}, QueriesPassing.{query_node_one_way}}
+use Rattle.dimacs_solve.specs.{declared.error.SolveError.{SolveError}, declared.maximum.MaxAnswer.{MaxAnswer}}
+use Rattle.dimacs_solve.specs.{declared.least.MinAnswer.{MinAnswer}, Paths.{IsFirstNegative, SolvesPaths}}
+use Rattle.dimacs_solve.specs.{SolveMax.{SolvesMax}, SolveMin.{SolvesMin}}
+use Rattle.dimacs_runs.specs.{declared.status.Status.TheVariants.{Refused}, declared.status.RunError.{RunError}}
+use Rattle.dimacs_runs.specs.{declared.status.RunError.TheVariants.{Device}, Judgings.{CountsDevices}}
+use Rattle.dimacs_runs.specs.{Outputs.{MayWrite}, declared.outcome.Outcome.{Outcome}, Verdicts.{failure_line}}
 use Rattle.dimacs_runs.specs.inside.Outcomes.{IsReadable, MaySolve, least_outcome, maximum_outcome, outcome_of, solve_stop}
 use Rattle.dimacs_runs.specs.Solved.{FindsLeast, FindsMaximum, FindsPaths, RefusesPaths, report_alone}
-use Rattle.dimacs_runs.specs.Verdicts.{failure_line}
+use Rattle.dimacs_records.specs.declared.reasons.Reason.TheVariants as reasons
+use Rattle.dimacs_solve.specs.declared.error.SolveError.TheVariants as solve_errors
+use Rattle.dimacs_solve.specs.declared.maximum.MaxAnswer.TheVariants as answers
+use Rattle.dimacs_solve.specs.declared.least.MinAnswer.TheVariants as min_answers
 
 -- the certificate of the outcome can be read again
 abbrev Readable : Outcome → Type 0

@@ -3,22 +3,17 @@ use Rattle.std.proofs.Common.{◌≡◌, ◌∙◌, ℕ, List, Result, Ok, Err, 
 use Rattle.std.specs.Prelude.{ℤ, IfErr, IfOk}
 use Rattle.dimacs_claims.specs.SolutionTexts.{SolutionValue}
 use Rattle.dimacs_records.specs.declared.reasons.Reason.{Reason}
-use Rattle.dimacs_judging.specs.declared.verdict.JudgeError.{JudgeError}
-use Rattle.dimacs_judging.specs.declared.verdict.JudgeError.TheVariants as judge_errors
-use Rattle.dimacs_judging.specs.declared.verdict.Where.{Where}
+use Rattle.dimacs_judging.specs.{declared.verdict.JudgeError.{JudgeError}, declared.verdict.Where.{Where}}
 use Rattle.dimacs_judging.specs.Tests.{AllClear, FirstAlone, Refuses}
 use Rattle.dimacs_judging.proofs.Firsts.{none_first}
 use Rattle.dimacs_network.specs.declared.network.ArcView.{ArcView}
 use Rattle.dimacs_solve.specs.Spread.{Deals, NoneCheaper, spread_rows}
-use Rattle.dimacs_runs.specs.declared.jobs.SpreadKind.TheVariants.{Max, Min}
-use Rattle.dimacs_runs.specs.declared.jobs.SpreadKind.{SpreadKind}
-use Rattle.dimacs_runs.specs.declared.status.Status.{Status}
-use Rattle.dimacs_runs.specs.declared.status.Status.TheVariants.{Done, Refused, GaveUp}
-use Rattle.dimacs_runs.specs.Certified.{uncertified}
+use Rattle.dimacs_runs.specs.{declared.jobs.SpreadKind.TheVariants.{Max, Min}, declared.jobs.SpreadKind.{SpreadKind}}
+use Rattle.dimacs_runs.specs.{declared.status.Status.{Status}, Certified.{uncertified}, Spread.{SpreadsClaim}}
+use Rattle.dimacs_runs.specs.{declared.status.Status.TheVariants.{Done, Refused, GaveUp}, Verdicts.{failure_line}}
 use Rattle.dimacs_runs.specs.Outputs.{WritesAlike, report_of}
-use Rattle.dimacs_runs.specs.Spread.{SpreadsClaim}
-use Rattle.dimacs_runs.specs.Verdicts.{failure_line}
 use Rattle.dimacs_runs.specs.inside.Outcomes.{DealsOut, MayCertify, judge_stop, outcome_of}
+use Rattle.dimacs_judging.specs.declared.verdict.JudgeError.TheVariants as judge_errors
 
 module _ (arcs : List ArcView) (s : SolutionValue) where
   abbrev Tested : Result (List ℤ) JudgeError → Type 0

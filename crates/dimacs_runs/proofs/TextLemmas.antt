@@ -1,27 +1,19 @@
 -- Reports on texts that are read one after another, for each form of report.
 use Rattle.std.proofs.Common.{◌≡◌, ◌∙◌, ◌⊎◌, ℕ, List, Result, Ok, Err, refl, sym, subst, ap, inl, inr}
-use Rattle.std.specs.Result.{IsErrAnd}
 use Rattle.std.proofs.lemmas.Result.{err_from_is_err_and}
-use Rattle.dimacs_records.specs.declared.faults.ReadError.{ReadError}
-use Rattle.dimacs_records.specs.declared.faults.ReadError.TheVariants as read_errors
-use Rattle.dimacs_records.specs.declared.kinds.TextKind.{TextKind}
+use Rattle.std.specs.Result.{IsErrAnd}
+use Rattle.dimacs_records.specs.{declared.faults.ReadError.{ReadError}, declared.kinds.TextKind.{TextKind}}
 use Rattle.dimacs_records.specs.declared.reasons.Reason.{Reason}
-use Rattle.dimacs_runs.specs.declared.status.Status.{Status}
-use Rattle.dimacs_runs.specs.declared.status.Status.TheVariants.{Refused}
-use Rattle.dimacs_runs.specs.declared.status.RunError.{RunError}
-use Rattle.dimacs_runs.specs.declared.outcome.Outcome.{Outcome}
-use Rattle.dimacs_runs.specs.declared.report.Report.{Report}
-use Rattle.dimacs_runs.specs.declared.report.Report.TheVariants.{Fault}
-use Rattle.dimacs_runs.specs.declared.early_end.EarlyEnd.{EarlyEnd}
-use Rattle.dimacs_runs.specs.declared.texts_in_turn.ReadFailure.{ReadFailure}
-use Rattle.dimacs_runs.specs.Certified.{uncertified}
-use Rattle.dimacs_runs.specs.Outputs.{MayWrite, WritesAlike, report_of}
-use Rattle.dimacs_runs.specs.Refusals.{refusal_line}
-use Rattle.dimacs_runs.specs.Runs.{ReportsAlone, text_word}
-use Rattle.dimacs_runs.specs.Solved.{report_alone}
+use Rattle.dimacs_runs.specs.{declared.status.Status.{Status}, declared.status.Status.TheVariants.{Refused}}
+use Rattle.dimacs_runs.specs.{declared.status.RunError.{RunError}, declared.outcome.Outcome.{Outcome}}
+use Rattle.dimacs_runs.specs.{declared.report.Report.{Report}, declared.report.Report.TheVariants.{Fault}}
+use Rattle.dimacs_runs.specs.{declared.early_end.EarlyEnd.{EarlyEnd}, declared.texts_in_turn.ReadFailure.{ReadFailure}}
+use Rattle.dimacs_runs.specs.{Certified.{uncertified}, Outputs.{MayWrite, WritesAlike, report_of}}
+use Rattle.dimacs_runs.specs.{Refusals.{refusal_line}, Runs.{ReportsAlone, text_word}, Solved.{report_alone}}
 use Rattle.dimacs_runs.specs.inside.Judgings.{ReadsIn, StopsAt, TextSpells}
 use Rattle.dimacs_runs.specs.inside.Outcomes.{IfEnds, outcome_texts, reporting, outcome_of, unclaimed_texts, unread_end}
 use Rattle.dimacs_runs.specs.inside.Reports.{report_lines, report_status}
+use Rattle.dimacs_records.specs.declared.faults.ReadError.TheVariants as read_errors
 
 -- a form of report: it depends only on the possible outcomes, and can report a refusal that is the only one
 pub record Way (O : Type 0) : Type 1 where

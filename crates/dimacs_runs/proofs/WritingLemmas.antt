@@ -1,11 +1,8 @@
 -- What was written of an outcome.
 use Rattle.std.proofs.Common.{◌≡◌, ℕ, List, [], ◌∷◌, Option, Result, Ok, Err, ap, drop, inl, inr}
 use Rattle.dimacs_lines.specs.Devices.{Written}
-use Rattle.dimacs_runs.specs.declared.outcome.Outcome.{Outcome}
-use Rattle.dimacs_runs.specs.declared.status.RunError.{RunError}
-use Rattle.dimacs_runs.specs.declared.status.Status.{Status}
-use Rattle.dimacs_runs.specs.Outputs.{ReportsAll}
-use Rattle.dimacs_runs.specs.Runs.{Reports, ReportsAlone}
+use Rattle.dimacs_runs.specs.{declared.outcome.Outcome.{Outcome}, declared.status.RunError.{RunError}}
+use Rattle.dimacs_runs.specs.{declared.status.Status.{Status}, Outputs.{ReportsAll}, Runs.{Reports, ReportsAlone}}
 use Rattle.dimacs_runs.specs.inside.Outcomes.{EndsWriting, IfEnds, MayReport, accepted_by, nowhere, outcome_texts, unclaimed_texts}
 use Rattle.dimacs_runs.specs.inside.Reports.{report_lines, report_status}
 

@@ -1,40 +1,26 @@
 -- What certify runs write: a certificate or a better solution, and a report. A text that isn't written is empty here.
 use Rattle.std.specs.Prelude.{ℕ, ◌≡◌, ◌≢◌, ◌⊎◌, List, [], ◌∷◌, Option, None, Some, IsSome, codes, length, ℤ}
-use Rattle.dimacs_records.specs.declared.kinds.TextKind.{TextKind}
-use Rattle.dimacs_records.specs.declared.kinds.TextKind.TheVariants as kinds
-use Rattle.dimacs_records.specs.declared.reasons.Reason.{Reason}
+use Rattle.dimacs_records.specs.{declared.kinds.TextKind.{TextKind}, declared.reasons.Reason.{Reason}}
 use Rattle.dimacs_records.specs.declared.reasons.Reason.TheVariants.{Feasible, NodesDiffer, NotLeast, NotMaximum}
-use Rattle.dimacs_claims.specs.Cuts.{CutValue, SpellsCut, canonical_cut}
-use Rattle.dimacs_claims.specs.DistanceTexts.{GivesDistances}
-use Rattle.dimacs_claims.specs.Labels.{BlockValue, LabelsValue}
-use Rattle.dimacs_claims.specs.LabelTexts.{SpellsLabels, canonical_labels}
+use Rattle.dimacs_claims.specs.{Cuts.{CutValue, SpellsCut, canonical_cut}, DistanceTexts.{GivesDistances}}
+use Rattle.dimacs_claims.specs.{Labels.{BlockValue, LabelsValue}, LabelTexts.{SpellsLabels, canonical_labels}}
 use Rattle.dimacs_claims.specs.Potentials.{PotentialsValue, SpellsPotentials, canonical_potentials}
 use Rattle.dimacs_claims.specs.SolutionTexts.{SolutionValue, GivesSolution, canonical_solution}
 use Rattle.dimacs_network.specs.Arcs.{NetworkValue}
-use Rattle.dimacs_instance.specs.Graph.{GivesGraph}
-use Rattle.dimacs_instance.specs.MaxFlows.{MaxValue}
-use Rattle.dimacs_instance.specs.MaxTexts.{GivesMax}
-use Rattle.dimacs_instance.specs.MinFlows.{MinValue}
+use Rattle.dimacs_instance.specs.{Graph.{GivesGraph}, MaxFlows.{MaxValue}, MaxTexts.{GivesMax}, MinFlows.{MinValue}}
 use Rattle.dimacs_instance.specs.MinTexts.{GivesMin}
-use Rattle.dimacs_judging.specs.declared.verdict.Where.{Where}
-use Rattle.dimacs_judging.specs.declared.verdict.Where.TheVariants.{Solution}
-use Rattle.dimacs_decide.specs.Entries.{IsMaxSolutionOf, IsMinSolutionOf}
-use Rattle.dimacs_judging.specs.Feasible.{FeasibleMin}
-use Rattle.dimacs_judging.specs.FlowTests.{LeavesCostRange}
-use Rattle.dimacs_judging.specs.InfeasibleJudge.{ShowsNoFlow}
-use Rattle.dimacs_judging.specs.MaxJudge.{ShowsMaximum, max_claim_rows}
-use Rattle.dimacs_judging.specs.MinJudge.{ShowsLeast, min_claim_rows}
+use Rattle.dimacs_judging.specs.{declared.verdict.Where.{Where}, declared.verdict.Where.TheVariants.{Solution}}
+use Rattle.dimacs_judging.specs.{Feasible.{FeasibleMin}, FlowTests.{LeavesCostRange}, InfeasibleJudge.{ShowsNoFlow}}
+use Rattle.dimacs_judging.specs.{MaxJudge.{ShowsMaximum, max_claim_rows}, MinJudge.{ShowsLeast, min_claim_rows}}
 use Rattle.dimacs_judging.specs.Tests.{First, Row}
-use Rattle.dimacs_decide.specs.CertifiedMax.{IsMaxImproved}
+use Rattle.dimacs_decide.specs.{Entries.{IsMaxSolutionOf, IsMinSolutionOf}, CertifiedMax.{IsMaxImproved}}
 use Rattle.dimacs_decide.specs.CertifiedMin.{IsMinImproved}
 use Rattle.dimacs_decide.specs.CertifiedPaths.{AreAllDistances, AreLabelsOfAll, distances_rows}
-use Rattle.dimacs_runs.specs.declared.jobs.JudgeKind.{JudgeKind}
-use Rattle.dimacs_runs.specs.declared.jobs.JudgeKind.TheVariants.{Max, Min, Infeasible, Paths}
-use Rattle.dimacs_runs.specs.declared.status.Status.{Status}
-use Rattle.dimacs_runs.specs.declared.status.Status.TheVariants.{Done, Refused, GaveUp}
-use Rattle.dimacs_runs.specs.Solved.{FaultAloneOr}
-use Rattle.dimacs_runs.specs.Refusals.{refusal_line}
+use Rattle.dimacs_runs.specs.{declared.jobs.JudgeKind.{JudgeKind}, declared.status.Status.{Status}}
+use Rattle.dimacs_runs.specs.{declared.jobs.JudgeKind.TheVariants.{Max, Min, Infeasible, Paths}, Solved.{FaultAloneOr}}
+use Rattle.dimacs_runs.specs.{declared.status.Status.TheVariants.{Done, Refused, GaveUp}, Refusals.{refusal_line}}
 use Rattle.dimacs_runs.specs.Verdicts.{distances_line, failure_line, infeasible_line, max_line, min_line}
+use Rattle.dimacs_records.specs.declared.kinds.TextKind.TheVariants as kinds
 
 -- only a report
 abbrev pub uncertified : List ℕ → List (List ℕ)

@@ -1,31 +1,20 @@
 -- What a command does with its files and its output, from its arguments to the end of its run.
 use Rattle.std.specs.Prelude.{ℕ, ◌≡◌, ◌⊎◌, ◌++◌, List, [], ◌∷◌, Option, None, Some, Result, Ok, Err, IsErr, drop, map, slice_get, take}
-use Rattle.std.specs.List.{flat_map}
-use Rattle.std.specs.String.{string_bytes}
+use Rattle.std.specs.{List.{flat_map}, String.{string_bytes}}
 use Rattle.dimacs_lines.specs.Devices.{Written, one_more}
-use Rattle.dimacs_runs.specs.declared.failure.CommandError.{CommandError}
-use Rattle.dimacs_runs.specs.declared.failure.CommandError.TheVariants.{Device, Memory}
-use Rattle.dimacs_runs.specs.declared.failure.Failure.TheVariants.{File, Output}
-use Rattle.dimacs_runs.specs.declared.failure.FileCall.{FileCall}
-use Rattle.dimacs_runs.specs.declared.failure.FileCall.TheVariants as calls
-use Rattle.dimacs_runs.specs.declared.jobs.JudgeKind.{JudgeKind}
-use Rattle.dimacs_runs.specs.declared.jobs.Job.{Job}
+use Rattle.dimacs_runs.specs.{declared.failure.CommandError.{CommandError}, declared.failure.FileCall.{FileCall}}
+use Rattle.dimacs_runs.specs.{declared.failure.CommandError.TheVariants.{Device, Memory}, declared.jobs.Job.{Job}}
+use Rattle.dimacs_runs.specs.{declared.failure.Failure.TheVariants.{File, Output}, declared.jobs.JudgeKind.{JudgeKind}}
 use Rattle.dimacs_runs.specs.declared.jobs.Job.TheVariants.{Convert, Show, Judge, Certify, Spread, Solve}
-use Rattle.dimacs_runs.specs.declared.jobs.JudgeKind.TheVariants as judges
-use Rattle.dimacs_runs.specs.declared.jobs.SolveJob.{SolveJob}
-use Rattle.dimacs_runs.specs.declared.jobs.SolveJob.TheVariants as solves
-use Rattle.dimacs_runs.specs.declared.jobs.SpreadKind.{SpreadKind}
-use Rattle.dimacs_runs.specs.declared.status.RunError.{RunError}
-use Rattle.dimacs_runs.specs.declared.status.Status.{Status}
-use Rattle.dimacs_runs.specs.Certified.{Certified}
+use Rattle.dimacs_runs.specs.{declared.jobs.SolveJob.{SolveJob}, declared.jobs.SpreadKind.{SpreadKind}, Judged.{Judged}}
+use Rattle.dimacs_runs.specs.{declared.status.RunError.{RunError}, declared.status.Status.{Status}, Solved.{Solved}}
+use Rattle.dimacs_runs.specs.{Certified.{Certified}, Jobs.{Asks, certify_reads}, Runs.{Reports, Prints}}
 use Rattle.dimacs_runs.specs.Files.{Created, FileEvent, FilesSeen, NotCreated, NotOpened, Opened, Read, ReadFile, Sees, WrittenFile, Wrote, closed_written, failures}
-use Rattle.dimacs_runs.specs.Jobs.{Asks, certify_reads}
-use Rattle.dimacs_runs.specs.Judged.{Judged}
-use Rattle.dimacs_runs.specs.Outputs.{MayWrite, ReportsAll, WritesAlike}
+use Rattle.dimacs_runs.specs.{Outputs.{MayWrite, ReportsAll, WritesAlike}, Spread.{Spreads}}
 use Rattle.dimacs_runs.specs.declared.text.TextForm.TheVariants.{Canonical, Summary}
-use Rattle.dimacs_runs.specs.Runs.{Reports, Prints}
-use Rattle.dimacs_runs.specs.Solved.{Solved}
-use Rattle.dimacs_runs.specs.Spread.{Spreads}
+use Rattle.dimacs_runs.specs.declared.failure.FileCall.TheVariants as calls
+use Rattle.dimacs_runs.specs.declared.jobs.JudgeKind.TheVariants as judges
+use Rattle.dimacs_runs.specs.declared.jobs.SolveJob.TheVariants as solves
 
 -- the bytes that the file with a name holds, if they are known
 abbrev pub Contents : Type 0

@@ -1,10 +1,8 @@
 -- What `explain` does beside the run that it explains.
 use Rattle.std.specs.Prelude.{ℕ, ◌≡◌, Bool, true, false, List, Option, Result, Ok, Err}
 use Rattle.dimacs_lines.specs.Devices.{Written, after_piece}
-use Rattle.dimacs_runs.specs.declared.failure.CommandError.{CommandError}
-use Rattle.dimacs_runs.specs.declared.jobs.Job.{Job}
-use Rattle.dimacs_runs.specs.declared.jobs.Job.TheVariants.{Convert, Show, Spread}
-use Rattle.dimacs_runs.specs.declared.status.Status.{Status}
+use Rattle.dimacs_runs.specs.{declared.failure.CommandError.{CommandError}, declared.jobs.Job.{Job}}
+use Rattle.dimacs_runs.specs.{declared.jobs.Job.TheVariants.{Convert, Show, Spread}, declared.status.Status.{Status}}
 use Rattle.dimacs_runs.specs.declared.status.Status.TheVariants.{Done, GaveUp}
 use Rattle.dimacs_runs.specs.Commands.{Contents, RunsJob, Seen, seen_by}
 

@@ -2,10 +2,9 @@
 use Rattle.std.specs.Prelude.{ℕ, ◌++◌, ◌==◌, ◌≡◌, if◌then◌else◌, List, [], ◌∷◌, Option, None, Some, Result, Ok, Err}
 use Rattle.std.specs.List.{flat_map}
 use Rattle.dimacs_lines.specs.Devices.{Written, one_more}
-use Rattle.dimacs_runs.specs.declared.failure.FileCall.{FileCall}
-use Rattle.dimacs_runs.specs.declared.failure.FileCall.TheVariants as calls
-use Rattle.dimacs_runs.specs.declared.status.RunError.{RunError}
+use Rattle.dimacs_runs.specs.{declared.failure.FileCall.{FileCall}, declared.status.RunError.{RunError}}
 use Rattle.dimacs_runs.specs.declared.status.RunError.TheVariants.{Device}
+use Rattle.dimacs_runs.specs.declared.failure.FileCall.TheVariants as calls
 
 -- a file that was read and closed, with its faults
 pub record ReadFile : Type 0 where

@@ -4,15 +4,13 @@ use Rattle.std.specs.String.{string_bytes}
 use Rattle.dimacs_lines.specs.Number.{Spells}
 use Rattle.dimacs_records.specs.declared.kinds.TextKind.{TextKind}
 use Rattle.dimacs_records.specs.declared.kinds.TextKind.TheVariants.{Max, Min, Graph, Queries, Solution, Cut, Potentials, Labels, Distances}
-use Rattle.dimacs_runs.specs.declared.jobs.JudgeKind.{JudgeKind}
-use Rattle.dimacs_runs.specs.declared.jobs.JudgeKind.TheVariants as judges
-use Rattle.dimacs_runs.specs.declared.jobs.Job.{Job}
+use Rattle.dimacs_runs.specs.{declared.jobs.JudgeKind.{JudgeKind}, declared.jobs.Job.{Job}}
 use Rattle.dimacs_runs.specs.declared.jobs.Job.TheVariants.{Convert, Show, Judge, Certify, Spread, Solve}
-use Rattle.dimacs_runs.specs.declared.jobs.Request.{Request}
+use Rattle.dimacs_runs.specs.{declared.jobs.Request.{Request}, declared.jobs.SolveJob.{SolveJob}}
 use Rattle.dimacs_runs.specs.declared.jobs.Request.TheVariants.{Help, HelpOn, Version, Run, Explain}
-use Rattle.dimacs_runs.specs.declared.jobs.SolveJob.{SolveJob}
-use Rattle.dimacs_runs.specs.declared.jobs.SolveJob.TheVariants as solves
 use Rattle.dimacs_runs.specs.declared.jobs.SpreadKind.{SpreadKind}
+use Rattle.dimacs_runs.specs.declared.jobs.JudgeKind.TheVariants as judges
+use Rattle.dimacs_runs.specs.declared.jobs.SolveJob.TheVariants as solves
 use Rattle.dimacs_runs.specs.declared.jobs.SpreadKind.TheVariants as spreads
 
 abbrev pub kind_argument : TextKind → List ℕ

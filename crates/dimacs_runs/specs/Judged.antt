@@ -1,31 +1,17 @@
 -- What judge runs print for the bytes of an instance, a claim and a certificate.
-use Rattle.std.specs.Prelude.{ℕ, ◌≡◌, List, Option, None, Some, IsSome, length, map}
-use Rattle.std.specs.List.{flat_map}
+use Rattle.std.specs.{Prelude.{ℕ, ◌≡◌, List, Option, None, Some, IsSome, length, map}, List.{flat_map}}
 use Rattle.dimacs_records.specs.declared.kinds.TextKind.{TextKind}
-use Rattle.dimacs_records.specs.declared.kinds.TextKind.TheVariants as kinds
-use Rattle.dimacs_claims.specs.Cuts.{GivesCut}
-use Rattle.dimacs_claims.specs.LabelTexts.{GivesLabels}
-use Rattle.dimacs_claims.specs.Labels.{BlockValue}
-use Rattle.dimacs_claims.specs.Potentials.{GivesPotentials}
-use Rattle.dimacs_claims.specs.SolutionTexts.{GivesSolution}
-use Rattle.dimacs_instance.specs.Graph.{GivesGraph}
-use Rattle.dimacs_instance.specs.MaxTexts.{GivesMax}
-use Rattle.dimacs_instance.specs.MinTexts.{GivesMin}
+use Rattle.dimacs_claims.specs.{Cuts.{GivesCut}, LabelTexts.{GivesLabels}, Labels.{BlockValue}}
+use Rattle.dimacs_claims.specs.{Potentials.{GivesPotentials}, SolutionTexts.{GivesSolution}}
+use Rattle.dimacs_instance.specs.{Graph.{GivesGraph}, MaxTexts.{GivesMax}, MinTexts.{GivesMin}}
 use Rattle.dimacs_instance.specs.QueryTexts.{QueriesValue, GivesQueries, Sources, Pairs}
-use Rattle.dimacs_judging.specs.Answers.{answer_to}
-use Rattle.dimacs_judging.specs.Claims.{claimed_flow}
-use Rattle.dimacs_judging.specs.InfeasibleJudge.{infeasible_rows}
-use Rattle.dimacs_judging.specs.Labels.{AreDistances}
-use Rattle.dimacs_judging.specs.MaxJudge.{max_rows}
-use Rattle.dimacs_judging.specs.MinJudge.{min_rows}
-use Rattle.dimacs_judging.specs.Optimum.{Least, Maximum, NoFlow}
-use Rattle.dimacs_judging.specs.PathsJudge.{AnswersAreDistances, paths_rows}
-use Rattle.dimacs_runs.specs.declared.jobs.JudgeKind.{JudgeKind}
-use Rattle.dimacs_runs.specs.declared.jobs.JudgeKind.TheVariants.{Max, Min, Infeasible, Paths}
-use Rattle.dimacs_runs.specs.declared.status.Status.{Status}
-use Rattle.dimacs_runs.specs.Judgings.{VerdictOr}
-use Rattle.dimacs_runs.specs.Runs.{FaultOr}
+use Rattle.dimacs_judging.specs.{Answers.{answer_to}, Claims.{claimed_flow}, InfeasibleJudge.{infeasible_rows}}
+use Rattle.dimacs_judging.specs.{Labels.{AreDistances}, MaxJudge.{max_rows}, MinJudge.{min_rows}}
+use Rattle.dimacs_judging.specs.{Optimum.{Least, Maximum, NoFlow}, PathsJudge.{AnswersAreDistances, paths_rows}}
+use Rattle.dimacs_runs.specs.{declared.jobs.JudgeKind.{JudgeKind}, declared.status.Status.{Status}, Runs.{FaultOr}}
+use Rattle.dimacs_runs.specs.{declared.jobs.JudgeKind.TheVariants.{Max, Min, Infeasible, Paths}, Judgings.{VerdictOr}}
 use Rattle.dimacs_runs.specs.Verdicts.{max_line, min_line, infeasible_line, sources_line, answer_line}
+use Rattle.dimacs_records.specs.declared.kinds.TextKind.TheVariants as kinds
 
 -- the number of sources, or a line for each pair
 abbrev pub paths_lines : List BlockValue → QueriesValue → List ℕ

@@ -1,23 +1,16 @@
 -- The theorems: what runs write with `Done`, the judge's run answers yes.
-use Rattle.std.specs.Prelude.{ℕ, ◌≡◌, ◌≤◌, ◌⊎◌, List, [], ◌∷◌}
-use Rattle.std.specs.List.{All, Contains}
-use Rattle.dimacs_claims.specs.DistanceTexts.{SpellsDistances}
-use Rattle.dimacs_claims.specs.Labels.{BlockValue, LabelsValue}
+use Rattle.std.specs.{Prelude.{ℕ, ◌≡◌, ◌≤◌, ◌⊎◌, List, [], ◌∷◌}, List.{All, Contains}}
+use Rattle.dimacs_claims.specs.{DistanceTexts.{SpellsDistances}, Labels.{BlockValue, LabelsValue}}
 use Rattle.dimacs_claims.specs.LabelTexts.{FitText, canonical_labels}
 use Rattle.dimacs_network.specs.Arcs.{NetworkValue}
-use Rattle.dimacs_instance.specs.Graph.{SpellsGraph}
-use Rattle.dimacs_instance.specs.QueryTexts.{QueriesValue, SpellsQueries}
+use Rattle.dimacs_instance.specs.{Graph.{SpellsGraph}, QueryTexts.{QueriesValue, SpellsQueries}}
 use Rattle.dimacs_judging.specs.QueryTests.{nodes_asked, sources_asked}
 use Rattle.dimacs_decide.specs.CertifiedPaths.{sources_of}
-use Rattle.dimacs_runs.specs.declared.jobs.JudgeKind.{JudgeKind}
+use Rattle.dimacs_runs.specs.{declared.jobs.JudgeKind.{JudgeKind}, declared.jobs.SolveJob.{SolveJob}, Solved.{Solved}}
+use Rattle.dimacs_runs.specs.{declared.jobs.JudgeKind.TheVariants.{Max, Min, Infeasible, Paths}, Certified.{Certified}}
+use Rattle.dimacs_runs.specs.{declared.status.Status.TheVariants.{Done}, Judged.{Judged, paths_lines}}
 use Rattle.dimacs_runs.specs.declared.jobs.JudgeKind.TheVariants as judges
-use Rattle.dimacs_runs.specs.declared.jobs.JudgeKind.TheVariants.{Max, Min, Infeasible, Paths}
-use Rattle.dimacs_runs.specs.declared.jobs.SolveJob.{SolveJob}
 use Rattle.dimacs_runs.specs.declared.jobs.SolveJob.TheVariants as solves
-use Rattle.dimacs_runs.specs.declared.status.Status.TheVariants.{Done}
-use Rattle.dimacs_runs.specs.Certified.{Certified}
-use Rattle.dimacs_runs.specs.Judged.{Judged, paths_lines}
-use Rattle.dimacs_runs.specs.Solved.{Solved}
 
 -- each query is about the source of a block and nodes of the graph
 pub record AskOf (nodes : ℕ) (blocks : List BlockValue) (q : QueriesValue) : Type 0 where

@@ -1,14 +1,12 @@
 -- The exit statuses of the command, its complaints on the standard error, and the words for failures.
 use Rattle.std.specs.Prelude.{ℕ, ◌==◌, if◌then◌else◌, List, Option, None, Some, Result, Ok, Err, codes}
-use Rattle.dimacs_runs.specs.declared.failure.CommandError.{CommandError}
-use Rattle.dimacs_runs.specs.declared.failure.CommandError.TheVariants as errors
-use Rattle.dimacs_runs.specs.declared.failure.Failure.{Failure}
-use Rattle.dimacs_runs.specs.declared.failure.Failure.TheVariants.{File, Output}
-use Rattle.dimacs_runs.specs.declared.failure.FileCall.TheVariants as calls
-use Rattle.dimacs_runs.specs.declared.status.Status.{Status}
+use Rattle.dimacs_runs.specs.{declared.failure.CommandError.{CommandError}, declared.failure.Failure.{Failure}}
+use Rattle.dimacs_runs.specs.{declared.failure.Failure.TheVariants.{File, Output}, declared.status.Status.{Status}}
 use Rattle.dimacs_runs.specs.declared.status.Status.TheVariants.{Done, Refused, GaveUp}
 use Rattle.dimacs_runs.specs.declared.status.RunError.{RunError}
 use Rattle.dimacs_runs.specs.declared.status.RunError.TheVariants.{Device, Memory}
+use Rattle.dimacs_runs.specs.declared.failure.CommandError.TheVariants as errors
+use Rattle.dimacs_runs.specs.declared.failure.FileCall.TheVariants as calls
 
 abbrev pub status_number : Result Status RunError → ℕ
 status_number (Ok Done) = 0

@@ -1,9 +1,6 @@
 -- The lines of refusals.
-use Rattle.std.specs.Prelude.{ℕ, List, [], ◌∷◌, codes}
-use Rattle.std.specs.Fmt.{decimal}
-use Rattle.dimacs_records.specs.declared.reasons.Reason.{Reason}
-use Rattle.dimacs_records.specs.Names.{name_of}
-use Rattle.dimacs_records.specs.Printed.{spaced_line}
+use Rattle.std.specs.{Prelude.{ℕ, List, [], ◌∷◌, codes}, Fmt.{decimal}}
+use Rattle.dimacs_records.specs.{declared.reasons.Reason.{Reason}, Names.{name_of}, Printed.{spaced_line}}
 
 -- the word for the text, line, field and reason
 abbrev pub refusal_line : List ℕ → ℕ → ℕ → Reason → List ℕ

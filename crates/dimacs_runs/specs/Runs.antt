@@ -1,14 +1,9 @@
 -- What a run writes, and the status with which it ends.
 use Rattle.std.specs.Prelude.{ℕ, ◌≡◌, ◌⊎◌, List, Option, Result, Ok, Err, codes}
-use Rattle.dimacs_lines.specs.Devices.{after_piece}
-use Rattle.dimacs_lines.specs.Lines.{lines}
-use Rattle.dimacs_lines.specs.Puts.{AcceptsFront}
-use Rattle.dimacs_records.specs.declared.kinds.TextKind.{TextKind}
+use Rattle.dimacs_lines.specs.{Devices.{after_piece}, Lines.{lines}, Puts.{AcceptsFront}}
+use Rattle.dimacs_records.specs.{declared.kinds.TextKind.{TextKind}, declared.reasons.Reason.{Reason}, Faults.{Fault}}
 use Rattle.dimacs_records.specs.declared.kinds.TextKind.TheVariants.{Max, Min, Graph, Queries, Solution, Cut, Potentials, Labels, Distances}
-use Rattle.dimacs_records.specs.declared.reasons.Reason.{Reason}
-use Rattle.dimacs_records.specs.Faults.{Fault}
-use Rattle.dimacs_records.specs.Readings.{LineRecord}
-use Rattle.dimacs_records.specs.Texts.{SpellsValue}
+use Rattle.dimacs_records.specs.{Readings.{LineRecord}, Texts.{SpellsValue}}
 use Rattle.dimacs_claims.specs.Cuts.{GivesCut, canonical_cut, shown_cut}
 use Rattle.dimacs_claims.specs.DistanceTexts.{GivesDistances, canonical_distances, shown_distances}
 use Rattle.dimacs_claims.specs.LabelTexts.{GivesLabels, canonical_labels, shown_labels}
@@ -18,11 +13,9 @@ use Rattle.dimacs_instance.specs.Graph.{GivesGraph, canonical_graph, shown_graph
 use Rattle.dimacs_instance.specs.MaxTexts.{GivesMax, canonical_max, shown_max}
 use Rattle.dimacs_instance.specs.MinTexts.{GivesMin, canonical_min, shown_min}
 use Rattle.dimacs_instance.specs.QueryTexts.{GivesQueries, canonical_queries, shown_queries}
-use Rattle.dimacs_runs.specs.declared.status.Status.{Status}
-use Rattle.dimacs_runs.specs.declared.status.Status.TheVariants.{Done, Refused}
-use Rattle.dimacs_runs.specs.declared.text.TextForm.{TextForm}
+use Rattle.dimacs_runs.specs.{declared.status.Status.{Status}, declared.status.Status.TheVariants.{Done, Refused}}
+use Rattle.dimacs_runs.specs.{declared.text.TextForm.{TextForm}, Refusals.{refusal_line}}
 use Rattle.dimacs_runs.specs.declared.text.TextForm.TheVariants.{Canonical, Summary}
-use Rattle.dimacs_runs.specs.Refusals.{refusal_line}
 
 -- the word for a kind of text in the lines of refusals
 abbrev pub text_word : TextKind → List ℕ

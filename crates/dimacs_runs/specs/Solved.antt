@@ -1,44 +1,24 @@
 -- What solvers write: a claim, its certificate and a report. A text that isn't written is empty here.
-use Rattle.std.specs.Prelude.{ℕ, ◌≡◌, ◌<◌, ◌⊎◌, List, [], ◌∷◌, Option, Some}
-use Rattle.std.specs.List.{All}
+use Rattle.std.specs.{Prelude.{ℕ, ◌≡◌, ◌<◌, ◌⊎◌, List, [], ◌∷◌, Option, Some}, List.{All}}
 use Rattle.dimacs_lines.specs.Lines.{lines}
-use Rattle.dimacs_records.specs.declared.kinds.TextKind.{TextKind}
-use Rattle.dimacs_records.specs.declared.kinds.TextKind.TheVariants as kinds
-use Rattle.dimacs_records.specs.declared.reasons.Reason.{Reason}
-use Rattle.dimacs_records.specs.declared.reasons.Reason.TheVariants.{NegativeWeight}
-use Rattle.dimacs_records.specs.Faults.{Fault}
-use Rattle.dimacs_records.specs.Readings.{LineRecord}
+use Rattle.dimacs_records.specs.{declared.kinds.TextKind.{TextKind}, declared.reasons.Reason.{Reason}, Faults.{Fault}}
+use Rattle.dimacs_records.specs.{declared.reasons.Reason.TheVariants.{NegativeWeight}, Readings.{LineRecord}}
 use Rattle.dimacs_records.specs.Texts.{SpellsValue}
-use Rattle.dimacs_claims.specs.Cuts.{CutValue, SpellsCut, canonical_cut}
-use Rattle.dimacs_claims.specs.LabelTexts.{canonical_labels}
-use Rattle.dimacs_claims.specs.Labels.{AreLabels, LabelsValue}
+use Rattle.dimacs_claims.specs.{Cuts.{CutValue, SpellsCut, canonical_cut}, LabelTexts.{canonical_labels}}
+use Rattle.dimacs_claims.specs.{Labels.{AreLabels, LabelsValue}, SolutionTexts.{SolutionValue, canonical_solution}}
 use Rattle.dimacs_claims.specs.Potentials.{PotentialsValue, SpellsPotentials, canonical_potentials}
-use Rattle.dimacs_claims.specs.SolutionTexts.{SolutionValue, canonical_solution}
 use Rattle.dimacs_network.specs.Arcs.{NetworkValue}
-use Rattle.dimacs_instance.specs.Graph.{GivesGraph}
-use Rattle.dimacs_instance.specs.MaxFlows.{MaxValue}
-use Rattle.dimacs_instance.specs.MaxTexts.{GivesMax}
-use Rattle.dimacs_instance.specs.MinFlows.{MinValue}
-use Rattle.dimacs_instance.specs.MinTexts.{GivesMin}
-use Rattle.dimacs_instance.specs.QueryTexts.{QueriesValue, GivesQueries}
-use Rattle.dimacs_judging.specs.declared.verdict.Where.{Where}
-use Rattle.dimacs_judging.specs.declared.verdict.Where.TheVariants.{Arc}
-use Rattle.dimacs_judging.specs.InfeasibleJudge.{ShowsNoFlow}
-use Rattle.dimacs_judging.specs.QueryTests.{query_node_row}
-use Rattle.dimacs_judging.specs.Tests.{Clear, FirstOfRow}
-use Rattle.dimacs_solve.specs.Climbing.{GivesUp}
-use Rattle.dimacs_solve.specs.Descending.{GivesUpMin}
-use Rattle.dimacs_solve.specs.Paths.{AreProduced, HasNoNegativeWeight, IsFirstNegative}
-use Rattle.dimacs_solve.specs.SolveMax.{IsOptimal}
-use Rattle.dimacs_solve.specs.SolveMin.{IsLeastAnswer}
-use Rattle.dimacs_runs.specs.declared.jobs.SolveJob.{SolveJob}
-use Rattle.dimacs_runs.specs.declared.jobs.SolveJob.TheVariants.{Max, Min, Paths}
-use Rattle.dimacs_runs.specs.declared.status.Status.{Status}
-use Rattle.dimacs_runs.specs.declared.status.Status.TheVariants.{Done, Refused, GaveUp}
-use Rattle.dimacs_runs.specs.Judged.{paths_lines}
-use Rattle.dimacs_runs.specs.Refusals.{refusal_line}
-use Rattle.dimacs_runs.specs.Runs.{text_word}
+use Rattle.dimacs_instance.specs.{Graph.{GivesGraph}, MaxFlows.{MaxValue}, MaxTexts.{GivesMax}, MinFlows.{MinValue}}
+use Rattle.dimacs_instance.specs.{MinTexts.{GivesMin}, QueryTexts.{QueriesValue, GivesQueries}}
+use Rattle.dimacs_judging.specs.{declared.verdict.Where.{Where}, declared.verdict.Where.TheVariants.{Arc}}
+use Rattle.dimacs_judging.specs.{InfeasibleJudge.{ShowsNoFlow}, QueryTests.{query_node_row}, Tests.{Clear, FirstOfRow}}
+use Rattle.dimacs_solve.specs.{Climbing.{GivesUp}, Descending.{GivesUpMin}, SolveMax.{IsOptimal}}
+use Rattle.dimacs_solve.specs.{Paths.{AreProduced, HasNoNegativeWeight, IsFirstNegative}, SolveMin.{IsLeastAnswer}}
+use Rattle.dimacs_runs.specs.{declared.jobs.SolveJob.{SolveJob}, declared.jobs.SolveJob.TheVariants.{Max, Min, Paths}}
+use Rattle.dimacs_runs.specs.{declared.status.Status.{Status}, Judged.{paths_lines}, Refusals.{refusal_line}}
+use Rattle.dimacs_runs.specs.{declared.status.Status.TheVariants.{Done, Refused, GaveUp}, Runs.{text_word}}
 use Rattle.dimacs_runs.specs.Verdicts.{failure_line, gave_up_line, infeasible_line, max_line, min_line}
+use Rattle.dimacs_records.specs.declared.kinds.TextKind.TheVariants as kinds
 
 -- only a report
 abbrev pub report_alone : List ℕ → List (List ℕ)

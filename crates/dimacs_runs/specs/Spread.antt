@@ -1,24 +1,17 @@
 -- What runs that spread write: a solution with an entry for every arc, or a report. The other text is empty here.
 use Rattle.std.specs.Prelude.{ℕ, ◌≡◌, List, [], ◌∷◌, ℤ, map}
-use Rattle.dimacs_records.specs.declared.kinds.TextKind.{TextKind}
-use Rattle.dimacs_records.specs.declared.kinds.TextKind.TheVariants as kinds
-use Rattle.dimacs_records.specs.declared.reasons.Reason.{Reason}
+use Rattle.dimacs_records.specs.{declared.kinds.TextKind.{TextKind}, declared.reasons.Reason.{Reason}}
 use Rattle.dimacs_claims.specs.declared.solution.Entry.{Entry}
 use Rattle.dimacs_claims.specs.SolutionTexts.{SolutionValue, GivesSolution, canonical_solution}
-use Rattle.dimacs_instance.specs.MaxTexts.{GivesMax}
-use Rattle.dimacs_instance.specs.MinTexts.{GivesMin}
-use Rattle.dimacs_judging.specs.declared.verdict.Where.{Where}
+use Rattle.dimacs_instance.specs.{MaxTexts.{GivesMax}, MinTexts.{GivesMin}}
+use Rattle.dimacs_judging.specs.{declared.verdict.Where.{Where}, Tests.{AllClear, First}}
 use Rattle.dimacs_decide.specs.Entries.{IsSolutionOf}
-use Rattle.dimacs_judging.specs.Tests.{AllClear, First}
 use Rattle.dimacs_network.specs.declared.network.ArcView.{ArcView}
 use Rattle.dimacs_solve.specs.Spread.{Deals, NoneCheaper, spread_rows}
-use Rattle.dimacs_runs.specs.declared.jobs.SpreadKind.{SpreadKind}
-use Rattle.dimacs_runs.specs.declared.jobs.SpreadKind.TheVariants.{Max, Min}
-use Rattle.dimacs_runs.specs.declared.status.Status.{Status}
-use Rattle.dimacs_runs.specs.declared.status.Status.TheVariants.{Done, Refused, GaveUp}
-use Rattle.dimacs_runs.specs.Certified.{uncertified}
-use Rattle.dimacs_runs.specs.Solved.{FaultAloneOr}
-use Rattle.dimacs_runs.specs.Verdicts.{failure_line}
+use Rattle.dimacs_runs.specs.{declared.jobs.SpreadKind.{SpreadKind}, declared.jobs.SpreadKind.TheVariants.{Max, Min}}
+use Rattle.dimacs_runs.specs.{declared.status.Status.{Status}, Certified.{uncertified}, Solved.{FaultAloneOr}}
+use Rattle.dimacs_runs.specs.{declared.status.Status.TheVariants.{Done, Refused, GaveUp}, Verdicts.{failure_line}}
+use Rattle.dimacs_records.specs.declared.kinds.TextKind.TheVariants as kinds
 
 -- the solution has the claimed value, and an entry for every arc with the amount on it
 pub record IsSpreadOf (arcs : List ArcView) (s : SolutionValue) (x : List ℤ) (t : SolutionValue) : Type 0 where

@@ -1,16 +1,12 @@
 -- The lines of verdicts and refusals.
-use Rattle.std.specs.Prelude.{ℕ, List, [], ◌∷◌, codes, Option, None, Some, ℤ}
-use Rattle.std.specs.Fmt.{decimal, signed_decimal}
+use Rattle.std.specs.{Prelude.{ℕ, List, [], ◌∷◌, codes, Option, None, Some, ℤ}, Fmt.{decimal, signed_decimal}}
 use Rattle.std.specs.List.{flat_map}
-use Rattle.dimacs_records.specs.declared.reasons.Reason.{Reason}
-use Rattle.dimacs_records.specs.Names.{name_of}
-use Rattle.dimacs_records.specs.Printed.{spaced_line}
-use Rattle.dimacs_judging.specs.declared.verdict.Answer.{Answer}
-use Rattle.dimacs_judging.specs.declared.verdict.Verdict.{Verdict}
-use Rattle.dimacs_judging.specs.declared.verdict.Verdict.TheVariants as verdicts
+use Rattle.dimacs_records.specs.{declared.reasons.Reason.{Reason}, Names.{name_of}, Printed.{spaced_line}}
+use Rattle.dimacs_judging.specs.{declared.verdict.Answer.{Answer}, declared.verdict.Verdict.{Verdict}}
 use Rattle.dimacs_judging.specs.declared.verdict.Where.{Where}
-use Rattle.dimacs_judging.specs.declared.verdict.Where.TheVariants as places
 use Rattle.dimacs_runs.specs.Refusals.{refusal_line}
+use Rattle.dimacs_judging.specs.declared.verdict.Verdict.TheVariants as verdicts
+use Rattle.dimacs_judging.specs.declared.verdict.Where.TheVariants as places
 
 abbrev pub yes_line : List (List ℕ) → List ℕ
 yes_line words = spaced_line (codes "v") words

@@ -1,13 +1,11 @@
 //! The meaning of the command's arguments: a verb, such as `judge-max`, then files and options.
 
 ghost use Rattle.std.specs.Prelude.{◌≡◌, ◌≢◌, ◌↔◌, ◌∷◌, [], ℕ, Contains, List, IfSome, IfNone, IsTrue, codes, length, map};
-ghost use Rattle.dimacs_records.specs.declared.kinds.TextKind.{TextKind};
-ghost use Rattle.dimacs_runs.specs.declared.jobs.JudgeKind.{JudgeKind};
-ghost use Rattle.dimacs_runs.specs.declared.jobs.Job.{Job};
-ghost use Rattle.dimacs_runs.specs.declared.jobs.Request.{Request};
-ghost use Rattle.dimacs_runs.specs.declared.jobs.SolveJob.{SolveJob};
-ghost use Rattle.dimacs_runs.specs.declared.jobs.SpreadKind.{SpreadKind};
 ghost use Rattle.std.specs.String.{string_bytes};
+ghost use Rattle.dimacs_records.specs.declared.kinds.TextKind.{TextKind};
+ghost use Rattle.dimacs_runs.specs.{declared.jobs.JudgeKind.{JudgeKind}, declared.jobs.Job.{Job}};
+ghost use Rattle.dimacs_runs.specs.{declared.jobs.Request.{Request}, declared.jobs.SolveJob.{SolveJob}};
+ghost use Rattle.dimacs_runs.specs.declared.jobs.SpreadKind.{SpreadKind};
 ghost use Rattle.dimacs_runs.specs.Jobs.{AreCertifyFiles, AreOptions, Asks, AsksSolver, IsLimit, GiveLimit, Requests, certify_verb, command_words, file_count, judge_verb, kind_argument, solve_verb, spread_verb};
 
 use crate::jobs::{Job, JudgeKind, Request, SolveJob, SpreadKind};

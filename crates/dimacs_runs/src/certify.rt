@@ -3,22 +3,16 @@
 ghost use Rattle.std.specs.Prelude.{◌≡◌, ◌≢◌, ◌⊎◌, ◌∷◌, [], ℕ, ℤ, List, Some, Err};
 ghost use Rattle.dimacs_lines.specs.Lines.{lines};
 ghost use Rattle.dimacs_records.specs.declared.kinds.TextKind.TheVariants as kinds;
-ghost use Rattle.dimacs_records.specs.declared.reasons.Reason.{Reason};
-ghost use Rattle.dimacs_records.specs.Faults.{Fault};
-ghost use Rattle.dimacs_claims.specs.SolutionReading.{IsPlaced, IsPlacedLawful};
-ghost use Rattle.dimacs_claims.specs.SolutionTexts.{SolutionValue};
+ghost use Rattle.dimacs_records.specs.{declared.reasons.Reason.{Reason}, Faults.{Fault}};
+ghost use Rattle.dimacs_claims.specs.{SolutionReading.{IsPlaced, IsPlacedLawful}, SolutionTexts.{SolutionValue}};
 ghost use Rattle.dimacs_instance.specs.MaxFlows.{IsMax};
-ghost use Rattle.dimacs_judging.specs.Feasible.{FeasibleMax, FeasibleMin};
-ghost use Rattle.dimacs_judging.specs.Places.{ArePlaced};
-ghost use Rattle.dimacs_decide.specs.CertifiedMax.{IsMaxImproved};
-ghost use Rattle.dimacs_decide.specs.CertifiedMin.{IsMinImproved};
+ghost use Rattle.dimacs_judging.specs.{Feasible.{FeasibleMax, FeasibleMin}, Places.{ArePlaced}};
+ghost use Rattle.dimacs_decide.specs.{CertifiedMax.{IsMaxImproved}, CertifiedMin.{IsMinImproved}};
 ghost use Rattle.dimacs_runs.specs.declared.status.RunError.TheVariants.{Device, Memory};
 ghost use Rattle.dimacs_runs.specs.declared.jobs.JudgeKind.TheVariants as judges;
 ghost use Rattle.dimacs_runs.specs.Certified.{Certified, CertifiesLeast, CertifiesMaximum, IsClaimed, certified_kind};
-ghost use Rattle.dimacs_runs.specs.Judgings.{CountsDevices};
-ghost use Rattle.dimacs_runs.specs.Outputs.{ReportsAll, WritesAlike};
-ghost use Rattle.dimacs_runs.specs.inside.Judgings.{HasFault};
-ghost use Rattle.dimacs_runs.specs.inside.Outcomes.{MayCertify, outcome_of};
+ghost use Rattle.dimacs_runs.specs.{Judgings.{CountsDevices}, Outputs.{ReportsAll, WritesAlike}};
+ghost use Rattle.dimacs_runs.specs.{inside.Judgings.{HasFault}, inside.Outcomes.{MayCertify, outcome_of}};
 
 use crate::certify_distances::certify_distances;
 use crate::certify_infeasible::certify_infeasible;

@@ -1,10 +1,7 @@
 //! The command, from its arguments to its exit status.
 
-ghost use Rattle.std.specs.Prelude.{◌≡◌, map};
-ghost use Rattle.std.specs.String.{string_bytes};
-ghost use Rattle.dimacs_runs.specs.Commands.{Commands, RunsJob, seen_by};
-ghost use Rattle.dimacs_runs.specs.Jobs.{HasFiles};
-ghost use Rattle.dimacs_runs.specs.Outcomes.{command_number};
+ghost use Rattle.std.specs.{Prelude.{◌≡◌, map}, String.{string_bytes}};
+ghost use Rattle.dimacs_runs.specs.{Commands.{Commands, RunsJob, seen_by}, Jobs.{HasFiles}, Outcomes.{command_number}};
 
 use crate::arguments::job;
 use crate::failure::CommandError;

@@ -3,8 +3,7 @@
 ghost use Rattle.std.specs.Prelude.{◌≡◌};
 ghost use Rattle.dimacs_runs.specs.Commands.{seen_by};
 ghost use Rattle.dimacs_runs.specs.Explained as explained;
-ghost use Rattle.dimacs_runs.specs.Explained.{Explains, FollowedBy};
-ghost use Rattle.dimacs_runs.specs.Jobs.{HasFiles};
+ghost use Rattle.dimacs_runs.specs.{Explained.{Explains, FollowedBy}, Jobs.{HasFiles}};
 
 use crate::certify::run_certify;
 use crate::command::run_job;

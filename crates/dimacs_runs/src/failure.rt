@@ -1,8 +1,7 @@
 //! The errors of a command, which name the file.
 
 ghost use Rattle.std.specs.Prelude.{◌≡◌};
-ghost use Rattle.dimacs_runs.specs.Outcomes.{failed_call, failed_device};
-ghost use Rattle.dimacs_runs.specs.inside.Commands.{named};
+ghost use Rattle.dimacs_runs.specs.{Outcomes.{failed_call, failed_device}, inside.Commands.{named}};
 
 use crate::status::RunError;
 use std::fmt;

@@ -1,7 +1,6 @@
 //! What the command can run.
 
-ghost use Rattle.std.specs.Prelude.{◌≡◌, IfNone, IfSome, List, map, slice_get, ℕ};
-ghost use Rattle.std.specs.Option.{option_map};
+ghost use Rattle.std.specs.{Prelude.{◌≡◌, IfNone, IfSome, List, map, slice_get, ℕ}, Option.{option_map}};
 ghost use Rattle.std.specs.String.{string_bytes};
 ghost use Rattle.dimacs_runs.specs.Commands.{WritesTwice};
 

@@ -4,15 +4,11 @@ ghost use Rattle.std.specs.Prelude.{◌≡◌, ◌≢◌, ◌⊎◌, ℕ, List, 
 ghost use Rattle.dimacs_lines.specs.Lines.{lines};
 ghost use Rattle.dimacs_records.specs.declared.kinds.TextKind.{TextKind};
 ghost use Rattle.dimacs_records.specs.declared.kinds.TextKind.TheVariants as kinds;
-ghost use Rattle.dimacs_records.specs.declared.reasons.Reason.{Reason};
-ghost use Rattle.dimacs_records.specs.Faults.{Fault};
+ghost use Rattle.dimacs_records.specs.{declared.reasons.Reason.{Reason}, Faults.{Fault}};
 ghost use Rattle.dimacs_runs.specs.declared.jobs.JudgeKind.TheVariants as judges;
-ghost use Rattle.dimacs_runs.specs.declared.status.RunError.TheVariants.{Memory};
-ghost use Rattle.dimacs_runs.specs.Judged.{IsClaim, Judged, claim_kind, instance_kind};
-ghost use Rattle.dimacs_runs.specs.Judgings.{CountsDevices};
-ghost use Rattle.dimacs_runs.specs.Runs.{Reports};
-ghost use Rattle.dimacs_runs.specs.inside.Judgings.{HasFault};
-ghost use Rattle.dimacs_runs.specs.inside.Outcomes.{MayReport, outcome_of};
+ghost use Rattle.dimacs_runs.specs.{declared.status.RunError.TheVariants.{Memory}, Judgings.{CountsDevices}};
+ghost use Rattle.dimacs_runs.specs.{Judged.{IsClaim, Judged, claim_kind, instance_kind}, Runs.{Reports}};
+ghost use Rattle.dimacs_runs.specs.{inside.Judgings.{HasFault}, inside.Outcomes.{MayReport, outcome_of}};
 ghost use Rattle.dimacs_runs.specs.inside.Outcomes as outcomes;
 
 use crate::discard::Discard;

@@ -1,8 +1,7 @@
 //! The file for a run's text, which is created only if there is one.
 
 ghost use Rattle.std.specs.Prelude.{◌∷◌, []};
-ghost use Rattle.dimacs_runs.specs.Commands.{seen_by};
-ghost use Rattle.dimacs_runs.specs.inside.Making.{WritesOutcome, WritesReport, names_of};
+ghost use Rattle.dimacs_runs.specs.{Commands.{seen_by}, inside.Making.{WritesOutcome, WritesReport, names_of}};
 
 use crate::discard::Discard;
 use crate::failure::{CommandError, name_failure};

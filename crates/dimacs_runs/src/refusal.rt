@@ -2,8 +2,7 @@
 
 ghost use Rattle.std.specs.Prelude.{◌≡◌};
 ghost use Rattle.dimacs_lines.specs.Puts.{Puts};
-ghost use Rattle.dimacs_runs.specs.Refusals.{refusal_line};
-ghost use Rattle.dimacs_runs.specs.Runs.{text_word};
+ghost use Rattle.dimacs_runs.specs.{Refusals.{refusal_line}, Runs.{text_word}};
 
 use dimacs_lines::{DeviceFault, Sink};
 use dimacs_records::{At, Part, Reason, TextKind, put_line};

@@ -1,13 +1,10 @@
 //! Runs that read files, close them, and only then create a file for their text.
 
-ghost use Rattle.std.specs.Prelude.{◌≡◌, ◌≤◌, ◌∷◌, [], ℕ, List, Some, length, map};
-ghost use Rattle.std.specs.String.{string_bytes};
+ghost use Rattle.std.specs.{Prelude.{◌≡◌, ◌≤◌, ◌∷◌, [], ℕ, List, Some, length, map}, String.{string_bytes}};
 ghost use Rattle.dimacs_runs.specs.declared.jobs.JudgeKind.TheVariants as judges;
 ghost use Rattle.dimacs_runs.specs.Commands.{MakesCertificate, MakesOfFiles, reads_first, seen_by};
-ghost use Rattle.dimacs_runs.specs.Jobs.{AreCertifyFiles, certify_reads};
-ghost use Rattle.dimacs_runs.specs.Judgings.{CountsDevices};
-ghost use Rattle.dimacs_runs.specs.inside.Making.{AnswersFiles, made_for};
-ghost use Rattle.dimacs_runs.specs.inside.Outcomes.{IfEnds, unclaimed_texts};
+ghost use Rattle.dimacs_runs.specs.{Jobs.{AreCertifyFiles, certify_reads}, Judgings.{CountsDevices}};
+ghost use Rattle.dimacs_runs.specs.{inside.Making.{AnswersFiles, made_for}, inside.Outcomes.{IfEnds, unclaimed_texts}};
 
 use crate::certify::certify_claim;
 use crate::certify_infeasible::certify_infeasible;

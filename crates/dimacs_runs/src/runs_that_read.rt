@@ -1,10 +1,8 @@
 //! The runs that only read files.
 
-ghost use Rattle.std.specs.Prelude.{◌≡◌, ◌∷◌, [], length, map};
-ghost use Rattle.std.specs.String.{string_bytes};
+ghost use Rattle.std.specs.{Prelude.{◌≡◌, ◌∷◌, [], length, map}, String.{string_bytes}};
 ghost use Rattle.dimacs_runs.specs.declared.jobs.JudgeKind.TheVariants as judges;
-ghost use Rattle.dimacs_runs.specs.Commands.{RunsFiles, ReportsJudged, ReportsOne, reads, seen_by};
-ghost use Rattle.dimacs_runs.specs.Jobs.{file_count};
+ghost use Rattle.dimacs_runs.specs.{Commands.{RunsFiles, ReportsJudged, ReportsOne, reads, seen_by}, Jobs.{file_count}};
 ghost use Rattle.dimacs_runs.specs.Runs.{Prints};
 
 use crate::failure::{CommandError, name_failure};

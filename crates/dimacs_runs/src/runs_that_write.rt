@@ -1,7 +1,6 @@
 //! Runs that solve an instance in files.
 
-ghost use Rattle.std.specs.Prelude.{◌≡◌, ◌≢◌, ◌∷◌, [], length, map};
-ghost use Rattle.std.specs.String.{string_bytes};
+ghost use Rattle.std.specs.{Prelude.{◌≡◌, ◌≢◌, ◌∷◌, [], length, map}, String.{string_bytes}};
 ghost use Rattle.dimacs_runs.specs.declared.jobs.SolveJob.TheVariants as solves;
 ghost use Rattle.dimacs_runs.specs.Commands.{RunsFiles, WritesSolved, read_count, reads_first, seen_by};
 

@@ -3,16 +3,12 @@
 ghost use Rattle.std.specs.Prelude.{◌≡◌, ◌≢◌, ◌⊎◌, ◌∷◌, [], ℕ, List, Some, Ok, Err, IfOk};
 ghost use Rattle.dimacs_lines.specs.Lines.{lines};
 ghost use Rattle.dimacs_records.specs.declared.kinds.TextKind.TheVariants as kinds;
-ghost use Rattle.dimacs_records.specs.declared.reasons.Reason.{Reason};
-ghost use Rattle.dimacs_records.specs.Faults.{Fault};
+ghost use Rattle.dimacs_records.specs.{declared.reasons.Reason.{Reason}, Faults.{Fault}};
 ghost use Rattle.dimacs_instance.specs.QueryTexts.{AreLawful, asked};
 ghost use Rattle.dimacs_runs.specs.declared.jobs.SolveJob.TheVariants as jobs;
-ghost use Rattle.dimacs_runs.specs.declared.outcome.OutputText.TheVariants.{Nothing};
-ghost use Rattle.dimacs_runs.specs.declared.status.RunError.TheVariants.{Device, Memory};
-ghost use Rattle.dimacs_runs.specs.Judgings.{CountsDevices};
-ghost use Rattle.dimacs_runs.specs.Outputs.{MayWrite, ReportsAll};
-ghost use Rattle.dimacs_runs.specs.inside.Judgings.{HasFault};
-ghost use Rattle.dimacs_runs.specs.inside.Outcomes.{IsReadable, MaySolve, outcome_of};
+ghost use Rattle.dimacs_runs.specs.{declared.outcome.OutputText.TheVariants.{Nothing}, Judgings.{CountsDevices}};
+ghost use Rattle.dimacs_runs.specs.{declared.status.RunError.TheVariants.{Device, Memory}, inside.Judgings.{HasFault}};
+ghost use Rattle.dimacs_runs.specs.{Outputs.{MayWrite, ReportsAll}, inside.Outcomes.{IsReadable, MaySolve, outcome_of}};
 ghost use Rattle.dimacs_runs.specs.inside.Outcomes as outcomes;
 ghost use Rattle.dimacs_runs.specs.Solved.{AreQueries, FindsPaths, Solved, solved_kind};
 

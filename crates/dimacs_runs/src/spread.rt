@@ -1,20 +1,15 @@
 //! Runs that deal a claimed flow out to parallel arcs.
 
 ghost use Rattle.std.specs.Prelude.{◌≡◌, ◌≢◌, ◌≤◌, ◌⊎◌, ◌∷◌, [], ℕ, List, Some, Err, IfOk, length};
-ghost use Rattle.dimacs_lines.specs.Limits.{most_count};
-ghost use Rattle.dimacs_lines.specs.Lines.{lines};
+ghost use Rattle.dimacs_lines.specs.{Limits.{most_count}, Lines.{lines}};
 ghost use Rattle.dimacs_records.specs.declared.kinds.TextKind.TheVariants as kinds;
-ghost use Rattle.dimacs_records.specs.declared.reasons.Reason.{Reason};
-ghost use Rattle.dimacs_records.specs.Faults.{Fault};
+ghost use Rattle.dimacs_records.specs.{declared.reasons.Reason.{Reason}, Faults.{Fault}};
 ghost use Rattle.dimacs_claims.specs.SolutionTexts.{SolutionValue};
 ghost use Rattle.dimacs_runs.specs.declared.jobs.SpreadKind.{SpreadKind};
 ghost use Rattle.dimacs_runs.specs.declared.jobs.SpreadKind.TheVariants as spreads;
-ghost use Rattle.dimacs_runs.specs.declared.status.RunError.TheVariants.{Device, Memory};
-ghost use Rattle.dimacs_runs.specs.Judgings.{CountsDevices};
-ghost use Rattle.dimacs_runs.specs.Outputs.{ReportsAll, WritesAlike};
-ghost use Rattle.dimacs_runs.specs.Spread.{Spreads, SpreadsClaim, spread_text};
-ghost use Rattle.dimacs_runs.specs.inside.Judgings.{HasFault};
-ghost use Rattle.dimacs_runs.specs.inside.Outcomes.{DealsOut, MayCertify, outcome_of};
+ghost use Rattle.dimacs_runs.specs.{declared.status.RunError.TheVariants.{Device, Memory}, Judgings.{CountsDevices}};
+ghost use Rattle.dimacs_runs.specs.{Outputs.{ReportsAll, WritesAlike}, Spread.{Spreads, SpreadsClaim, spread_text}};
+ghost use Rattle.dimacs_runs.specs.{inside.Judgings.{HasFault}, inside.Outcomes.{DealsOut, MayCertify, outcome_of}};
 
 use crate::discard::Discard;
 use crate::early_end::{EarlyEnd, outcome_of};

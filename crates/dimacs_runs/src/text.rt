@@ -1,12 +1,10 @@
 //! Runs that print one text: its canonical form, or a line that describes it.
 
 ghost use Rattle.std.specs.Prelude.{◌≡◌, ◌≢◌, ◌∷◌, ℕ, List, [], Some, Err};
-ghost use Rattle.dimacs_runs.specs.declared.status.RunError.TheVariants.{Memory};
+ghost use Rattle.dimacs_runs.specs.{declared.status.RunError.TheVariants.{Memory}, Judgings.{CountsDevices}};
 ghost use Rattle.dimacs_runs.specs.declared.text.TextForm.TheVariants.{Canonical, Summary};
-ghost use Rattle.dimacs_runs.specs.Judgings.{CountsDevices};
+ghost use Rattle.dimacs_runs.specs.{Runs.{Reports, IsPrinted, Prints, in_form}, inside.Judgings.{FaultIn, text_spells}};
 ghost use Rattle.dimacs_lines.specs.Puts.{Puts};
-ghost use Rattle.dimacs_runs.specs.Runs.{Reports, IsPrinted, Prints, in_form};
-ghost use Rattle.dimacs_runs.specs.inside.Judgings.{FaultIn, text_spells};
 
 use crate::discard::Discard;
 use crate::early_end::{EarlyEnd, outcome_of};

@@ -2,8 +2,7 @@
 
 ghost use Rattle.std.specs.Prelude.{◌≡◌, ℕ, List, [], ◌∷◌, Some, IfOk};
 ghost use Rattle.dimacs_records.specs.declared.kinds.TextKind.TheVariants as kinds;
-ghost use Rattle.dimacs_claims.specs.SolutionReading.{IsPlaced, IsPlacedLawful};
-ghost use Rattle.dimacs_claims.specs.SolutionTexts.{GivesSolution};
+ghost use Rattle.dimacs_claims.specs.{SolutionReading.{IsPlaced, IsPlacedLawful}, SolutionTexts.{GivesSolution}};
 ghost use Rattle.dimacs_runs.specs.inside.Judgings.{CountsUnread, HasFault, PlacesOne, ReadsOne, ReadsPlaced, ReadsTwo, ReadsThree, text_spells, text_of};
 
 use dimacs_claims::{Place, Placed, read_solution_into};

@@ -1,8 +1,7 @@
 //! The lines of verdicts and of tests that fail.
 
 ghost use Rattle.std.specs.List.{flat_map};
-ghost use Rattle.dimacs_lines.specs.OutputBuffers.{Appends};
-ghost use Rattle.dimacs_lines.specs.Puts.{Puts};
+ghost use Rattle.dimacs_lines.specs.{OutputBuffers.{Appends}, Puts.{Puts}};
 ghost use Rattle.dimacs_runs.specs.Verdicts.{answer_line, distances_line, failure_line, gave_up_line, numbered_line, verdict_lines};
 
 use crate::refusal::put_refusal;

@@ -1,31 +1,23 @@
 -- The blocks of all sources pass the judge's tests.
 use Rattle.std.proofs.Common.{◌≡◌, inl, ℕ, ◌+◌, ◌<◌, ◌≤◌, true, false, cond, List, [], ◌∷◌, ◌++◌, All, length, refl, sym, ap, subst, ◌∙◌, arith, Some, None, ℤ, pos}
-use Rattle.std.specs.Prelude.{◌==◌, ◌||◌, ◌+ℤ◌, map}
-use Rattle.std.specs.List.{list_any, flat_map}
-use Rattle.std.proofs.Math.IntN.{pos-+ℤ-pos}
-use Rattle.std.proofs.Math.Seq.{get_or-append_seam}
-use Rattle.std.proofs.lemmas.Bool.{eqb-true, eq-eqb}
-use Rattle.std.proofs.lemmas.Int.{ints}
-use Rattle.std.proofs.lemmas.List.{get_or_append_left, length-append, map-append}
+use Rattle.std.proofs.{Math.IntN.{pos-+ℤ-pos}, Math.Seq.{get_or-append_seam}, lemmas.Bool.{eqb-true, eq-eqb}}
+use Rattle.std.proofs.{lemmas.Int.{ints}, lemmas.List.{get_or_append_left, length-append, map-append}}
 use Rattle.std.proofs.lemmas.List.Elements.{All-weaker, All-nil, All-cons, All-head, All-tail, All-from_get_or, All-push, All-contains}
 use Rattle.std.proofs.lemmas.List.Folds.{Any-from_list_any, list_any-from_Any}
+use Rattle.std.specs.{Prelude.{◌==◌, ◌||◌, ◌+ℤ◌, map}, List.{list_any, flat_map}}
 use Rattle.dimacs_lines.specs.Limits.{IsNode}
 use Rattle.dimacs_network.specs.Arcs.{NetworkValue, arc_at, no_arc}
 use Rattle.dimacs_instance.specs.QueryTexts.{QueriesValue, AreIds, HaveIds, Sources, Pairs}
 use Rattle.dimacs_claims.specs.declared.block.Label.{Label}
 use Rattle.dimacs_claims.specs.Labels.{AreLabels, BlockValue, LabelsValue, IsNewSource, has_source, label}
-use Rattle.dimacs_judging.specs.Labels.{HasWeights, HasTightArc, IsRelaxed, LabelsOk}
-use Rattle.dimacs_judging.specs.Laws.{PassingShowsLaw}
-use Rattle.dimacs_judging.specs.PathsJudge.{PassesPaths}
-use Rattle.dimacs_judging.proofs.BlockNumbers.{block_found}
+use Rattle.dimacs_judging.specs.{Labels.{HasWeights, HasTightArc, IsRelaxed, LabelsOk}, Laws.{PassingShowsLaw}}
+use Rattle.dimacs_judging.specs.{PathsJudge.{PassesPaths}, inside.QueryTests.{ends_of}}
 use Rattle.dimacs_judging.specs.QueryTests.{HasBlock, HasFullBlock, IsServed, nodes_asked, sources_asked}
-use Rattle.dimacs_judging.specs.inside.QueryTests.{ends_of}
-use Rattle.dimacs_solve.specs.declared.adjacency.Adjacency.{Adjacency}
-use Rattle.dimacs_solve.specs.declared.adjacency.WeightedArc.{WeightedArc}
+use Rattle.dimacs_judging.proofs.BlockNumbers.{block_found}
+use Rattle.dimacs_solve.specs.{declared.adjacency.Adjacency.{Adjacency}, declared.adjacency.WeightedArc.{WeightedArc}}
 use Rattle.dimacs_solve.specs.inside.Adjacency.{out, out_arc_to, IsOutArcOf, IsAdjacencyOf}
-use Rattle.dimacs_solve.specs.inside.Blocks.{AddsBlock, AreSolved}
+use Rattle.dimacs_solve.specs.{inside.Blocks.{AddsBlock, AreSolved}, inside.Search.{HasTightOutArc, IsPathTree}}
 use Rattle.dimacs_solve.specs.Paths.{AreProduced, IsNearestFirst, block_source, distinct_after, noted}
-use Rattle.dimacs_solve.specs.inside.Search.{HasTightOutArc, IsPathTree}
 
 -- ---- the labels of one search pass
 module _ (g : NetworkValue) (a : Adjacency) (by : IsAdjacencyOf g.nodes g.arcs a) (b : BlockValue) (tree : IsPathTree a b.source b) where

@@ -1,11 +1,8 @@
 -- No amounts between two nodes with the same sum cost less.
 use Rattle.std.proofs.Common.{◌≡◌, ◌⊎◌, inl, inr, ℕ, zero, suc, ◌<◌, Bool, true, false, List, [], ◌∷◌, length, ℤ, pos, ◌+ℤ◌, ◌-ℤ◌, ◌*ℤ◌, ◌≤ℤ◌, ◌<ℤ◌, refl, ap, arith}
-use Rattle.std.proofs.lemmas.Int.{ints, by_lt_z}
-use Rattle.std.proofs.lemmas.Bool.{cases_Bool}
-use Rattle.dimacs_network.specs.declared.network.ArcView.{ArcView}
-use Rattle.dimacs_network.specs.Arcs.{joins, arc_at}
-use Rattle.dimacs_judging.specs.Flows.{when}
-use Rattle.dimacs_judging.specs.Rows.{amount_at}
+use Rattle.std.proofs.{lemmas.Int.{ints, by_lt_z}, lemmas.Bool.{cases_Bool}}
+use Rattle.dimacs_network.specs.{declared.network.ArcView.{ArcView}, Arcs.{joins, arc_at}}
+use Rattle.dimacs_judging.specs.{Flows.{when}, Rows.{amount_at}}
 use Rattle.dimacs_judging.proofs.Products.{mul_add, mul_sub, mul_comm, mul_le, mul_ge}
 use Rattle.dimacs_solve.specs.Spread.{KeepsBounds, arc_cost, arc_sum}
 use Rattle.dimacs_solve.proofs.SumLemmas.{kept_at, kept_long}

@@ -1,23 +1,15 @@
 -- The flow after everything is dealt out.
 use Rattle.std.proofs.Common.{◌≡◌, ◌≢◌, inl, inr, ℕ, ◌^◌, ◌<◌, true, List, length, Result, Ok, Err, Some, All, ℤ, pos, neg_ℤ, ◌+ℤ◌, ◌≤ℤ◌, ◌<ℤ◌, sym, ◌∙◌, arith}
-use Rattle.std.proofs.lemmas.Int.{ints, by_lt_z}
-use Rattle.std.proofs.lemmas.Bool.{cases_eq}
-use Rattle.std.proofs.lemmas.List.{get_or-map, length-map}
+use Rattle.std.proofs.{lemmas.Int.{ints, by_lt_z}, lemmas.Bool.{cases_eq}, lemmas.List.{get_or-map, length-map}}
 use Rattle.std.proofs.lemmas.List.Elements.{All-get_or}
 use Rattle.dimacs_claims.specs.declared.solution.Entry.{Entry}
 use Rattle.dimacs_instance.specs.MinFlows.{HasBounds}
-use Rattle.dimacs_network.specs.declared.network.ArcView.{ArcView}
-use Rattle.dimacs_network.specs.Arcs.{joins, IsKthBetween, arc_at, no_arc}
-use Rattle.dimacs_records.specs.Ranges.{IsWhole}
-use Rattle.dimacs_records.specs.declared.reasons.Reason.{Reason}
-use Rattle.dimacs_judging.specs.declared.verdict.Where.{Where}
-use Rattle.dimacs_judging.specs.Rows.{amount_at, arc_row}
-use Rattle.dimacs_judging.specs.Tests.{TestsRow}
+use Rattle.dimacs_network.specs.{declared.network.ArcView.{ArcView}, Arcs.{joins, IsKthBetween, arc_at, no_arc}}
+use Rattle.dimacs_records.specs.{Ranges.{IsWhole}, declared.reasons.Reason.{Reason}}
+use Rattle.dimacs_judging.specs.{declared.verdict.Where.{Where}, Rows.{amount_at, arc_row}, Tests.{TestsRow}}
 use Rattle.dimacs_solve.specs.Spread.{AmountFails, arc_sum, caps, Deals, entry_sum, lows, NoneCheaper, OthersCarry}
-use Rattle.dimacs_solve.specs.inside.Raised.{AreDealt}
-use Rattle.dimacs_solve.specs.inside.Rests.{AddUp, IsFirstParallel, rest_row}
-use Rattle.dimacs_solve.proofs.Cheapest.{none_cheaper}
-use Rattle.dimacs_solve.proofs.EndLemmas.{ends_of, first_between, kth_joins, one_first}
+use Rattle.dimacs_solve.specs.{inside.Raised.{AreDealt}, inside.Rests.{AddUp, IsFirstParallel, rest_row}}
+use Rattle.dimacs_solve.proofs.{Cheapest.{none_cheaper}, EndLemmas.{ends_of, first_between, kth_joins, one_first}}
 use Rattle.dimacs_solve.proofs.SumLemmas.{arc_sum-add, arc_sum-alike, arc_sum-le, arc_sum-one, kept_at, kept_from, kept_long}
 
 -- no arc costs less

@@ -1,20 +1,13 @@
 -- One more, better flow.
 use Rattle.std.proofs.Common.{Bool, true, false, ◌≡◌, inl, inr, ℕ, suc, zero, ◌+◌, ◌<◌, ℤ, pos, ◌≤ℤ◌, List, [], ◌∷◌, ◌++◌, All, length, map, refl, arith}
-use Rattle.std.proofs.lemmas.Int.{ints}
-use Rattle.std.specs.Int.Signed.{lt_z}
-use Rattle.std.specs.Prelude.{if◌then◌else◌}
-use Rattle.std.proofs.lemmas.List.{length-append}
+use Rattle.std.proofs.{lemmas.Int.{ints}, lemmas.List.{length-append}}
 use Rattle.std.proofs.lemmas.List.Elements.{All-push, All-nil, All-weaker, All-head, All-tail}
+use Rattle.std.specs.{Int.Signed.{lt_z}, Prelude.{if◌then◌else◌}}
 use Rattle.dimacs_lines.specs.Limits.{IsNode}
-use Rattle.dimacs_network.specs.declared.network.ArcView.{ArcView}
+use Rattle.dimacs_network.specs.{declared.network.ArcView.{ArcView}, Arcs.{arc_at}}
 use Rattle.dimacs_instance.specs.MinFlows.{HasBounds, IsMin, MinValue, positive_part}
-use Rattle.dimacs_judging.specs.Feasible.{FeasibleMin}
-use Rattle.dimacs_judging.specs.Flows.{sum_nodes}
-use Rattle.dimacs_judging.specs.Optimum.{Least}
-use Rattle.dimacs_judging.specs.Rows.{amount_at}
-use Rattle.dimacs_network.specs.Arcs.{arc_at}
-use Rattle.dimacs_decide.specs.Bounds.{KeepsBounds}
-use Rattle.dimacs_decide.specs.FeasibilityDecision.{imbalance_at, total_excess}
+use Rattle.dimacs_judging.specs.{Feasible.{FeasibleMin}, Flows.{sum_nodes}, Optimum.{Least}, Rows.{amount_at}}
+use Rattle.dimacs_decide.specs.{Bounds.{KeepsBounds}, FeasibilityDecision.{imbalance_at, total_excess}}
 use Rattle.dimacs_decide.proofs.ExcessLemmas.{excess_some}
 use Rattle.dimacs_solve.specs.Descending.{AreImproving, IsBetter, StartsCheap, TakesMoreSteps, start_flow}
 

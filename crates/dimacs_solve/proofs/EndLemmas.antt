@@ -1,16 +1,13 @@
 -- The first arc between two nodes.
 use Rattle.std.proofs.Common.{◌≡◌, ◌⊎◌, inl, inr, ℕ, zero, suc, ◌+◌, ◌<◌, ◌≤◌, ◌==◌, true, cond, List, length, take, slice_get, count_by, Some, None, eqb-true, refl, ◌∙◌, arith}
-use Rattle.std.proofs.lemmas.Bool.{and_parts, cases_Bool, cases_order}
+use Rattle.std.proofs.{lemmas.Bool.{and_parts, cases_Bool, cases_order}, lemmas.List.{take_all, take-take}}
 use Rattle.std.proofs.lemmas.Option.{get_or_from_slice_get, slice_get-get_or, slice_get_within}
-use Rattle.std.proofs.lemmas.List.{take_all, take-take}
 use Rattle.std.proofs.lemmas.List.Sums.{count_by_more_no, count_by_more_yes, sum_by-take-le}
 use Rattle.dimacs_claims.specs.declared.solution.Entry.{Entry}
-use Rattle.dimacs_network.specs.declared.network.ArcView.{ArcView}
-use Rattle.dimacs_network.specs.Arcs.{joins, IsKthBetween, arc_at, no_arc}
+use Rattle.dimacs_network.specs.{declared.network.ArcView.{ArcView}, Arcs.{joins, IsKthBetween, arc_at, no_arc}}
 use Rattle.dimacs_network.proofs.ArcLemmas.{joins_ends}
 use Rattle.dimacs_judging.specs.Claims.{is_between}
-use Rattle.dimacs_solve.specs.inside.Raised.{AreParallel}
-use Rattle.dimacs_solve.specs.inside.Rests.{IsFirstParallel}
+use Rattle.dimacs_solve.specs.{inside.Raised.{AreParallel}, inside.Rests.{IsFirstParallel}}
 
 pub ends_of : (tail head : ℕ) (a : ArcView) → joins tail head a ≡ true → (a.tail ≡ tail) × (a.head ≡ head)
 ends_of tail head a is = let both = and_parts (a.tail == tail) (a.head == head) is in (eqb-true a.tail tail both.0, eqb-true a.head head both.1)

@@ -1,13 +1,9 @@
 -- The order of walks in the queue.
-use Rattle.std.proofs.Common.{◌≡◌, ℕ, ◌≤◌, List, [], ◌∷◌, map, false}
-use Rattle.std.specs.BinaryHeap.{IsUpperBound, lt_by_cmp}
-use Rattle.std.specs.Ordering.{nat_cmp, ordering_then}
-use Rattle.std.specs.declared.cmp.Ordering.{Ordering}
-use Rattle.std.specs.declared.cmp.Reverse.{Reverse}
+use Rattle.std.proofs.{Common.{◌≡◌, ℕ, ◌≤◌, List, [], ◌∷◌, map, false}, lemmas.List.Sorted.{first_le_from_greatest}}
 use Rattle.std.proofs.lemmas.List.Elements.{All-nil, All-cons, All-head}
-use Rattle.std.proofs.lemmas.List.Sorted.{first_le_from_greatest}
-use Rattle.dimacs_solve.specs.declared.frontier.Walk.{Walk}
-use Rattle.dimacs_solve.specs.inside.Frontiers.{walk_cmp, walk_in, IsNearest}
+use Rattle.std.specs.{BinaryHeap.{IsUpperBound, lt_by_cmp}, Ordering.{nat_cmp, ordering_then}}
+use Rattle.std.specs.{declared.cmp.Ordering.{Ordering}, declared.cmp.Reverse.{Reverse}}
+use Rattle.dimacs_solve.specs.{declared.frontier.Walk.{Walk}, inside.Frontiers.{walk_cmp, walk_in, IsNearest}}
 
 -- the order by end and predecessor
 abbrev ends_cmp : ℕ × ℕ → ℕ × ℕ → Ordering

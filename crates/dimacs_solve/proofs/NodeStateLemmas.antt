@@ -1,9 +1,7 @@
 -- The table after one more mark.
-use Rattle.std.proofs.Common.{◌≡◌, ◌≢◌, ℕ, ◌≤◌, inl, inr, sym, subst, Result, Ok, Err}
+use Rattle.std.proofs.{Common.{◌≡◌, ◌≢◌, ℕ, ◌≤◌, inl, inr, sym, subst, Result, Ok, Err}, lemmas.Bool.{cases_eq}}
 use Rattle.std.specs.Prelude.{OnOk, OnErr}
-use Rattle.std.proofs.lemmas.Bool.{cases_eq}
-use Rattle.dimacs_network.specs.declared.node_table.NodeTable.{NodeTable}
-use Rattle.dimacs_network.specs.Tables.{SameValues, value_of}
+use Rattle.dimacs_network.specs.{declared.node_table.NodeTable.{NodeTable}, Tables.{SameValues, value_of}}
 use Rattle.dimacs_solve.specs.declared.node_states.NodeState.{NodeState}
 
 -- no mark is from a later round, and it stays so after one is set

@@ -1,22 +1,17 @@
 -- Amounts while arcs are raised.
 use Rattle.std.proofs.Common.{◌≡◌, ◌≢◌, inl, inr, ℕ, ◌+◌, ◌<◌, ◌≤◌, List, length, All, ℤ, pos, ◌+ℤ◌, ◌-ℤ◌, ◌≤ℤ◌, ◌<ℤ◌, w64, SFits, refl, sym, subst, ap, ◌∙◌, arith}
-use Rattle.std.specs.Int.{w128}
-use Rattle.std.proofs.lemmas.Int.{ints, by_lt_z}
-use Rattle.std.proofs.lemmas.Bool.{cases_eq, cases_lt}
+use Rattle.std.proofs.{lemmas.Int.{ints, by_lt_z}, lemmas.Bool.{cases_eq, cases_lt}, lemmas.List.Elements.{All-get_or}}
 use Rattle.std.proofs.lemmas.List.{length-set, get_or-set_other, get_or-set_same}
-use Rattle.std.proofs.lemmas.List.Elements.{All-get_or}
+use Rattle.std.specs.Int.{w128}
 use Rattle.dimacs_claims.specs.declared.solution.Entry.{Entry}
 use Rattle.dimacs_instance.specs.MinFlows.{HasBounds}
-use Rattle.dimacs_network.specs.declared.network.ArcView.{ArcView}
-use Rattle.dimacs_network.specs.Arcs.{arc_at, no_arc}
+use Rattle.dimacs_network.specs.{declared.network.ArcView.{ArcView}, Arcs.{arc_at, no_arc}}
 use Rattle.dimacs_records.specs.Ranges.{IsWhole}
 use Rattle.dimacs_judging.specs.Rows.{amount_at}
-use Rattle.dimacs_solve.specs.declared.arcs_by_cost.ArcOfCost.{ArcOfCost}
-use Rattle.dimacs_solve.specs.inside.ArcsByCost.{AreByCost, place_at}
+use Rattle.dimacs_solve.specs.{declared.arcs_by_cost.ArcOfCost.{ArcOfCost}, inside.ArcsByCost.{AreByCost, place_at}}
 use Rattle.dimacs_solve.specs.inside.Raised.{AreParallel, AreDealt, AreDealtUpTo, AreWithin, CheapestAreFull, IsMore, IsRaised}
 use Rattle.dimacs_solve.specs.inside.Rests.{AddUp, AreLows, AreRests, IsFirstParallel}
-use Rattle.dimacs_solve.proofs.EndLemmas.{first_of_parallel, one_first}
-use Rattle.dimacs_solve.proofs.RestLemmas.{sums_moved}
+use Rattle.dimacs_solve.proofs.{EndLemmas.{first_of_parallel, one_first}, RestLemmas.{sums_moved}}
 
 -- ---- sizes
 pub fits_residual : (a : ArcView) (z : ℤ) → HasBounds a → a.low ≤ℤ z → z ≤ℤ a.cap → SFits w64 (a.cap -ℤ z) × (pos 0 ≤ℤ (a.cap -ℤ z)) × SFits w64 z × SFits w64 a.cap

@@ -1,21 +1,16 @@
 -- What the tests of the entries answer.
 use Rattle.std.proofs.Common.{◌≡◌, inl, inr, ℕ, ◌^◌, ◌<◌, List, length, Result, Ok, Err, All, pos, neg_ℤ, ◌≤ℤ◌, ◌<ℤ◌, sym, ◌∙◌, arith}
+use Rattle.std.proofs.{lemmas.Int.{ints}, lemmas.List.Elements.{All-get_or}}
 use Rattle.std.specs.Prelude.{IfErr, OnOk}
-use Rattle.std.proofs.lemmas.Int.{ints}
-use Rattle.std.proofs.lemmas.List.Elements.{All-get_or}
 use Rattle.dimacs_claims.specs.declared.solution.Entry.{Entry}
 use Rattle.dimacs_instance.specs.MinFlows.{HasBounds}
-use Rattle.dimacs_network.specs.declared.network.ArcView.{ArcView}
-use Rattle.dimacs_network.specs.Arcs.{arc_at, no_arc}
-use Rattle.dimacs_records.specs.Ranges.{IsWhole}
-use Rattle.dimacs_records.specs.declared.reasons.Reason.{Reason}
-use Rattle.dimacs_judging.specs.declared.verdict.Where.{Where}
-use Rattle.dimacs_judging.specs.Rows.{arc_row}
+use Rattle.dimacs_network.specs.{declared.network.ArcView.{ArcView}, Arcs.{arc_at, no_arc}}
+use Rattle.dimacs_records.specs.{Ranges.{IsWhole}, declared.reasons.Reason.{Reason}}
+use Rattle.dimacs_judging.specs.{declared.verdict.Where.{Where}, Rows.{arc_row}}
 use Rattle.dimacs_judging.specs.Tests.{AllClear, Clear, First, FirstAlone, TestsRow}
 use Rattle.dimacs_judging.proofs.Firsts.{OneWay, arc_one_way, one_first}
 use Rattle.dimacs_solve.specs.Spread.{AmountFails, arc_sum, caps, left_for, lows, spread_rows, unknown_row}
-use Rattle.dimacs_solve.proofs.DealtLemmas.{cap_at, caps_long, low_at, lows_long}
-use Rattle.dimacs_solve.proofs.SumLemmas.{arc_sum-le}
+use Rattle.dimacs_solve.proofs.{DealtLemmas.{cap_at, caps_long, low_at, lows_long}, SumLemmas.{arc_sum-le}}
 
 pub ok_from : {P Q : Type 0} (told : Result Unit (Where × Reason)) → (P → Q) → OnOk told P → OnOk told Q
 ok_from (Ok done) so p = so p

@@ -1,18 +1,12 @@
 -- Rests when sums change: by an entry, or by an amount put on an arc.
 use Rattle.std.proofs.Common.{◌≡◌, ◌≢◌, inl, inr, ℕ, ◌+◌, ◌*◌, ◌^◌, ◌<◌, Bool, true, false, List, [], ◌∷◌, ◌++◌, length, set, replicate, Some, ℤ, pos, neg_ℤ, ◌+ℤ◌, ◌-ℤ◌, w64, SFits, refl, ap, ◌∙◌, arith}
-use Rattle.std.specs.Int.{w128}
-use Rattle.std.proofs.lemmas.Int.{ints, by_lt_z}
-use Rattle.std.proofs.lemmas.Bool.{cases_eq}
+use Rattle.std.proofs.{lemmas.Int.{ints, by_lt_z}, lemmas.Bool.{cases_eq}}
 use Rattle.std.proofs.lemmas.List.{length-set, length-replicate, get_or-set_other, get_or-set_same}
+use Rattle.std.specs.Int.{w128}
 use Rattle.dimacs_claims.specs.declared.solution.Entry.{Entry}
-use Rattle.dimacs_network.specs.declared.network.ArcView.{ArcView}
-use Rattle.dimacs_network.specs.Arcs.{joins, IsKthBetween, arc_at}
-use Rattle.dimacs_records.specs.Ranges.{IsWhole}
-use Rattle.dimacs_records.specs.declared.reasons.Reason.{Reason}
-use Rattle.dimacs_judging.specs.Claims.{is_between}
-use Rattle.dimacs_judging.specs.Flows.{when}
-use Rattle.dimacs_judging.specs.Rows.{amount_at}
-use Rattle.dimacs_judging.specs.inside.Ranges.{IsOfSize}
+use Rattle.dimacs_network.specs.{declared.network.ArcView.{ArcView}, Arcs.{joins, IsKthBetween, arc_at}}
+use Rattle.dimacs_records.specs.{Ranges.{IsWhole}, declared.reasons.Reason.{Reason}}
+use Rattle.dimacs_judging.specs.{Claims.{is_between}, Flows.{when}, Rows.{amount_at}, inside.Ranges.{IsOfSize}}
 use Rattle.dimacs_solve.specs.Spread.{arc_sum, entry_sum}
 use Rattle.dimacs_solve.specs.inside.Rests.{AddUp, AreLows, AreRests, IsFirstParallel, LeavesRange, RestFails}
 use Rattle.dimacs_solve.proofs.EndLemmas.{parallel_joins, entry_joins, first_is_parallel}

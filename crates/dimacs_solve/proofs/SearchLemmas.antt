@@ -1,21 +1,15 @@
 -- The steps of a search.
 use Rattle.std.proofs.Common.{◌≡◌, ◌≢◌, ◌⊎◌, inl, inr, ℕ, zero, suc, ◌+◌, ◌-◌, ◌*◌, ◌^◌, ◌<◌, ◌≤◌, Bool, true, false, cond, List, [], ◌∷◌, ◌++◌, Some, None, ℤ, pos, All, Contains, length, get_or, take, refl, sym, ap, subst, ◌∙◌, arith, add-one}
-use Rattle.std.specs.Prelude.{◌==◌, ◌&&◌, ◌≤ℤ◌, if◌then◌else◌, IsPermutation}
-use Rattle.std.proofs.Math.Nat.{suc-mul, mul-le-mul_left}
-use Rattle.std.proofs.lemmas.Bool.{cases_order, cases_eq, cases_lt}
-use Rattle.std.proofs.lemmas.Bool.Decides.{eqb_tells}
-use Rattle.std.proofs.lemmas.Int.{ints}
+use Rattle.std.proofs.{Math.Nat.{suc-mul, mul-le-mul_left}, lemmas.Bool.{cases_order, cases_eq, cases_lt}}
+use Rattle.std.proofs.{lemmas.Bool.Decides.{eqb_tells}, lemmas.Int.{ints}, Math.Seq.{get_or-append_seam}}
 use Rattle.std.proofs.lemmas.List.{length-append, length-take, length-drop, get_or_append_left, take_all}
-use Rattle.std.proofs.Math.Seq.{get_or-append_seam}
 use Rattle.std.proofs.lemmas.List.Elements.{All-weaker, All-more, All-nil, All-get_or, All-take, All-drop, All-push, All-contains, Contains-get_or}
 use Rattle.std.proofs.lemmas.List.Sorted.{Contains-permutation, IsPermutation-sym, length_permutation}
+use Rattle.std.specs.Prelude.{◌==◌, ◌&&◌, ◌≤ℤ◌, if◌then◌else◌, IsPermutation}
 use Rattle.dimacs_lines.specs.Limits.{most_count, most_nodes, IsNode}
-use Rattle.dimacs_claims.specs.declared.block.Label.{Label}
-use Rattle.dimacs_claims.specs.Labels.{BlockValue, IsBlock, IsLabel, label, with_label}
-use Rattle.dimacs_solve.specs.declared.adjacency.Adjacency.{Adjacency}
-use Rattle.dimacs_solve.specs.declared.adjacency.WeightedArc.{WeightedArc}
-use Rattle.dimacs_solve.specs.declared.frontier.Walk.{Walk}
-use Rattle.dimacs_solve.specs.inside.Adjacency.{AreByNode, IsOutArc, out, out_arc_to}
+use Rattle.dimacs_claims.specs.{declared.block.Label.{Label}, Labels.{BlockValue, IsBlock, IsLabel, label, with_label}}
+use Rattle.dimacs_solve.specs.{declared.adjacency.Adjacency.{Adjacency}, declared.adjacency.WeightedArc.{WeightedArc}}
+use Rattle.dimacs_solve.specs.{declared.frontier.Walk.{Walk}, inside.Adjacency.{AreByNode, IsOutArc, out, out_arc_to}}
 use Rattle.dimacs_solve.specs.inside.NodeStates.{Known, AreUnknown, IsSettled, IsReachedWithin, Sets, reached, settled}
 use Rattle.dimacs_solve.specs.Paths.{IsNearestFirst}
 use Rattle.dimacs_solve.specs.inside.Search.{is_settled, settled_count, settled_label, IsWalk, IsQueuedWalk, IsPending, IsFront, Lowers, Offers, IsArcRelaxed, IsReady, Relaxes, HasTightOutArc, IsPathSearch, IsPopped, IsClosed, IsPathTree, work}

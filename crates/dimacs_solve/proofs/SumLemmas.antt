@@ -1,12 +1,9 @@
 -- Sums from one node to another.
 use Rattle.std.proofs.Common.{◌≡◌, ◌≢◌, inl, inr, ℕ, zero, suc, ◌<◌, Bool, true, false, List, [], ◌∷◌, length, set, replicate, ℤ, pos, ◌+ℤ◌, ◌-ℤ◌, ◌≤ℤ◌, refl, sym, ◌∙◌, arith}
-use Rattle.std.proofs.lemmas.Int.{ints}
-use Rattle.std.proofs.lemmas.Bool.{cases_eq, cases_lt}
+use Rattle.std.proofs.{lemmas.Int.{ints}, lemmas.Bool.{cases_eq, cases_lt}}
 use Rattle.std.proofs.lemmas.List.{length-set, length-replicate, get_or-replicate, get_or-set_other, get_or-set_same, get_or_past}
-use Rattle.dimacs_network.specs.declared.network.ArcView.{ArcView}
-use Rattle.dimacs_network.specs.Arcs.{joins, arc_at}
-use Rattle.dimacs_judging.specs.Flows.{when}
-use Rattle.dimacs_judging.specs.Rows.{amount_at}
+use Rattle.dimacs_network.specs.{declared.network.ArcView.{ArcView}, Arcs.{joins, arc_at}}
+use Rattle.dimacs_judging.specs.{Flows.{when}, Rows.{amount_at}}
 use Rattle.dimacs_solve.specs.Spread.{arc_sum, KeepsBounds}
 
 -- ---- terms

@@ -1,13 +1,10 @@
 -- The result of making labels for queries.
 use Rattle.std.specs.Prelude.{ℕ, ◌≡◌, ◌<◌, ◌+◌, ◌++◌, ◌==◌, List, [], ◌∷◌, All, map, length, slice_index_or, cond, None, Result, Ok, Err, pos, ◌<ℤ◌, ◌≤ℤ◌}
 use Rattle.std.specs.List.{list_any}
-use Rattle.dimacs_network.specs.declared.network.ArcView.{ArcView}
-use Rattle.dimacs_network.specs.Arcs.{NetworkValue, arc_at}
+use Rattle.dimacs_network.specs.{declared.network.ArcView.{ArcView}, Arcs.{NetworkValue, arc_at}}
 use Rattle.dimacs_instance.specs.QueryTexts.{QueriesValue}
-use Rattle.dimacs_claims.specs.declared.block.Label.{Label}
-use Rattle.dimacs_claims.specs.Labels.{BlockValue, LabelsValue}
-use Rattle.dimacs_judging.specs.PathsJudge.{ShowsDistances}
-use Rattle.dimacs_judging.specs.QueryTests.{query_node_row, sources_asked}
+use Rattle.dimacs_claims.specs.{declared.block.Label.{Label}, Labels.{BlockValue, LabelsValue}}
+use Rattle.dimacs_judging.specs.{PathsJudge.{ShowsDistances}, QueryTests.{query_node_row, sources_asked}}
 use Rattle.dimacs_judging.specs.Tests.{Clear, FirstOfRow}
 use Rattle.dimacs_solve.specs.declared.error.SolveError.{SolveError}
 use Rattle.dimacs_solve.specs.declared.error.SolveError.TheVariants.{NegativeWeight, Refused, Memory}

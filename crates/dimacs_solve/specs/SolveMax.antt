@@ -1,14 +1,11 @@
 -- The result of solving maximum flow.
 use Rattle.std.specs.Prelude.{ℕ, ◌<◌, Result, Ok, Err}
-use Rattle.dimacs_claims.specs.Cuts.{CutValue}
-use Rattle.dimacs_claims.specs.SolutionTexts.{SolutionValue, claimed}
+use Rattle.dimacs_claims.specs.{Cuts.{CutValue}, SolutionTexts.{SolutionValue, claimed}}
 use Rattle.dimacs_instance.specs.MaxFlows.{MaxValue}
 use Rattle.dimacs_judging.specs.MaxJudge.{ShowsMaximum}
-use Rattle.dimacs_solve.specs.declared.maximum.MaxAnswer.{MaxAnswer}
-use Rattle.dimacs_solve.specs.declared.maximum.MaxAnswer.TheVariants.{Optimal, GaveUp}
-use Rattle.dimacs_solve.specs.declared.error.SolveError.{SolveError}
+use Rattle.dimacs_solve.specs.{declared.maximum.MaxAnswer.{MaxAnswer}, declared.error.SolveError.{SolveError}}
+use Rattle.dimacs_solve.specs.{declared.maximum.MaxAnswer.TheVariants.{Optimal, GaveUp}, Climbing.{GivesUp}}
 use Rattle.dimacs_solve.specs.declared.error.SolveError.TheVariants.{NegativeWeight, Refused, Memory}
-use Rattle.dimacs_solve.specs.Climbing.{GivesUp}
 use Rattle.dimacs_decide.specs.Entries.{IsSolutionOf}
 
 -- the solution has an entry for every arc, and the cut shows that its flow is maximum

@@ -1,14 +1,10 @@
 -- The result of solving minimum cost flow.
 use Rattle.std.specs.Prelude.{ℕ, ◌≡◌, Result, Ok, Err}
-use Rattle.dimacs_claims.specs.Potentials.{PotentialsValue}
-use Rattle.dimacs_claims.specs.SolutionTexts.{SolutionValue, claimed}
+use Rattle.dimacs_claims.specs.{Potentials.{PotentialsValue}, SolutionTexts.{SolutionValue, claimed}}
 use Rattle.dimacs_instance.specs.MinFlows.{MinValue}
-use Rattle.dimacs_judging.specs.Claims.{Carries}
-use Rattle.dimacs_judging.specs.InfeasibleJudge.{ShowsNoFlow}
-use Rattle.dimacs_judging.specs.MinJudge.{ShowsLeast}
-use Rattle.dimacs_solve.specs.declared.error.SolveError.{SolveError}
+use Rattle.dimacs_judging.specs.{Claims.{Carries}, InfeasibleJudge.{ShowsNoFlow}, MinJudge.{ShowsLeast}}
+use Rattle.dimacs_solve.specs.{declared.error.SolveError.{SolveError}, declared.least.MinAnswer.{MinAnswer}}
 use Rattle.dimacs_solve.specs.declared.error.SolveError.TheVariants.{NegativeWeight, Refused, Memory}
-use Rattle.dimacs_solve.specs.declared.least.MinAnswer.{MinAnswer}
 use Rattle.dimacs_solve.specs.declared.least.MinAnswer.TheVariants.{Optimal, Infeasible, GaveUp}
 use Rattle.dimacs_solve.specs.Descending.{GivesUpMin, start_flow}
 use Rattle.dimacs_decide.specs.Entries.{IsSolutionOf}

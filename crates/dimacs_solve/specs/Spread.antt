@@ -2,15 +2,11 @@
 use Rattle.std.specs.Prelude.{ℕ, ◌≡◌, ◌<◌, ◌^◌, ◌⊎◌, true, List, [], ◌∷◌, length, map, Some, ℤ, pos, neg_ℤ, ◌+ℤ◌, ◌-ℤ◌, ◌*ℤ◌, ◌≤ℤ◌, ◌<ℤ◌}
 use Rattle.std.specs.List.{AllZip}
 use Rattle.dimacs_claims.specs.declared.solution.Entry.{Entry}
-use Rattle.dimacs_network.specs.declared.network.ArcView.{ArcView}
-use Rattle.dimacs_network.specs.Arcs.{joins, IsKthBetween, arc_at}
+use Rattle.dimacs_network.specs.{declared.network.ArcView.{ArcView}, Arcs.{joins, IsKthBetween, arc_at}}
 use Rattle.dimacs_records.specs.declared.reasons.Reason.{Reason}
 use Rattle.dimacs_records.specs.declared.reasons.Reason.TheVariants.{UnknownArc, BelowLow, AboveCap}
-use Rattle.dimacs_judging.specs.declared.verdict.Where.TheVariants.{Solution}
-use Rattle.dimacs_judging.specs.Claims.{is_between, entry_at, IsKnown}
-use Rattle.dimacs_judging.specs.Flows.{sum_arcs, when}
-use Rattle.dimacs_judging.specs.Rows.{amount_at, arc_row}
-use Rattle.dimacs_judging.specs.Tests.{Row}
+use Rattle.dimacs_judging.specs.{declared.verdict.Where.TheVariants.{Solution}, Claims.{is_between, entry_at, IsKnown}}
+use Rattle.dimacs_judging.specs.{Flows.{sum_arcs, when}, Rows.{amount_at, arc_row}, Tests.{Row}}
 
 -- the sum of the entries from one node to another
 abbrev pub entry_sum : List Entry → ℕ → ℕ → ℤ

@@ -1,7 +1,6 @@
 //! Numbers of two widths for the distances of a search.
 
-ghost use Rattle.std.specs.Prelude.{◌≡◌, ◌<◌, ◌+◌, ◌^◌, ℕ, pos};
-ghost use Rattle.std.specs.Ordering.{nat_cmp};
+ghost use Rattle.std.specs.{Prelude.{◌≡◌, ◌<◌, ◌+◌, ◌^◌, ℕ, pos}, Ordering.{nat_cmp}};
 
 /// An unsigned number for the distances of a search: of 64 bits if all of them fit, otherwise of 128.
 pub(crate) trait SearchDistance: Copy + Ord {

@@ -2,10 +2,8 @@
 
 ghost use Rattle.std.specs.Prelude.{◌≡◌, ℕ, Ok};
 ghost use Rattle.dimacs_claims.specs.Potentials.{potential_of};
-ghost use Rattle.dimacs_judging.specs.Optimum.{Least};
-ghost use Rattle.dimacs_judging.specs.Potentials.{Slack};
-ghost use Rattle.dimacs_solve.specs.Descending.{start_flow};
-ghost use Rattle.dimacs_solve.specs.SolveMin.{SolvesMin};
+ghost use Rattle.dimacs_judging.specs.{Optimum.{Least}, Potentials.{Slack}};
+ghost use Rattle.dimacs_solve.specs.{Descending.{start_flow}, SolveMin.{SolvesMin}};
 
 use crate::descend::{MinFlowAnswer, solve_min_flow};
 use crate::error::SolveError;

@@ -5,8 +5,7 @@ ghost use Rattle.dimacs_lines.specs.Limits.{most_count, IsNode};
 ghost use Rattle.dimacs_instance.specs.QueryTexts.{AreLawful, asked, query_lines};
 ghost use Rattle.dimacs_claims.specs.Labels.{BlockValue, IsNewSource};
 ghost use Rattle.dimacs_judging.specs.QueryTests.{sources_asked};
-ghost use Rattle.dimacs_solve.specs.inside.Adjacency.{AreByNode};
-ghost use Rattle.dimacs_solve.specs.inside.Blocks.{AddsBlock, AreSolved};
+ghost use Rattle.dimacs_solve.specs.{inside.Adjacency.{AreByNode}, inside.Blocks.{AddsBlock, AreSolved}};
 ghost use Rattle.dimacs_solve.specs.Paths.{HasNoNegativeWeight, IsFirstNegative, SolvesPaths};
 
 use crate::adjacency::{Adjacency, by_tail};

@@ -3,8 +3,7 @@
 
 ghost use Rattle.std.specs.Prelude.{IfOk};
 ghost use Rattle.dimacs_judging.specs.Feasible.{FeasibleMin};
-ghost use Rattle.dimacs_decide.specs.Bounds.{KeepsBounds};
-ghost use Rattle.dimacs_decide.specs.FeasibilityDecision.{DecidesFeasible};
+ghost use Rattle.dimacs_decide.specs.{Bounds.{KeepsBounds}, FeasibilityDecision.{DecidesFeasible}};
 ghost use Rattle.dimacs_decide.specs.Incidence.{IsIncidenceOf};
 ghost use Rattle.dimacs_solve.specs.inside.Descending.{IsReply};
 

@@ -1,12 +1,10 @@
 //! Dealing out what exceeds the lower bounds: the cheapest arcs are filled first.
 
-ghost use Rattle.std.specs.Prelude.{◌≡◌, ◌<◌, ◌≤ℤ◌, List, length, ℕ, pos};
-ghost use Rattle.std.specs.List.{All};
+ghost use Rattle.std.specs.{Prelude.{◌≡◌, ◌<◌, ◌≤ℤ◌, List, length, ℕ, pos}, List.{All}};
 ghost use Rattle.dimacs_claims.specs.declared.solution.Entry.{Entry};
 ghost use Rattle.dimacs_instance.specs.MinFlows.{HasBounds};
-ghost use Rattle.dimacs_solve.specs.inside.ArcsByCost.{AreByCost};
+ghost use Rattle.dimacs_solve.specs.{inside.ArcsByCost.{AreByCost}, inside.Rests.{AddUp, AreLows, AreRests}};
 ghost use Rattle.dimacs_solve.specs.inside.Raised.{AreDealt, AreWithin, IsMore, IsRaised};
-ghost use Rattle.dimacs_solve.specs.inside.Rests.{AddUp, AreLows, AreRests};
 
 use crate::arcs_by_cost::ArcOfCost;
 use crate::arcs_by_ends::ArcsByEnds;

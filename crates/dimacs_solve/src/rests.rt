@@ -4,8 +4,7 @@ ghost use Rattle.std.specs.Prelude.{◌≡◌, ◌<◌, ◌+◌, ◌^◌, ◌+�
 ghost use Rattle.std.specs.List.{All};
 ghost use Rattle.dimacs_instance.specs.MinFlows.{HasBounds};
 ghost use Rattle.dimacs_records.specs.Ranges.{IsWhole};
-ghost use Rattle.dimacs_judging.specs.Rows.{amount_at};
-ghost use Rattle.dimacs_judging.specs.Tests.{TestsRow};
+ghost use Rattle.dimacs_judging.specs.{Rows.{amount_at}, Tests.{TestsRow}};
 ghost use Rattle.dimacs_solve.specs.Spread.{unknown_row};
 ghost use Rattle.dimacs_solve.specs.inside.Rests.{AddUp, AreLows, AreRests, RestFails, rest_row};
 

@@ -2,8 +2,7 @@
 
 ghost use Rattle.std.specs.Prelude.{◌≡◌, ◌<◌, ◌≤◌, ◌+◌, ◌*◌, [], IfOk, OnOk};
 ghost use Rattle.dimacs_lines.specs.Limits.{IsNode};
-ghost use Rattle.dimacs_solve.specs.inside.Adjacency.{AreByNode};
-ghost use Rattle.dimacs_solve.specs.inside.Frontiers.{walk_of};
+ghost use Rattle.dimacs_solve.specs.{inside.Adjacency.{AreByNode}, inside.Frontiers.{walk_of}};
 ghost use Rattle.dimacs_solve.specs.inside.NodeStates.{known};
 ghost use Rattle.dimacs_solve.specs.inside.Search.{IsPopped, IsReady, IsPathSearch, IsPathTree, Offers, Relaxes, work};
 

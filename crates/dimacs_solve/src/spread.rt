@@ -1,11 +1,9 @@
 //! Dealing out the sums between any two nodes to the arcs between them.
 
-ghost use Rattle.std.specs.Prelude.{◌≡◌, ◌<◌, ◌^◌, pos, length, replicate, IfErr, IfOk, OnOk};
-ghost use Rattle.std.specs.List.{All};
+ghost use Rattle.std.specs.{Prelude.{◌≡◌, ◌<◌, ◌^◌, pos, length, replicate, IfErr, IfOk, OnOk}, List.{All}};
 ghost use Rattle.dimacs_instance.specs.MinFlows.{HasBounds};
 ghost use Rattle.dimacs_judging.specs.Tests.{AllClear, FirstAlone, Refuses};
-ghost use Rattle.dimacs_solve.specs.Spread.{Deals, NoneCheaper, spread_rows};
-ghost use Rattle.dimacs_solve.specs.inside.ArcsByCost.{AreByCost};
+ghost use Rattle.dimacs_solve.specs.{Spread.{Deals, NoneCheaper, spread_rows}, inside.ArcsByCost.{AreByCost}};
 
 use crate::arcs_by_cost::{ArcOfCost, arcs_by_cost};
 use crate::arcs_by_ends::ArcsByEnds;

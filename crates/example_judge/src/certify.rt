@@ -2,8 +2,7 @@
 
 ghost use Rattle.std.specs.Prelude.{◌≡◌, ℤ, List, Ok, true};
 ghost use Rattle.dimacs_claims.specs.SolutionTexts.{claimed};
-ghost use Rattle.dimacs_judging.specs.MaxJudge.{IsMaxClaim};
-ghost use Rattle.dimacs_judging.specs.Optimum.{Maximum};
+ghost use Rattle.dimacs_judging.specs.{MaxJudge.{IsMaxClaim}, Optimum.{Maximum}};
 
 use crate::failure::Failure;
 use dimacs_claims::{Solution, write_cut, write_solution};

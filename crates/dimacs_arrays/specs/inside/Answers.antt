@@ -1,9 +1,7 @@
 -- Inside: the results of the parts of a call over arrays.
 use Rattle.std.specs.Prelude.{◌≡◌, List, None, Some, Result, Ok, Err}
-use Rattle.dimacs_arrays.specs.declared.error.ArrayError.{ArrayError}
-use Rattle.dimacs_arrays.specs.declared.error.ArrayError.TheVariants.{Length, Limit, Memory}
-use Rattle.dimacs_arrays.specs.declared.lengths.ArrayLength.{ArrayLength}
-use Rattle.dimacs_arrays.specs.Answers.{first_misfit}
+use Rattle.dimacs_arrays.specs.{declared.error.ArrayError.{ArrayError}, declared.lengths.ArrayLength.{ArrayLength}}
+use Rattle.dimacs_arrays.specs.{declared.error.ArrayError.TheVariants.{Length, Limit, Memory}, Answers.{first_misfit}}
 use Rattle.dimacs_arrays.specs.declared.limits.PastLimit.{PastLimit}
 use Rattle.dimacs_judging.specs.Tests.{Row, AllClear, First}
 

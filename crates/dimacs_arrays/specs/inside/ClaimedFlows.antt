@@ -1,11 +1,8 @@
 -- Inside: what placed entries claim.
 use Rattle.std.specs.Prelude.{ℕ, ℤ, Result}
-use Rattle.dimacs_claims.specs.SolutionReading.{IsPlaced}
-use Rattle.dimacs_claims.specs.SolutionTexts.{SolutionValue}
-use Rattle.dimacs_judging.specs.declared.verdict.JudgeError.{JudgeError}
-use Rattle.dimacs_judging.specs.Places.{PlacesValue, ArePlaced}
-use Rattle.dimacs_arrays.specs.declared.solution.ClaimedFlow.{ClaimedFlow}
-use Rattle.dimacs_arrays.specs.SolutionArrays.{ClaimsOver}
+use Rattle.dimacs_claims.specs.{SolutionReading.{IsPlaced}, SolutionTexts.{SolutionValue}}
+use Rattle.dimacs_judging.specs.{declared.verdict.JudgeError.{JudgeError}, Places.{PlacesValue, ArePlaced}}
+use Rattle.dimacs_arrays.specs.{declared.solution.ClaimedFlow.{ClaimedFlow}, SolutionArrays.{ClaimsOver}}
 
 -- what the solution whose entries were placed claims
 abbrev pub ClaimsFlow : PlacesValue → ℤ → ℕ → Result ClaimedFlow JudgeError → Type 0

@@ -1,12 +1,9 @@
 -- Inside: whether arcs are in range.
-use Rattle.std.specs.Prelude.{ℕ, List, Result, Ok, Err}
-use Rattle.std.specs.List.{All}
-use Rattle.dimacs_network.specs.declared.network.ArcView.{ArcView}
-use Rattle.dimacs_network.specs.Arcs.{JoinsNodes}
+use Rattle.std.specs.{Prelude.{ℕ, List, Result, Ok, Err}, List.{All}}
+use Rattle.dimacs_network.specs.{declared.network.ArcView.{ArcView}, Arcs.{JoinsNodes}}
 use Rattle.dimacs_instance.specs.MinFlows.{HasBounds}
 use Rattle.dimacs_judging.specs.Tests.{FirstOfRow}
-use Rattle.dimacs_arrays.specs.Limits.{limit_row}
-use Rattle.dimacs_arrays.specs.declared.limits.PastLimit.{PastLimit}
+use Rattle.dimacs_arrays.specs.{Limits.{limit_row}, declared.limits.PastLimit.{PastLimit}}
 
 -- the arc joins nodes, and its numbers are in range
 abbrev pub IsInRange : ℕ → ArcView → Type 0

@@ -1,12 +1,10 @@
 -- Inside: flows that cost least by potentials.
 use Rattle.std.specs.Prelude.{ℕ, ◌≡◌, ◌≤◌, ◌^◌, List, length, ℤ, pos, neg_ℤ, ◌+ℤ◌, ◌≤ℤ◌}
-use Rattle.dimacs_lines.specs.Number.{IsWithin}
+use Rattle.dimacs_lines.specs.{Number.{IsWithin}, Limits.{IsNode}}
 use Rattle.dimacs_records.specs.Ranges.{IsWhole}
-use Rattle.dimacs_lines.specs.Limits.{IsNode}
 use Rattle.dimacs_claims.specs.Potentials.{PotentialsValue, potential_of}
-use Rattle.dimacs_arrays.specs.declared.certify_min.MinCertified.{MinCertified}
+use Rattle.dimacs_arrays.specs.{declared.certify_min.MinCertified.{MinCertified}, ByNode.{number_of}}
 use Rattle.dimacs_arrays.specs.declared.certify_min.MinCertified.TheVariants.{Optimal, Wide, Better}
-use Rattle.dimacs_arrays.specs.ByNode.{number_of}
 use Rattle.dimacs_arrays.specs.MinArrays.{IsWider}
 
 -- a number that may be added to potentials

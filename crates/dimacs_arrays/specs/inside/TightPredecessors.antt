@@ -1,8 +1,7 @@
 -- Inside: distances that tight arcs of positive weight show.
 use Rattle.std.specs.Prelude.{ℕ, ◌≡◌, ◌≢◌, List, All, length, Option, Some, ℤ, pos}
 use Rattle.dimacs_network.specs.declared.network.ArcView.{ArcView}
-use Rattle.dimacs_decide.specs.Claims.{claimed_by_node}
-use Rattle.dimacs_decide.specs.Predecessors.{NeedsPredecessor, pred_by_node}
+use Rattle.dimacs_decide.specs.{Claims.{claimed_by_node}, Predecessors.{NeedsPredecessor, pred_by_node}}
 use Rattle.dimacs_decide.specs.TightTails.{AreTightTails, IsRelaxedBy}
 
 -- each node that needs a predecessor has one

@@ -1,8 +1,7 @@
 -- Inside: the value that a call sets.
 use Rattle.std.specs.Prelude.{ℕ, ℤ, Result, Ok, Err, pos}
 use Rattle.dimacs_lines.specs.declared.device.DeviceFault.{DeviceFault}
-use Rattle.dimacs_arrays.specs.declared.error.ArrayError.{ArrayError}
-use Rattle.dimacs_arrays.specs.declared.solution.ClaimedFlow.{ClaimedFlow}
+use Rattle.dimacs_arrays.specs.{declared.error.ArrayError.{ArrayError}, declared.solution.ClaimedFlow.{ClaimedFlow}}
 use Rattle.dimacs_c.specs.ArrayTexts.{value_read}
 
 -- the claimed value; 0 if the line wasn't written

@@ -1,8 +1,7 @@
 -- Inside: the ends of calls.
 use Rattle.std.specs.Prelude.{ℕ, ◌≡◌, List, Result, Ok, Err}
 use Rattle.dimacs_lines.specs.declared.device.DeviceFault.{DeviceFault}
-use Rattle.dimacs_runs.specs.declared.status.RunError.{RunError}
-use Rattle.dimacs_runs.specs.declared.status.Status.{Status}
+use Rattle.dimacs_runs.specs.{declared.status.RunError.{RunError}, declared.status.Status.{Status}}
 use Rattle.dimacs_runs.specs.Outcomes.{status_number}
 use Rattle.dimacs_c.specs.Calls.{Handed, HandsNothing, HandsOut}
 

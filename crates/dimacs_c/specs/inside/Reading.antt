@@ -3,12 +3,10 @@ use Rattle.std.specs.Prelude.{ℕ, ◌≡◌, ◌⊎◌, List}
 use Rattle.dimacs_records.specs.declared.faults.ReadError.{ReadError}
 use Rattle.dimacs_records.specs.declared.faults.ReadError.TheVariants.{Refused, Device, Memory}
 use Rattle.dimacs_judging.specs.declared.verdict.Where.TheVariants.{Node}
-use Rattle.dimacs_fill.specs.declared.error.FillError.{FillError}
-use Rattle.dimacs_fill.specs.declared.error.FillError.TheVariants.{Unread}
-use Rattle.dimacs_fill.specs.declared.error.FillError.TheVariants as fills
-use Rattle.dimacs_runs.specs.Refusals.{refusal_line}
-use Rattle.dimacs_runs.specs.Verdicts.{failure_line}
+use Rattle.dimacs_fill.specs.{declared.error.FillError.{FillError}, declared.error.FillError.TheVariants.{Unread}}
+use Rattle.dimacs_runs.specs.{Refusals.{refusal_line}, Verdicts.{failure_line}}
 use Rattle.dimacs_c.specs.Calls.{Handed, HandsNothing, HandsOut}
+use Rattle.dimacs_fill.specs.declared.error.FillError.TheVariants as fills
 
 -- the line of the fault is handed out, with its status; or memory ran out
 abbrev pub EndsUnread : List ℕ → ReadError → ℕ → Handed ℕ → Type 0

@@ -1,7 +1,5 @@
 -- Inside: labels while their text is read.
-use Rattle.std.specs.Prelude.{ℕ, ◌≡◌, ◌≤◌, ◌+◌, List, [], ◌∷◌, ◌++◌, length, is_some}
-use Rattle.std.specs.List.{All}
-use Rattle.std.specs.Ordering.{nat_cmp}
+use Rattle.std.specs.{Prelude.{ℕ, ◌≡◌, ◌≤◌, ◌+◌, List, [], ◌∷◌, ◌++◌, length, is_some}, List.{All}, Ordering.{nat_cmp}}
 use Rattle.std.specs.FinSet.{FinSet, contains, empty}
 use Rattle.dimacs_lines.specs.Limits.{most_count, most_nodes}
 use Rattle.dimacs_claims.specs.Labels.{BlockValue, EachAfter, IsBlock, IsNewSource, distance_in}

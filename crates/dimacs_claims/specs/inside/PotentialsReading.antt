@@ -1,7 +1,6 @@
 -- Inside: potentials while their text is read.
-use Rattle.dimacs_claims.specs.Potentials.{PotentialsValue}
+use Rattle.dimacs_claims.specs.{Potentials.{PotentialsValue}, PotentialsReading.{PotentialsBegun}}
 use Rattle.dimacs_records.specs.NodeValues.{without_zeros}
-use Rattle.dimacs_claims.specs.PotentialsReading.{PotentialsBegun}
 
 -- the potentials so far, without zeros
 abbrev pub potentials_begun : PotentialsBegun → PotentialsValue

@@ -1,7 +1,6 @@
 -- Inside: a solution while its text is read.
 use Rattle.std.specs.Prelude.{Option, None, is_some}
-use Rattle.dimacs_records.specs.declared.order.Context.{Context}
-use Rattle.dimacs_records.specs.Tests.{plain_context_of}
+use Rattle.dimacs_records.specs.{declared.order.Context.{Context}, Tests.{plain_context_of}}
 use Rattle.dimacs_claims.specs.declared.solution.ValueLine.{ValueLine}
 
 -- what the tests of a value, or of the end, need

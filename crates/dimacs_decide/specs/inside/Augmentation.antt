@@ -1,14 +1,11 @@
 -- Inside: sending flow from nodes with excess to one with a deficit.
-use Rattle.std.specs.Prelude.{ℕ, ◌≡◌, Bool, true, List, ℤ, pos, ◌+ℤ◌, ◌≤ℤ◌, ◌<ℤ◌}
-use Rattle.std.specs.List.{AllZip}
+use Rattle.std.specs.{Prelude.{ℕ, ◌≡◌, Bool, true, List, ℤ, pos, ◌+ℤ◌, ◌≤ℤ◌, ◌<ℤ◌}, List.{AllZip}}
 use Rattle.dimacs_claims.specs.Cuts.{CutValue}
 use Rattle.dimacs_network.specs.declared.network.ArcView.{ArcView}
 use Rattle.dimacs_judging.specs.Cuts.{enters, leaves, members}
 use Rattle.dimacs_lines.specs.Limits.{IsNode}
-use Rattle.dimacs_decide.specs.Bounds.{KeepsBounds}
-use Rattle.dimacs_decide.specs.declared.send.Augmentation.{Augmentation}
-use Rattle.dimacs_decide.specs.declared.send.Augmentation.TheVariants.{Sent, Stuck}
-use Rattle.dimacs_decide.specs.inside.Raising.{Shifts}
+use Rattle.dimacs_decide.specs.{Bounds.{KeepsBounds}, declared.send.Augmentation.{Augmentation}}
+use Rattle.dimacs_decide.specs.{declared.send.Augmentation.TheVariants.{Sent, Stuck}, inside.Raising.{Shifts}}
 
 -- y is x with an amount sent from a node with that much excess to one with that much deficit
 pub record IsSent (nodes : ℕ) (arcs : List ArcView) (x y : List ℤ) (imbalance : ℕ → ℤ) : Type 0 where

@@ -1,12 +1,9 @@
 -- Inside: cancelling a cycle.
 use Rattle.std.specs.Prelude.{ℕ, ◌≡◌, ◌≢◌, ◌==◌, ◌<◌, List, length, ℤ, pos, ◌+ℤ◌, ◌-ℤ◌, ◌*ℤ◌, ◌≤ℤ◌, ◌<ℤ◌}
-use Rattle.dimacs_network.specs.declared.network.ArcView.{ArcView}
+use Rattle.dimacs_network.specs.{declared.network.ArcView.{ArcView}, Arcs.{arc_at}}
 use Rattle.dimacs_methods.specs.declared.potentials.claim.ResidualArc.{ResidualArc}
-use Rattle.dimacs_judging.specs.Flows.{net, cost, when}
-use Rattle.dimacs_judging.specs.Rows.{amount_at}
-use Rattle.dimacs_network.specs.Arcs.{arc_at}
-use Rattle.dimacs_decide.specs.Bounds.{KeepsBounds}
-use Rattle.dimacs_decide.specs.inside.Cycles.{ending_of, gain_after, node_after, residual_at}
+use Rattle.dimacs_judging.specs.{Flows.{net, cost, when}, Rows.{amount_at}}
+use Rattle.dimacs_decide.specs.{Bounds.{KeepsBounds}, inside.Cycles.{ending_of, gain_after, node_after, residual_at}}
 use Rattle.dimacs_decide.specs.inside.ResidualCapacities.{residual_capacity_on}
 
 -- the amount is positive, and the first n residual arcs have capacity for it

@@ -1,12 +1,9 @@
 -- Inside: cycles of residual arcs.
 use Rattle.std.specs.Prelude.{ℕ, suc, zero, ◌≡◌, ◌≢◌, ◌<◌, ◌-◌, List, length, get_or, ℤ, pos, ◌+ℤ◌, ◌<ℤ◌}
-use Rattle.dimacs_network.specs.declared.network.ArcView.{ArcView}
-use Rattle.dimacs_network.specs.declared.adjacency_lists.Side.TheVariants.{Tail}
-use Rattle.dimacs_network.specs.AdjacencyLists.{end_of, other_end}
+use Rattle.dimacs_network.specs.{declared.network.ArcView.{ArcView}, declared.adjacency_lists.Side.TheVariants.{Tail}}
+use Rattle.dimacs_network.specs.{AdjacencyLists.{end_of, other_end}, Arcs.{arc_at}}
 use Rattle.dimacs_methods.specs.declared.potentials.claim.ResidualArc.{ResidualArc}
-use Rattle.dimacs_network.specs.Arcs.{arc_at}
-use Rattle.dimacs_decide.specs.inside.Heights.{gain_at}
-use Rattle.dimacs_decide.specs.inside.ResidualCapacities.{residual_capacity_on}
+use Rattle.dimacs_decide.specs.{inside.Heights.{gain_at}, inside.ResidualCapacities.{residual_capacity_on}}
 
 abbrev pub residual_at : List ResidualArc → ℕ → ResidualArc
 residual_at cycle j = get_or cycle j (record { arc = 0; side = Tail })

@@ -3,9 +3,7 @@ use Rattle.std.specs.Prelude.{ℕ, ◌≡◌, Option, None, ℤ, Result, Ok, Err
 use Rattle.dimacs_lines.specs.Limits.{IsNode}
 use Rattle.dimacs_network.specs.Arcs.{NetworkValue}
 use Rattle.dimacs_claims.specs.Labels.{BlockValue, IsBlock, label}
-use Rattle.dimacs_judging.specs.Labels.{LabelsOk}
-use Rattle.dimacs_judging.specs.Tests.{FirstAlone}
-use Rattle.dimacs_judging.specs.declared.verdict.JudgeError.{JudgeError}
+use Rattle.dimacs_judging.specs.{Labels.{LabelsOk}, Tests.{FirstAlone}, declared.verdict.JudgeError.{JudgeError}}
 use Rattle.dimacs_judging.specs.declared.verdict.JudgeError.TheVariants.{Refused, Memory}
 use Rattle.dimacs_decide.specs.Distances.{AreDistancesFrom, claim_rows}
 

@@ -1,13 +1,9 @@
 -- Inside: blocks that label few nodes.
 use Rattle.std.specs.Prelude.{ℕ, ◌≡◌, ◌<◌, Bool, false, List, Contains, length, get_or, IfSome, Option, Some, None, ℤ}
-use Rattle.dimacs_network.specs.declared.network.ArcView.{ArcView}
-use Rattle.dimacs_network.specs.Arcs.{NetworkValue, arc_at}
-use Rattle.dimacs_network.specs.AdjacencyLists.{AreAdjacencyLists}
-use Rattle.dimacs_network.specs.declared.adjacency_lists.Side.TheVariants.{Tail}
+use Rattle.dimacs_network.specs.{declared.network.ArcView.{ArcView}, Arcs.{NetworkValue, arc_at}, Tables.{value_of}}
+use Rattle.dimacs_network.specs.{AdjacencyLists.{AreAdjacencyLists}, declared.adjacency_lists.Side.TheVariants.{Tail}}
 use Rattle.dimacs_records.specs.declared.reasons.Reason.{Reason}
-use Rattle.dimacs_judging.specs.CertificateTests.{RelaxFails}
-use Rattle.dimacs_judging.specs.LightestArcs.{Covers}
-use Rattle.dimacs_network.specs.Tables.{value_of}
+use Rattle.dimacs_judging.specs.{CertificateTests.{RelaxFails}, LightestArcs.{Covers}}
 use Rattle.dimacs_claims.specs.Labels.{BlockValue, distance_in, no_label}
 use Rattle.dimacs_decide.specs.declared.few_labels.Tables.{Tables}
 

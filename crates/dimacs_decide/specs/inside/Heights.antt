@@ -1,11 +1,9 @@
 -- Inside: potentials that were raised over residual arcs.
 use Rattle.std.specs.Prelude.{ℕ, suc, zero, ◌≡◌, ◌≢◌, ◌⊎◌, ◌<◌, ◌≤◌, ◌+◌, ◌-◌, ◌*◌, ◌==◌, if◌then◌else◌, Bool, true, false, List, length, ℤ, pos, neg_ℤ, ◌+ℤ◌, ◌-ℤ◌, ◌≤ℤ◌, ◌<ℤ◌}
-use Rattle.dimacs_network.specs.declared.network.ArcView.{ArcView}
-use Rattle.dimacs_instance.specs.MinFlows.{positive_part}
-use Rattle.dimacs_network.specs.Arcs.{arc_at}
+use Rattle.dimacs_network.specs.{declared.network.ArcView.{ArcView}, Arcs.{arc_at}, AdjacencyLists.{end_of, other_end}}
 use Rattle.dimacs_network.specs.declared.adjacency_lists.Side.{Side}
 use Rattle.dimacs_network.specs.declared.adjacency_lists.Side.TheVariants.{Tail, Head}
-use Rattle.dimacs_network.specs.AdjacencyLists.{end_of, other_end}
+use Rattle.dimacs_instance.specs.MinFlows.{positive_part}
 use Rattle.dimacs_decide.specs.declared.heights.HeightLabel.{HeightLabel}
 use Rattle.dimacs_decide.specs.inside.ResidualCapacities.{residual_capacity_on}
 

@@ -5,9 +5,9 @@ use Rattle.dimacs_lines.specs.Limits.{IsNode}
 use Rattle.dimacs_network.specs.Tables.{value_of}
 use Rattle.dimacs_decide.specs.FeasibilityDecision.{DecidesFeasible, imbalance_at}
 use Rattle.dimacs_decide.specs.declared.feasible.NodeTest.{NodeTest}
-use Rattle.dimacs_decide.specs.declared.feasible.NodeTest.TheVariants as looks
 use Rattle.dimacs_decide.specs.declared.imbalance.ImbalanceSigns.{ImbalanceSigns}
 use Rattle.dimacs_decide.specs.declared.imbalance.ImbalanceSigns.TheVariants.{Even, Excess, Deficit}
+use Rattle.dimacs_decide.specs.declared.feasible.NodeTest.TheVariants as looks
 
 abbrev pub AreImbalances : MinValue → List ℤ → (ℕ → ℤ) → Type 0
 AreImbalances i x imbalance = (v : ℕ) → IsNode i.nodes v → imbalance v ≡ imbalance_at i x v

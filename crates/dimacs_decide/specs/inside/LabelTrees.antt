@@ -1,10 +1,8 @@
 -- Inside: labels of nodes that lead back to the source, and the path back from one more.
 use Rattle.std.specs.Prelude.{ℕ, ◌≡◌, ◌≢◌, ◌<◌, ◌≤◌, ◌+◌, ◌⊎◌, Bool, true, false, List, [], ◌∷◌, All, length, Option, Some, None, IsSome, is_some, ℤ}
 use Rattle.dimacs_lines.specs.Limits.{most_nodes, IsNode}
-use Rattle.dimacs_claims.specs.declared.block.Label.{Label}
-use Rattle.dimacs_claims.specs.Labels.{BlockValue, EachAfter, IsBlock, label}
-use Rattle.dimacs_decide.specs.Predecessors.{IsNext, LeadsBack}
-use Rattle.dimacs_decide.specs.inside.TightTrees.{absent}
+use Rattle.dimacs_claims.specs.{declared.block.Label.{Label}, Labels.{BlockValue, EachAfter, IsBlock, label}}
+use Rattle.dimacs_decide.specs.{Predecessors.{IsNext, LeadsBack}, inside.TightTrees.{absent}}
 
 -- distances of nodes, and predecessors of no others
 pub record IsProposed (nodes : ℕ) (claim : ℕ → Option ℤ) (pred : ℕ → ℕ) : Type 0 where

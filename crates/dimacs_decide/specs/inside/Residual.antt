@@ -1,12 +1,9 @@
 -- Inside: what a search over residual arcs has found.
 use Rattle.std.specs.Prelude.{ℕ, ◌≡◌, ◌≢◌, ◌⊎◌, ◌<◌, ◌≤◌, ◌+◌, ◌==◌, Bool, nat_lt, List, [], ◌∷◌, ◌++◌, length, slice_index, ℤ, pos, ◌≤ℤ◌, ◌<ℤ◌, Option, Some, None}
-use Rattle.dimacs_network.specs.declared.network.ArcView.{ArcView}
-use Rattle.dimacs_lines.specs.Limits.{IsNode}
-use Rattle.dimacs_network.specs.Arcs.{arc_at}
+use Rattle.dimacs_network.specs.{declared.network.ArcView.{ArcView}, Arcs.{arc_at}, AdjacencyLists.{end_of, other_end}}
 use Rattle.dimacs_network.specs.declared.adjacency_lists.Side.{Side}
-use Rattle.dimacs_decide.specs.declared.search.Visit.{Visit}
-use Rattle.dimacs_decide.specs.inside.Counting.{count_below}
-use Rattle.dimacs_network.specs.AdjacencyLists.{end_of, other_end}
+use Rattle.dimacs_lines.specs.Limits.{IsNode}
+use Rattle.dimacs_decide.specs.{declared.search.Visit.{Visit}, inside.Counting.{count_below}}
 use Rattle.dimacs_decide.specs.inside.ResidualCapacities.{residual_capacity_on}
 
 abbrev pub unvisited : Visit

@@ -1,10 +1,8 @@
 -- Inside: residual capacities, and the amounts of arcs after some was sent.
 use Rattle.std.specs.Prelude.{ℕ, List, ℤ, ◌+ℤ◌, ◌-ℤ◌}
-use Rattle.dimacs_network.specs.declared.network.ArcView.{ArcView}
-use Rattle.dimacs_network.specs.declared.adjacency_lists.Side.{Side}
-use Rattle.dimacs_network.specs.declared.adjacency_lists.Side.TheVariants.{Tail, Head}
+use Rattle.dimacs_network.specs.{declared.network.ArcView.{ArcView}, declared.adjacency_lists.Side.{Side}}
+use Rattle.dimacs_network.specs.{declared.adjacency_lists.Side.TheVariants.{Tail, Head}, Arcs.{arc_at}}
 use Rattle.dimacs_judging.specs.Rows.{amount_at}
-use Rattle.dimacs_network.specs.Arcs.{arc_at}
 
 -- the residual capacity of an arc from this end
 abbrev pub residual_capacity_at : Side → ArcView → ℤ → ℤ

@@ -1,8 +1,7 @@
 -- Inside: the test of an arc that may give its head a predecessor.
 use Rattle.std.specs.Prelude.{ℕ, ◌≡◌, Option, ℤ, pos, ◌+ℤ◌, ◌≤ℤ◌, ◌<ℤ◌}
 use Rattle.dimacs_network.specs.declared.network.ArcView.{ArcView}
-use Rattle.dimacs_decide.specs.TightTails.{IsPositiveTight, IsRelaxedBy}
-use Rattle.dimacs_decide.specs.declared.tight_tails.ArcTest.{ArcTest}
+use Rattle.dimacs_decide.specs.{TightTails.{IsPositiveTight, IsRelaxedBy}, declared.tight_tails.ArcTest.{ArcTest}}
 use Rattle.dimacs_decide.specs.declared.tight_tails.ArcTest.TheVariants.{Passes, Tight, Fails}
 
 -- the result for an arc with this weight between these claims

@@ -4,8 +4,7 @@ use Rattle.dimacs_lines.specs.Limits.{IsNode}
 use Rattle.dimacs_network.specs.declared.network.ArcView.{ArcView}
 use Rattle.dimacs_claims.specs.Labels.{BlockValue, IsBlock, label, no_label}
 use Rattle.dimacs_judging.specs.Labels.{HasTightArc}
-use Rattle.dimacs_decide.specs.Distances.{IsTight, IsTightlyReached}
-use Rattle.dimacs_decide.specs.inside.Counting.{count_below}
+use Rattle.dimacs_decide.specs.{Distances.{IsTight, IsTightlyReached}, inside.Counting.{count_below}}
 
 -- the node at a place of a block: first the source, then the nodes of the labels
 abbrev pub node_at : BlockValue → ℕ → ℕ

@@ -1,8 +1,7 @@
 -- Inside: going down from raised nodes to those that they were raised from.
 use Rattle.std.specs.Prelude.{ℕ, ◌≡◌, ◌≢◌, ◌⊎◌, ◌<◌, ◌≤◌, ◌+◌, ◌-◌, ◌==◌, List, length, slice_index, ◌+ℤ◌, ◌≤ℤ◌, Option, Some, None}
 use Rattle.dimacs_network.specs.declared.network.ArcView.{ArcView}
-use Rattle.dimacs_decide.specs.declared.heights.HeightLabel.{HeightLabel}
-use Rattle.dimacs_decide.specs.inside.Counting.{count_below}
+use Rattle.dimacs_decide.specs.{declared.heights.HeightLabel.{HeightLabel}, inside.Counting.{count_below}}
 use Rattle.dimacs_decide.specs.inside.Heights.{below_of, bound, height_of}
 
 -- how many of the nodes below n have no place

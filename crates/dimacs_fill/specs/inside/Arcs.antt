@@ -1,10 +1,8 @@
 -- Inside: the arcs among records.
-use Rattle.std.specs.Prelude.{List, Option, Some, None}
-use Rattle.std.specs.List.{filter_map}
+use Rattle.std.specs.{Prelude.{List, Option, Some, None}, List.{filter_map}}
 use Rattle.dimacs_records.specs.declared.records.Record.{Record}
 use Rattle.dimacs_records.specs.declared.records.Record.TheVariants.{MaxArc, MinArc, GraphArc}
-use Rattle.dimacs_network.specs.declared.network.ArcView.{ArcView}
-use Rattle.dimacs_network.specs.KeptArcs.{capacity_arc, cost_arc, weight_arc}
+use Rattle.dimacs_network.specs.{declared.network.ArcView.{ArcView}, KeptArcs.{capacity_arc, cost_arc, weight_arc}}
 
 -- the arc that a record spells, if any
 abbrev pub arc_in : Record → Option ArcView

@@ -1,6 +1,5 @@
 -- Inside: the arrays that get the arcs of a text.
-use Rattle.std.specs.Prelude.{ℕ, ◌≡◌, ◌≤◌, List, length, take, drop}
-use Rattle.std.specs.Borrow.{MutBor}
+use Rattle.std.specs.{Prelude.{ℕ, ◌≡◌, ◌≤◌, List, length, take, drop}, Borrow.{MutBor}}
 use Rattle.dimacs_lines.specs.Limits.{most_count}
 use Rattle.dimacs_network.specs.declared.network.ArcView.{ArcView}
 use Rattle.dimacs_fill.specs.declared.arc_reading.ArcColumns.{ArcColumns}

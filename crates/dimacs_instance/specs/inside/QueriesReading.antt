@@ -1,8 +1,7 @@
 -- Inside: queries while their text is read.
 use Rattle.std.specs.Prelude.{◌≤◌, length}
 use Rattle.dimacs_lines.specs.Limits.{most_count}
-use Rattle.dimacs_instance.specs.QueryTexts.{HaveIds, query_lines}
-use Rattle.dimacs_instance.specs.QueriesReading.{QueriesBegun}
+use Rattle.dimacs_instance.specs.{QueryTexts.{HaveIds, query_lines}, QueriesReading.{QueriesBegun}}
 
 -- a lawful state
 pub record AreQueriesBegun (begun : QueriesBegun) : Type 0 where

@@ -4,8 +4,7 @@ ghost use Rattle.std.specs.Prelude.{refl};
 ghost use Rattle.dimacs_records.specs.declared.kinds.TextKind.TheVariants as kinds;
 ghost use Rattle.dimacs_network.specs.Arcs.{NetworkValue};
 ghost use Rattle.dimacs_instance.specs.Graph.{GivesGraph, SpellsGraph, shown_graph};
-ghost use Rattle.dimacs_instance.specs.Summaries.{SumsUpGraph, graph_summary_line};
-ghost use Rattle.dimacs_instance.specs.Summaries.{GivesSummary, IsGraphCountedBy, counted_lines};
+ghost use Rattle.dimacs_instance.specs.Summaries.{SumsUpGraph, graph_summary_line, GivesSummary, IsGraphCountedBy, counted_lines};
 
 use crate::summaries::Summary;
 use dimacs_lines::{DeviceFault, Memory, Sink, Source};

@@ -2,12 +2,9 @@
 
 ghost use Rattle.std.specs.Prelude.{◌≡◌, refl};
 ghost use Rattle.dimacs_records.specs.declared.kinds.TextKind.TheVariants as kinds;
-ghost use Rattle.dimacs_instance.specs.MaxFlows.{MaxValue};
-ghost use Rattle.dimacs_instance.specs.MaxReading.{plain_context, context, end_context};
-ghost use Rattle.dimacs_instance.specs.MaxReading.{IsMaxCountedBy};
-ghost use Rattle.dimacs_instance.specs.MaxTexts.{GivesMax, SpellsMax, shown_max};
-ghost use Rattle.dimacs_instance.specs.Summaries.{SumsUpMax, max_summary_line};
-ghost use Rattle.dimacs_instance.specs.Summaries.{GivesSummary};
+ghost use Rattle.dimacs_instance.specs.{MaxFlows.{MaxValue}, MaxTexts.{GivesMax, SpellsMax, shown_max}};
+ghost use Rattle.dimacs_instance.specs.MaxReading.{plain_context, context, end_context, IsMaxCountedBy};
+ghost use Rattle.dimacs_instance.specs.Summaries.{SumsUpMax, max_summary_line, GivesSummary};
 
 use crate::max::{EndLine, EndLines};
 use crate::summaries::Summary;

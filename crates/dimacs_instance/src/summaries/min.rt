@@ -2,12 +2,9 @@
 
 ghost use Rattle.std.specs.Prelude.{◌≡◌, refl};
 ghost use Rattle.dimacs_records.specs.declared.kinds.TextKind.TheVariants as kinds;
-ghost use Rattle.dimacs_instance.specs.MinFlows.{MinValue};
-ghost use Rattle.dimacs_instance.specs.MinReading.{plain_context, context};
-ghost use Rattle.dimacs_instance.specs.MinReading.{IsMinCountedBy};
+ghost use Rattle.dimacs_instance.specs.{MinFlows.{MinValue}, MinReading.{plain_context, context, IsMinCountedBy}};
 ghost use Rattle.dimacs_instance.specs.MinTexts.{GivesMin, SpellsMin, shown_min};
-ghost use Rattle.dimacs_instance.specs.Summaries.{HasNodes, SumsUpMin, min_summary, min_summary_line};
-ghost use Rattle.dimacs_instance.specs.Summaries.{GivesSummary};
+ghost use Rattle.dimacs_instance.specs.Summaries.{HasNodes, SumsUpMin, min_summary, min_summary_line, GivesSummary};
 
 use crate::min::MinInstance;
 use crate::summaries::Summary;

@@ -1,9 +1,7 @@
 -- Inside: the first arcs of a network, in chains by their ends.
 use Rattle.std.specs.Prelude.{ℕ, ◌≤◌, ◌+◌, ◌*◌, ◌-◌, ◌/◌, ◌^◌, List, Option, Some, None, length, map, get_or, bit_and}
-use Rattle.dimacs_network.specs.declared.network.ArcView.{ArcView}
-use Rattle.dimacs_network.specs.declared.adjacency_lists.Side.TheVariants.{Tail}
-use Rattle.dimacs_network.specs.Arcs.{IsKthBetween, no_arc}
-use Rattle.dimacs_network.specs.AdjacencyLists.{AreLinked}
+use Rattle.dimacs_network.specs.{declared.network.ArcView.{ArcView}, declared.adjacency_lists.Side.TheVariants.{Tail}}
+use Rattle.dimacs_network.specs.{Arcs.{IsKthBetween, no_arc}, AdjacencyLists.{AreLinked}}
 use Rattle.dimacs_judging.specs.declared.arc_chains.ArcChains.{ArcChains}
 
 -- the first arc between two nodes

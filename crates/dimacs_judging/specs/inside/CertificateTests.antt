@@ -2,8 +2,7 @@
 use Rattle.std.specs.Prelude.{List, [], ◌∷◌}
 use Rattle.dimacs_network.specs.declared.network.ArcView.{ArcView}
 use Rattle.dimacs_claims.specs.Labels.{BlockValue}
-use Rattle.dimacs_judging.specs.Tests.{Row}
-use Rattle.dimacs_judging.specs.CertificateTests.{weight_row, support_row, relax_row}
+use Rattle.dimacs_judging.specs.{Tests.{Row}, CertificateTests.{weight_row, support_row, relax_row}}
 
 -- the tests of the labels of one block, then of the arcs between them
 abbrev pub distance_rows : List ArcView → BlockValue → List Row

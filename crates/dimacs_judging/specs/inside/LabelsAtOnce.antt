@@ -1,9 +1,7 @@
 -- Inside: a block's labels in one piece, for a yes.
 use Rattle.std.specs.Prelude.{ℕ, ◌≡◌, ◌^◌, ◌-◌, ◌⊎◌, ℤ, pos, ◌<ℤ◌}
-use Rattle.dimacs_network.specs.DenseTables.{value_at}
-use Rattle.dimacs_network.specs.declared.dense_table.DenseTable.{DenseTable}
-use Rattle.dimacs_judging.specs.Distances.{below}
-use Rattle.dimacs_judging.specs.declared.node_label.NodeLabel.{NodeLabel}
+use Rattle.dimacs_network.specs.{DenseTables.{value_at}, declared.dense_table.DenseTable.{DenseTable}}
+use Rattle.dimacs_judging.specs.{Distances.{below}, declared.node_label.NodeLabel.{NodeLabel}}
 use Rattle.dimacs_judging.specs.inside.NodeLabels.{NodeEntry, entry_of}
 
 abbrev pub entries_at : DenseTable (NodeLabel ℤ) → ℕ → NodeEntry

@@ -1,20 +1,13 @@
 -- Inside: a judge's table with the labels of a block.
 use Rattle.std.specs.Prelude.{ℕ, ◌≡◌, ◌≢◌, ◌<◌, ◌≤◌, ◌^◌, ◌⊎◌, ◌↔◌, Bool, true, false, List, Contains, count_by, Option, Some, None, IfSome, ℤ, ◌+ℤ◌, ◌-◌, pos, nat_le}
-use Rattle.dimacs_network.specs.declared.node_table.NodeTable.{NodeTable}
-use Rattle.dimacs_network.specs.Tables.{blank_of, value_of}
-use Rattle.dimacs_records.specs.Ranges.{IsWide}
+use Rattle.dimacs_network.specs.{declared.node_table.NodeTable.{NodeTable}, Tables.{blank_of, value_of}, Arcs.{arc_at}}
 use Rattle.dimacs_network.specs.declared.network.ArcView.{ArcView}
-use Rattle.dimacs_claims.specs.declared.block.Label.{Label}
-use Rattle.dimacs_claims.specs.Labels.{BlockValue, label}
-use Rattle.dimacs_judging.specs.declared.node_label.NodeLabel.{NodeLabel}
-use Rattle.dimacs_judging.specs.declared.node_labels.Tables.{Tables}
-use Rattle.dimacs_judging.specs.declared.node_labels.Weights.{Weights}
-use Rattle.dimacs_judging.specs.declared.node_labels.Weights.TheVariants.{Untested, NotNegative}
-use Rattle.dimacs_judging.specs.CertificateTests.{negative_row, relax_row}
-use Rattle.dimacs_network.specs.Arcs.{arc_at}
-use Rattle.dimacs_judging.specs.Labels.{HasTightArc}
-use Rattle.dimacs_judging.specs.Tests.{Clear, ClearBelow}
-use Rattle.dimacs_judging.specs.Distances.{below}
+use Rattle.dimacs_records.specs.Ranges.{IsWide}
+use Rattle.dimacs_claims.specs.{declared.block.Label.{Label}, Labels.{BlockValue, label}}
+use Rattle.dimacs_judging.specs.{declared.node_label.NodeLabel.{NodeLabel}, declared.node_labels.Tables.{Tables}}
+use Rattle.dimacs_judging.specs.{declared.node_labels.Weights.{Weights}, CertificateTests.{negative_row, relax_row}}
+use Rattle.dimacs_judging.specs.{declared.node_labels.Weights.TheVariants.{Untested, NotNegative}, Labels.{HasTightArc}}
+use Rattle.dimacs_judging.specs.{Tests.{Clear, ClearBelow}, Distances.{below}}
 
 -- the weights are as tested so far
 abbrev pub AreAsTested : List ArcView → Weights → Type 0

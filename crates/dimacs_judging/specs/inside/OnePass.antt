@@ -3,14 +3,9 @@ use Rattle.std.specs.Prelude.{ℕ, ◌≡◌, ◌≢◌, ◌^◌, ◌==◌, ◌+
 use Rattle.dimacs_lines.specs.Limits.{IsNode}
 use Rattle.dimacs_network.specs.declared.network.ArcView.{ArcView}
 use Rattle.dimacs_records.specs.declared.reasons.Reason.{Reason}
-use Rattle.dimacs_judging.specs.declared.one_pass.NodeState.{NodeState}
-use Rattle.dimacs_judging.specs.declared.one_pass.Totals.{Totals}
-use Rattle.dimacs_judging.specs.Flows.{when, net, cost}
-use Rattle.dimacs_judging.specs.FlowTests.{BoundFails, feasible_rows, cost_row}
-use Rattle.dimacs_judging.specs.Potentials.{reduced_cost}
-use Rattle.dimacs_judging.specs.Rows.{flow_row}
-use Rattle.dimacs_judging.specs.Tests.{AllClear}
-use Rattle.dimacs_judging.specs.inside.Ranges.{IsOfSize}
+use Rattle.dimacs_judging.specs.{declared.one_pass.NodeState.{NodeState}, declared.one_pass.Totals.{Totals}}
+use Rattle.dimacs_judging.specs.{Flows.{when, net, cost}, FlowTests.{BoundFails, feasible_rows, cost_row}}
+use Rattle.dimacs_judging.specs.{Potentials.{reduced_cost}, Rows.{flow_row}, Tests.{AllClear}, inside.Ranges.{IsOfSize}}
 
 -- 1 for the members of a set, and 0 for others
 abbrev pub indicator : (ℕ → Bool) → ℕ → ℤ

@@ -1,14 +1,11 @@
 -- Inside: a flow while entries are put on their arcs, entry by entry.
 use Rattle.std.specs.Prelude.{List, ℤ, Result, Ok, Err, ◌++◌, ◌∷◌, [], ◌≡◌, ◌<◌, ◌≤◌, ◌^◌, Bool, true, false, length, replicate, if◌then◌else◌, Option, None, Some}
-use Rattle.dimacs_network.specs.declared.network.ArcView.{ArcView}
+use Rattle.dimacs_network.specs.{declared.network.ArcView.{ArcView}, declared.arc_index.ArcIndex.{ArcIndex}}
+use Rattle.dimacs_network.specs.ArcOrder.{HasRoom, Indexes}
 use Rattle.dimacs_claims.specs.declared.solution.Entry.{Entry}
 use Rattle.dimacs_records.specs.declared.reasons.Reason.{Reason}
-use Rattle.dimacs_judging.specs.declared.verdict.Where.{Where}
-use Rattle.dimacs_judging.specs.Claims.{Carries, EntryFails, entry_row}
-use Rattle.dimacs_judging.specs.Tests.{Clear, FirstOfRow}
-use Rattle.dimacs_judging.specs.Places.{PlacesValue, HavePlaced}
-use Rattle.dimacs_network.specs.declared.arc_index.ArcIndex.{ArcIndex}
-use Rattle.dimacs_network.specs.ArcOrder.{HasRoom, Indexes}
+use Rattle.dimacs_judging.specs.{declared.verdict.Where.{Where}, Claims.{Carries, EntryFails, entry_row}}
+use Rattle.dimacs_judging.specs.{Tests.{Clear, FirstOfRow}, Places.{PlacesValue, HavePlaced}}
 
 -- an amount for each arc and, from the first entry out of order on, a count
 pub record HaveRoom (p : PlacesValue) : Type 0 where

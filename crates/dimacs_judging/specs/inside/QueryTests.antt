@@ -1,14 +1,10 @@
 -- Inside: the tests of queries: their nodes, and the blocks that answer them.
-use Rattle.std.specs.Prelude.{ℕ, ◌≡◌, List, [], ◌∷◌, Option, Result, Ok, Err, ℤ, option_and_then}
-use Rattle.std.specs.List.{position}
-use Rattle.std.specs.Ordering.{nat_cmp}
-use Rattle.std.specs.FinMap.{FinMap, get}
+use Rattle.std.specs.{Prelude.{ℕ, ◌≡◌, List, [], ◌∷◌, Option, Result, Ok, Err, ℤ, option_and_then}, List.{position}}
+use Rattle.std.specs.{Ordering.{nat_cmp}, FinMap.{FinMap, get}}
 use Rattle.dimacs_instance.specs.QueryTexts.{QueriesValue}
 use Rattle.dimacs_claims.specs.Labels.{BlockValue, has_source}
-use Rattle.dimacs_judging.specs.declared.verdict.JudgeError.{JudgeError}
-use Rattle.dimacs_judging.specs.Answers.{block_of}
+use Rattle.dimacs_judging.specs.{declared.verdict.JudgeError.{JudgeError}, Answers.{block_of}, QueryTests.{block_row}}
 use Rattle.dimacs_judging.specs.Tests.{Clear, FirstOfRow, Refuses}
-use Rattle.dimacs_judging.specs.QueryTests.{block_row}
 
 -- the nodes of a pair, FROM before TO
 abbrev pub ends_of : ℕ × ℕ → List ℕ

@@ -1,8 +1,7 @@
 -- Inside: rows of tests, in order, and the first test that fails.
 use Rattle.std.specs.Prelude.{◌≡◌, ℤ, List, Option, None, Some, Result, Ok, Err}
 use Rattle.dimacs_records.specs.declared.reasons.Reason.{Reason}
-use Rattle.dimacs_judging.specs.declared.verdict.Where.{Where}
-use Rattle.dimacs_judging.specs.declared.verdict.JudgeError.{JudgeError}
+use Rattle.dimacs_judging.specs.{declared.verdict.Where.{Where}, declared.verdict.JudgeError.{JudgeError}}
 use Rattle.dimacs_judging.specs.declared.verdict.JudgeError.TheVariants.{Refused, Memory}
 use Rattle.dimacs_judging.specs.Tests.{Row, AllClear, First, Refuses}
 

@@ -1,13 +1,10 @@
 -- Inside: the steps of a line reader within its buffer.
 use Rattle.std.specs.Prelude.{ℕ, ◌+◌, ◌≡◌, ◌≢◌, ◌≤◌, ◌<◌, ◌⊎◌, ◌++◌, List, [], length, Option, Some, None, Result, Ok, Err}
 use Rattle.std.specs.List.{position_or_len, before_first, after_first}
-use Rattle.dimacs_lines.specs.declared.reader.LinesError.{LinesError}
+use Rattle.dimacs_lines.specs.{declared.reader.LinesError.{LinesError}, Limits.{longest_line, most_lines, most_held}}
 use Rattle.dimacs_lines.specs.declared.reader.LinesError.TheVariants.{TooMany, TooLong, Device, Memory}
-use Rattle.dimacs_lines.specs.declared.reader.Progress.TheVariants.{Ended, Failed}
-use Rattle.dimacs_lines.specs.Limits.{longest_line, most_lines, most_held}
-use Rattle.dimacs_lines.specs.Devices.{before_piece}
-use Rattle.dimacs_lines.specs.Lines.{is_end}
-use Rattle.dimacs_lines.specs.Reader.{State}
+use Rattle.dimacs_lines.specs.{declared.reader.Progress.TheVariants.{Ended, Failed}, Devices.{before_piece}}
+use Rattle.dimacs_lines.specs.{Lines.{is_end}, Reader.{State}}
 
 -- the last line and the held bytes lie within the buffer, and the buffer is bounded
 pub record IsLaidOut (line_start line_end next end given size : ℕ) : Type 0 where

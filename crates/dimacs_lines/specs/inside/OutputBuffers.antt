@@ -1,7 +1,6 @@
 -- Inside: what was written to a sink through a buffer.
 use Rattle.std.specs.Prelude.{ℕ, ◌≡◌, List, Bool, true, false}
-use Rattle.dimacs_lines.specs.Devices.{Written, after_piece, one_more}
-use Rattle.dimacs_lines.specs.Puts.{AcceptsFront}
+use Rattle.dimacs_lines.specs.{Devices.{Written, after_piece, one_more}, Puts.{AcceptsFront}}
 
 -- the bytes were written, unless a write had failed before; `failed` is whether one has failed by now
 abbrev pub IsPut : Bool → Written → List ℕ → Bool → Written → Type 0

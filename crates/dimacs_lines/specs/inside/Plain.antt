@@ -1,10 +1,8 @@
 -- Inside: numbers in a buffer with a given byte right after them.
 use Rattle.std.specs.Prelude.{ℕ, ◌≡◌, ◌≤◌, ◌<◌, ◌+◌, ◌*◌, ◌/◌, ◌%◌, ◌^◌, ◌==◌, Bool, not, List, length, map, take, drop, slice_index}
-use Rattle.std.specs.List.{All}
-use Rattle.std.specs.Char.{IsAsciiDigit, is_ascii_digit}
+use Rattle.std.specs.{List.{All}, Char.{IsAsciiDigit, is_ascii_digit}}
 use lib.Lanes.{mask_l}
-use Rattle.dimacs_lines.specs.Number.{place_sum}
-use Rattle.dimacs_lines.specs.Plain.{EndsAt, NumbersLeft}
+use Rattle.dimacs_lines.specs.{Number.{place_sum}, Plain.{EndsAt, NumbersLeft}}
 
 -- the bit of 16 is set, as in all digits
 abbrev pub has_sixteen : ℕ → Bool

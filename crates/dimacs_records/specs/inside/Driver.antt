@@ -1,19 +1,15 @@
 -- Inside: how far a text has been read.
 use Rattle.std.specs.Prelude.{ℕ, ◌+◌, ◌≡◌, ◌≤◌, List, [], ◌∷◌, ◌++◌, length, Option, Some, None, Result, Ok, Err}
-use Rattle.dimacs_lines.specs.Lines.{lines}
-use Rattle.dimacs_records.specs.declared.kinds.TextKind.{TextKind}
-use Rattle.dimacs_records.specs.declared.records.Record.{Record}
-use Rattle.dimacs_records.specs.declared.faults.ReadError.{ReadError}
-use Rattle.dimacs_records.specs.declared.faults.ReadError.TheVariants as read_errors
-use Rattle.dimacs_lines.specs.declared.reader.LinesError.{LinesError}
-use Rattle.dimacs_lines.specs.declared.reader.LinesError.TheVariants as line_errors
+use Rattle.dimacs_lines.specs.{Lines.{lines}, declared.reader.LinesError.{LinesError}}
 use Rattle.dimacs_lines.specs.Limits.{longest_line, most_lines}
-use Rattle.dimacs_records.specs.declared.faults.TakeError.{TakeError}
-use Rattle.dimacs_records.specs.declared.faults.TakeError.TheVariants as take_errors
+use Rattle.dimacs_records.specs.{declared.kinds.TextKind.{TextKind}, declared.records.Record.{Record}}
+use Rattle.dimacs_records.specs.{declared.faults.ReadError.{ReadError}, declared.faults.TakeError.{TakeError}}
 use Rattle.dimacs_records.specs.declared.reasons.Reason.TheVariants.{LineTooLong, LineLimit}
-use Rattle.dimacs_records.specs.Order.{at, places, FirstOf}
-use Rattle.dimacs_records.specs.Faults.{Condition, IsClean, records_in}
+use Rattle.dimacs_records.specs.{Order.{at, places, FirstOf}, Faults.{Condition, IsClean, records_in}}
 use Rattle.dimacs_records.specs.Readings.{LineRecord, numbered, IsReadWhole, RefusesLine}
+use Rattle.dimacs_records.specs.declared.faults.ReadError.TheVariants as read_errors
+use Rattle.dimacs_lines.specs.declared.reader.LinesError.TheVariants as line_errors
+use Rattle.dimacs_records.specs.declared.faults.TakeError.TheVariants as take_errors
 
 -- the first `count` lines are read and clean, the reading stands for their records, and this text is left
 pub record IsReadSoFar (kind : TextKind) (all : List (List ℕ)) (count : ℕ) (left : Option (List ℕ)) (stands_for : List LineRecord → Type 0) : Type 0 where

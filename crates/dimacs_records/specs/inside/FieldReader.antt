@@ -1,20 +1,14 @@
 -- Inside: reading typed fields one after another, with the first fault among them.
 use Rattle.std.specs.Prelude.{ℕ, suc, ◌≡◌, ◌==◌, true, false, List, [], ◌∷◌, Bool, ◌||◌, not, ℤ, Option, Some, None, Result, Ok, Err, if◌then◌else◌, length, map}
-use Rattle.dimacs_lines.specs.Fields.{Run}
-use Rattle.dimacs_lines.specs.declared.numbers.NumberFault.{NumberFault}
-use Rattle.dimacs_lines.specs.declared.numbers.NumberFault.TheVariants as number_faults
-use Rattle.dimacs_records.specs.declared.kinds.TextKind.{TextKind}
-use Rattle.dimacs_records.specs.declared.records.Record.{Record}
-use Rattle.dimacs_records.specs.declared.reasons.Reason.{Reason}
+use Rattle.dimacs_lines.specs.{Fields.{Run}, declared.numbers.NumberFault.{NumberFault}}
+use Rattle.dimacs_records.specs.{declared.kinds.TextKind.{TextKind}, declared.records.Record.{Record}}
+use Rattle.dimacs_records.specs.{declared.reasons.Reason.{Reason}, declared.faults.LineFault.{LineFault}}
 use Rattle.dimacs_records.specs.declared.reasons.Reason.TheVariants.{UnknownLine, FieldCount, BadNumber, NumberRange, BadWord}
-use Rattle.dimacs_records.specs.declared.faults.LineFault.{LineFault}
-use Rattle.dimacs_records.specs.declared.field_reader.Choice.{Choice}
-use Rattle.dimacs_records.specs.declared.field_reader.Choice.TheVariants.{Former, Latter}
-use Rattle.dimacs_records.specs.declared.field_reader.FieldReader.{FieldReader}
-use Rattle.dimacs_records.specs.Earlier.{or_else}
-use Rattle.dimacs_records.specs.Forms.{FieldType, Number, Radius, forms}
+use Rattle.dimacs_records.specs.{declared.field_reader.Choice.{Choice}, declared.field_reader.FieldReader.{FieldReader}}
+use Rattle.dimacs_records.specs.{declared.field_reader.Choice.TheVariants.{Former, Latter}, Earlier.{or_else}}
+use Rattle.dimacs_records.specs.{Forms.{FieldType, Number, Radius, forms}, Shapes.{field_condition, types_in}}
 use Rattle.dimacs_records.specs.Spelling.{Part, Amount, SpellsField, SpellFields, kind_of, letter_of, parts_of}
-use Rattle.dimacs_records.specs.Shapes.{field_condition, types_in}
+use Rattle.dimacs_lines.specs.declared.numbers.NumberFault.TheVariants as number_faults
 
 abbrev pub fault_at : ℕ → Reason → LineFault
 fault_at field reason = record { field = field; reason = reason }

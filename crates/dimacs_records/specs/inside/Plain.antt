@@ -1,18 +1,11 @@
 -- Inside: lines in the plain form: a letter, one blank before each field, and the line's end right after the last.
 use Rattle.std.specs.Prelude.{ℕ, ℤ, pos, ◌+◌, ◌≡◌, ◌≤◌, List, [], ◌∷◌, ◌++◌, length, drop, Option, Some, Result, Ok, Err}
 use Rattle.std.specs.List.{All, Contains}
-use Rattle.dimacs_lines.specs.Devices.{before_piece}
-use Rattle.dimacs_lines.specs.Lines.{lines}
-use Rattle.dimacs_lines.specs.Plain.{EndsAt}
-use Rattle.dimacs_lines.specs.Limits.{longest_line}
-use Rattle.dimacs_records.specs.declared.faults.ReadError.{ReadError}
-use Rattle.dimacs_records.specs.declared.kinds.TextKind.{TextKind}
-use Rattle.dimacs_records.specs.declared.records.Record.{Record}
-use Rattle.dimacs_records.specs.declared.plain.PlainLines.{PlainLines}
-use Rattle.dimacs_records.specs.inside.Driver.{IsReadSoFar}
-use Rattle.dimacs_records.specs.Forms.{FieldType, Id, Whole, form, forms}
-use Rattle.dimacs_records.specs.LineReader.{ReadsLine}
-use Rattle.dimacs_records.specs.Readings.{LineRecord, RefusesLine}
+use Rattle.dimacs_lines.specs.{Devices.{before_piece}, Lines.{lines}, Plain.{EndsAt}, Limits.{longest_line}}
+use Rattle.dimacs_records.specs.{declared.faults.ReadError.{ReadError}, declared.kinds.TextKind.{TextKind}}
+use Rattle.dimacs_records.specs.{declared.records.Record.{Record}, declared.plain.PlainLines.{PlainLines}}
+use Rattle.dimacs_records.specs.{inside.Driver.{IsReadSoFar}, Forms.{FieldType, Id, Whole, form, forms}}
+use Rattle.dimacs_records.specs.{LineReader.{ReadsLine}, Readings.{LineRecord, RefusesLine}}
 use Rattle.dimacs_records.specs.Spelling.{Part, Amount, SpellFields, kind_of, letter_of, parts_of, texts_in}
 
 -- these texts stand one after another, with a blank after each but the last, and a line end after the last

@@ -1,8 +1,7 @@
 //! Reading the lines of a cut.
 
 ghost use Rattle.std.specs.Prelude.{◌∷◌, [], codes};
-ghost use Rattle.dimacs_records.specs.declared.kinds.TextKind.TheVariants.{Cut};
-ghost use Rattle.dimacs_records.specs.Forms.{Word, Nodes, Count, Id};
+ghost use Rattle.dimacs_records.specs.{declared.kinds.TextKind.TheVariants.{Cut}, Forms.{Word, Nodes, Count, Id}};
 ghost use Rattle.dimacs_records.specs.inside.FieldReader.{IsUntouched, ReadsForm, ReadsLetter, texts_left};
 
 use super::unknown_line;

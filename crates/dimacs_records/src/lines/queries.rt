@@ -1,8 +1,7 @@
 //! Reading the lines of queries.
 
 ghost use Rattle.std.specs.Prelude.{◌∷◌, [], codes};
-ghost use Rattle.dimacs_records.specs.declared.kinds.TextKind.TheVariants.{Queries};
-ghost use Rattle.dimacs_records.specs.Forms.{Word, Either, Count, Id};
+ghost use Rattle.dimacs_records.specs.{declared.kinds.TextKind.TheVariants.{Queries}, Forms.{Word, Either, Count, Id}};
 ghost use Rattle.dimacs_records.specs.inside.FieldReader.{IsUntouched, ReadsForm, ReadsLetter, texts_left};
 
 use super::unknown_line;

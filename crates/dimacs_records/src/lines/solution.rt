@@ -1,8 +1,7 @@
 //! Reading the lines of a solution.
 
 ghost use Rattle.std.specs.Prelude.{◌∷◌, [], codes};
-ghost use Rattle.dimacs_records.specs.declared.kinds.TextKind.TheVariants.{Solution};
-ghost use Rattle.dimacs_records.specs.Forms.{Id, Whole, Wide};
+ghost use Rattle.dimacs_records.specs.{declared.kinds.TextKind.TheVariants.{Solution}, Forms.{Id, Whole, Wide}};
 ghost use Rattle.dimacs_records.specs.inside.FieldReader.{IsUntouched, ReadsForm, ReadsLetter, texts_left};
 
 use super::unknown_line;

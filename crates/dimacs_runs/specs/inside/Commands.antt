@@ -1,14 +1,11 @@
 -- Inside: what a command does with its files and its output.
 use Rattle.std.specs.Prelude.{ℕ, ◌≡◌, List, [], ◌∷◌, Option, None, Some, Result, Ok, Err}
-use Rattle.dimacs_runs.specs.declared.failure.CommandError.{CommandError}
+use Rattle.dimacs_runs.specs.{declared.failure.CommandError.{CommandError}, declared.failure.Failure.{Failure}}
 use Rattle.dimacs_runs.specs.declared.failure.CommandError.TheVariants.{Device, Memory}
-use Rattle.dimacs_runs.specs.declared.failure.Failure.{Failure}
-use Rattle.dimacs_runs.specs.declared.failure.Failure.TheVariants.{File, Output}
-use Rattle.dimacs_runs.specs.declared.failure.FileCall.{FileCall}
-use Rattle.dimacs_runs.specs.declared.status.RunError.{RunError}
-use Rattle.dimacs_runs.specs.declared.status.RunError.TheVariants as run_errors
-use Rattle.dimacs_runs.specs.Commands.{faults_by_error, file_failures}
+use Rattle.dimacs_runs.specs.{declared.failure.Failure.TheVariants.{File, Output}, declared.failure.FileCall.{FileCall}}
+use Rattle.dimacs_runs.specs.{declared.status.RunError.{RunError}, Commands.{faults_by_error, file_failures}}
 use Rattle.dimacs_runs.specs.Files.{FileEvent, FilesSeen, Sees, failures}
+use Rattle.dimacs_runs.specs.declared.status.RunError.TheVariants as run_errors
 
 -- the end of a run over files, with the failed operation, if there is one
 abbrev pub named : {X : Type 0} → Result X RunError → Option Failure → Result X CommandError

@@ -1,19 +1,13 @@
 -- Inside: texts that are read one after another.
 use Rattle.std.specs.Prelude.{ℕ, ◌≡◌, ◌⊎◌, List, Option, Some, Result, Ok, Err}
 use Rattle.dimacs_lines.specs.Lines.{lines}
-use Rattle.dimacs_records.specs.declared.faults.ReadError.{ReadError}
-use Rattle.dimacs_records.specs.declared.faults.ReadError.TheVariants as read_errors
-use Rattle.dimacs_records.specs.declared.kinds.TextKind.{TextKind}
-use Rattle.dimacs_records.specs.declared.reasons.Reason.{Reason}
-use Rattle.dimacs_records.specs.Faults.{Fault}
-use Rattle.dimacs_records.specs.Readings.{LineRecord}
+use Rattle.dimacs_records.specs.{declared.faults.ReadError.{ReadError}, declared.kinds.TextKind.{TextKind}}
+use Rattle.dimacs_records.specs.{declared.reasons.Reason.{Reason}, Faults.{Fault}, Readings.{LineRecord}}
 use Rattle.dimacs_records.specs.Texts.{Reads, SpellsValue}
-use Rattle.dimacs_runs.specs.declared.texts_in_turn.ReadFailure.{ReadFailure}
-use Rattle.dimacs_runs.specs.declared.status.Status.{Status}
-use Rattle.dimacs_runs.specs.declared.status.Status.TheVariants.{Refused}
-use Rattle.dimacs_runs.specs.Judgings.{OneMore}
-use Rattle.dimacs_runs.specs.Refusals.{refusal_line}
+use Rattle.dimacs_runs.specs.{declared.texts_in_turn.ReadFailure.{ReadFailure}, declared.status.Status.{Status}}
+use Rattle.dimacs_runs.specs.{declared.status.Status.TheVariants.{Refused}, Judgings.{OneMore}, Refusals.{refusal_line}}
 use Rattle.dimacs_runs.specs.Runs.{text_word}
+use Rattle.dimacs_records.specs.declared.faults.ReadError.TheVariants as read_errors
 
 -- a text: its word in refusals, the value that it spells, and its fault
 pub record TextSpells (V : Type 0) : Type 1 where

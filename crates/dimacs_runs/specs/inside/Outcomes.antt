@@ -1,46 +1,32 @@
 -- Inside: the outcomes of runs, their texts, and what ends a run early.
 use Rattle.std.specs.Prelude.{ℕ, ℤ, ◌≡◌, List, [], ◌∷◌, Option, None, Result, Ok, Err, map}
 use Rattle.dimacs_lines.specs.Devices.{Written}
-use Rattle.dimacs_claims.specs.Cuts.{SpellsCut, canonical_cut}
-use Rattle.dimacs_claims.specs.Labels.{AreLabels}
-use Rattle.dimacs_claims.specs.LabelTexts.{canonical_labels}
+use Rattle.dimacs_claims.specs.{Cuts.{SpellsCut, canonical_cut}, Labels.{AreLabels}, LabelTexts.{canonical_labels}}
 use Rattle.dimacs_claims.specs.Potentials.{SpellsPotentials, canonical_potentials}
 use Rattle.dimacs_claims.specs.SolutionTexts.{SolutionValue, canonical_solution, claimed}
-use Rattle.dimacs_judging.specs.declared.verdict.JudgeError.{JudgeError}
-use Rattle.dimacs_judging.specs.declared.verdict.JudgeError.TheVariants as judge_errors
-use Rattle.dimacs_judging.specs.declared.verdict.Verdict.{Verdict}
-use Rattle.dimacs_judging.specs.declared.verdict.Verdict.TheVariants as verdicts
-use Rattle.dimacs_judging.specs.declared.verdict.Where.TheVariants.{Arc}
-use Rattle.dimacs_judging.specs.Tests.{AllClear, FirstAlone, Refuses}
-use Rattle.dimacs_records.specs.declared.faults.ReadError.{ReadError}
-use Rattle.dimacs_records.specs.declared.faults.ReadError.TheVariants as read_errors
-use Rattle.dimacs_records.specs.declared.kinds.TextKind.{TextKind}
-use Rattle.dimacs_records.specs.declared.reasons.Reason.TheVariants as reasons
+use Rattle.dimacs_judging.specs.{declared.verdict.JudgeError.{JudgeError}, declared.verdict.Verdict.{Verdict}}
+use Rattle.dimacs_judging.specs.{declared.verdict.Where.TheVariants.{Arc}, Tests.{AllClear, FirstAlone, Refuses}}
+use Rattle.dimacs_records.specs.{declared.faults.ReadError.{ReadError}, declared.kinds.TextKind.{TextKind}}
 use Rattle.dimacs_network.specs.declared.network.ArcView.{ArcView}
-use Rattle.dimacs_solve.specs.declared.error.SolveError.{SolveError}
-use Rattle.dimacs_solve.specs.declared.error.SolveError.TheVariants as solve_errors
-use Rattle.dimacs_solve.specs.declared.maximum.MaxAnswer.{MaxAnswer}
-use Rattle.dimacs_solve.specs.declared.maximum.MaxAnswer.TheVariants as max_answers
-use Rattle.dimacs_solve.specs.declared.least.MinAnswer.{MinAnswer}
-use Rattle.dimacs_solve.specs.declared.least.MinAnswer.TheVariants as min_answers
-use Rattle.dimacs_solve.specs.Spread.{Deals, spread_rows}
-use Rattle.dimacs_runs.specs.declared.jobs.SpreadKind.{SpreadKind}
-use Rattle.dimacs_runs.specs.declared.status.Status.{Status}
-use Rattle.dimacs_runs.specs.declared.status.RunError.{RunError}
-use Rattle.dimacs_runs.specs.declared.status.RunError.TheVariants.{Device, Memory}
-use Rattle.dimacs_runs.specs.declared.outcome.OutputText.{OutputText}
+use Rattle.dimacs_solve.specs.{declared.error.SolveError.{SolveError}, declared.maximum.MaxAnswer.{MaxAnswer}}
+use Rattle.dimacs_solve.specs.{declared.least.MinAnswer.{MinAnswer}, Spread.{Deals, spread_rows}}
+use Rattle.dimacs_runs.specs.{declared.jobs.SpreadKind.{SpreadKind}, declared.status.Status.{Status}, Spread.{IsBestOf}}
+use Rattle.dimacs_runs.specs.{declared.status.RunError.{RunError}, declared.outcome.OutputText.{OutputText}}
+use Rattle.dimacs_runs.specs.{declared.status.RunError.TheVariants.{Device, Memory}, declared.outcome.Outcome.{Outcome}}
 use Rattle.dimacs_runs.specs.declared.outcome.OutputText.TheVariants.{Nothing, Solution, Cut, Potentials, Labels}
-use Rattle.dimacs_runs.specs.declared.outcome.Outcome.{Outcome}
-use Rattle.dimacs_runs.specs.declared.report.Report.{Report}
-use Rattle.dimacs_runs.specs.declared.report.Report.TheVariants as reports
-use Rattle.dimacs_runs.specs.declared.early_end.EarlyEnd.{EarlyEnd}
-use Rattle.dimacs_runs.specs.declared.early_end.EarlyEnd.TheVariants.{Error}
-use Rattle.dimacs_runs.specs.declared.early_end.EarlyEnd.TheVariants as stops
-use Rattle.dimacs_runs.specs.Judgings.{OneMore}
+use Rattle.dimacs_runs.specs.{declared.report.Report.{Report}, declared.early_end.EarlyEnd.{EarlyEnd}}
+use Rattle.dimacs_runs.specs.{declared.early_end.EarlyEnd.TheVariants.{Error}, Judgings.{OneMore}, Runs.{ReportsAlone}}
 use Rattle.dimacs_runs.specs.Outputs.{AcceptAll, AcceptInTurn, MayWrite, WritesAlike}
-use Rattle.dimacs_runs.specs.Runs.{ReportsAlone}
-use Rattle.dimacs_runs.specs.Spread.{IsBestOf}
 use Rattle.dimacs_runs.specs.inside.Reports.{report_lines, report_status}
+use Rattle.dimacs_judging.specs.declared.verdict.JudgeError.TheVariants as judge_errors
+use Rattle.dimacs_judging.specs.declared.verdict.Verdict.TheVariants as verdicts
+use Rattle.dimacs_records.specs.declared.faults.ReadError.TheVariants as read_errors
+use Rattle.dimacs_records.specs.declared.reasons.Reason.TheVariants as reasons
+use Rattle.dimacs_solve.specs.declared.error.SolveError.TheVariants as solve_errors
+use Rattle.dimacs_solve.specs.declared.maximum.MaxAnswer.TheVariants as max_answers
+use Rattle.dimacs_solve.specs.declared.least.MinAnswer.TheVariants as min_answers
+use Rattle.dimacs_runs.specs.declared.report.Report.TheVariants as reports
+use Rattle.dimacs_runs.specs.declared.early_end.EarlyEnd.TheVariants as stops
 
 -- the bytes of a text
 abbrev pub text_bytes : OutputText → List ℕ

@@ -1,12 +1,9 @@
 -- Inside: the reports of runs, as lines and a status.
 use Rattle.std.specs.Prelude.{ℕ, List, []}
-use Rattle.dimacs_runs.specs.declared.status.Status.{Status}
-use Rattle.dimacs_runs.specs.declared.status.Status.TheVariants as statuses
-use Rattle.dimacs_runs.specs.declared.report.Report.{Report}
+use Rattle.dimacs_runs.specs.{declared.status.Status.{Status}, declared.report.Report.{Report}, Refusals.{refusal_line}}
 use Rattle.dimacs_runs.specs.declared.report.Report.TheVariants.{Yes, Distances, No, Fault, GaveUp, Nothing}
-use Rattle.dimacs_runs.specs.Refusals.{refusal_line}
-use Rattle.dimacs_runs.specs.Runs.{text_word}
-use Rattle.dimacs_runs.specs.Verdicts.{distances_line, failure_line, gave_up_line, verdict_lines}
+use Rattle.dimacs_runs.specs.{Runs.{text_word}, Verdicts.{distances_line, failure_line, gave_up_line, verdict_lines}}
+use Rattle.dimacs_runs.specs.declared.status.Status.TheVariants as statuses
 
 abbrev pub report_status : Report → Status
 report_status (Yes verdict) = statuses.Done

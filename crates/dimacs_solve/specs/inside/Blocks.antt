@@ -1,12 +1,10 @@
 -- Inside: the blocks of all sources.
-use Rattle.std.specs.Prelude.{ℕ, ◌≡◌, List, [], All, map}
-use Rattle.std.specs.Ordering.{nat_cmp}
-use Rattle.std.specs.FinSet as set
+use Rattle.std.specs.{Prelude.{ℕ, ◌≡◌, List, [], All, map}, Ordering.{nat_cmp}}
 use Rattle.dimacs_claims.specs.Labels.{AreLabels, AreSources, BlockValue, LabelsValue, with_block}
 use Rattle.dimacs_judging.specs.QueryTests.{HasBlock}
-use Rattle.dimacs_solve.specs.declared.adjacency.Adjacency.{Adjacency}
-use Rattle.dimacs_solve.specs.Paths.{block_source, distinct_after}
+use Rattle.dimacs_solve.specs.{declared.adjacency.Adjacency.{Adjacency}, Paths.{block_source, distinct_after}}
 use Rattle.dimacs_solve.specs.inside.Search.{IsPathTree}
+use Rattle.std.specs.FinSet as set
 
 -- the block of this source was added
 pub record AddsBlock (a : Adjacency) (source : ℕ) (old new : LabelsValue) : Type 0 where

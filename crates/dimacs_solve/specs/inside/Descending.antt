@@ -2,13 +2,10 @@
 use Rattle.std.specs.Prelude.{◌≡◌, List, ℤ}
 use Rattle.dimacs_claims.specs.Potentials.{potential_of}
 use Rattle.dimacs_instance.specs.MinFlows.{MinValue}
-use Rattle.dimacs_judging.specs.InfeasibleJudge.{ShowsNoFlow}
-use Rattle.dimacs_judging.specs.Optimum.{Least}
-use Rattle.dimacs_judging.specs.Potentials.{Slack}
+use Rattle.dimacs_judging.specs.{InfeasibleJudge.{ShowsNoFlow}, Optimum.{Least}, Potentials.{Slack}}
 use Rattle.dimacs_decide.specs.Bounds.{KeepsBounds}
-use Rattle.dimacs_solve.specs.declared.question.Reply.{Reply}
+use Rattle.dimacs_solve.specs.{declared.question.Reply.{Reply}, Descending.{IsBetter}}
 use Rattle.dimacs_solve.specs.declared.question.Reply.TheVariants as replies
-use Rattle.dimacs_solve.specs.Descending.{IsBetter}
 
 -- the reply about a flow
 abbrev pub IsReply : MinValue → List ℤ → Reply → Type 0

@@ -1,9 +1,7 @@
 -- Inside: the nearest walk in the queue.
-use Rattle.std.specs.Prelude.{ℕ, ◌≤◌, List, All}
-use Rattle.dimacs_solve.specs.declared.frontier.Walk.{Walk}
-use Rattle.std.specs.Ordering.{nat_cmp, ordering_then}
-use Rattle.std.specs.declared.cmp.Ordering.{Ordering}
+use Rattle.std.specs.{Prelude.{ℕ, ◌≤◌, List, All}, Ordering.{nat_cmp, ordering_then}, declared.cmp.Ordering.{Ordering}}
 use Rattle.std.specs.declared.cmp.Reverse.{Reverse}
+use Rattle.dimacs_solve.specs.declared.frontier.Walk.{Walk}
 
 -- the shorter walk comes first
 abbrev pub walk_cmp : {D : Type 0} → (D → D → Ordering) → Walk D → Walk D → Ordering

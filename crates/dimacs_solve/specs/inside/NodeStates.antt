@@ -1,7 +1,6 @@
 -- Inside: the table of a search.
 use Rattle.std.specs.Prelude.{ℕ, ◌≡◌, ◌≢◌, ◌≤◌, ◌==◌, Bool, true, false}
-use Rattle.dimacs_solve.specs.declared.node_states.NodeState.{NodeState}
-use Rattle.dimacs_solve.specs.declared.node_states.NodeStates.{NodeStates}
+use Rattle.dimacs_solve.specs.{declared.node_states.NodeState.{NodeState}, declared.node_states.NodeStates.{NodeStates}}
 use Rattle.dimacs_network.specs.Tables.{value_of}
 
 -- what is known about a node: whether a walk was found, the length of the shortest one, and whether that is final

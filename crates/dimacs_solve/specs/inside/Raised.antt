@@ -1,10 +1,8 @@
 -- Inside: amounts within the bounds while arcs are raised.
 use Rattle.std.specs.Prelude.{ℕ, ◌≡◌, ◌<◌, ◌⊎◌, List, length, set, ℤ, pos, ◌+ℤ◌, ◌-ℤ◌, ◌≤ℤ◌, ◌<ℤ◌}
-use Rattle.dimacs_network.specs.declared.network.ArcView.{ArcView}
-use Rattle.dimacs_network.specs.Arcs.{arc_at}
+use Rattle.dimacs_network.specs.{declared.network.ArcView.{ArcView}, Arcs.{arc_at}}
 use Rattle.dimacs_judging.specs.Rows.{amount_at}
-use Rattle.dimacs_solve.specs.declared.arcs_by_cost.ArcOfCost.{ArcOfCost}
-use Rattle.dimacs_solve.specs.inside.ArcsByCost.{place_at}
+use Rattle.dimacs_solve.specs.{declared.arcs_by_cost.ArcOfCost.{ArcOfCost}, inside.ArcsByCost.{place_at}}
 use Rattle.dimacs_solve.specs.inside.Rests.{IsFirstParallel}
 
 -- every arc carries from its lower bound to its capacity

@@ -1,13 +1,10 @@
 -- Inside: rests, stored at the first arc between two nodes.
 use Rattle.std.specs.Prelude.{ℕ, ◌≡◌, ◌≢◌, ◌+◌, ◌*◌, ◌<◌, ◌≤◌, ◌^◌, ◌⊎◌, List, length, Some, ℤ, pos, neg_ℤ, ◌+ℤ◌, ◌≤ℤ◌, ◌<ℤ◌}
 use Rattle.dimacs_claims.specs.declared.solution.Entry.{Entry}
-use Rattle.dimacs_network.specs.declared.network.ArcView.{ArcView}
-use Rattle.dimacs_network.specs.Arcs.{IsKthBetween, arc_at}
+use Rattle.dimacs_network.specs.{declared.network.ArcView.{ArcView}, Arcs.{IsKthBetween, arc_at}}
 use Rattle.dimacs_records.specs.declared.reasons.Reason.{Reason}
 use Rattle.dimacs_records.specs.declared.reasons.Reason.TheVariants.{BelowLow, AboveCap}
-use Rattle.dimacs_judging.specs.declared.verdict.Where.TheVariants.{Arc}
-use Rattle.dimacs_judging.specs.Rows.{amount_at}
-use Rattle.dimacs_judging.specs.Tests.{Row}
+use Rattle.dimacs_judging.specs.{declared.verdict.Where.TheVariants.{Arc}, Rows.{amount_at}, Tests.{Row}}
 use Rattle.dimacs_judging.specs.inside.Ranges.{IsOfSize}
 use Rattle.dimacs_solve.specs.Spread.{arc_sum, entry_sum}
 

@@ -1,15 +1,11 @@
 -- Inside: Dijkstra's search from one source.
 use Rattle.std.specs.Prelude.{ℕ, zero, suc, ◌≡◌, ◌≤◌, ◌+◌, ◌-◌, ◌*◌, ◌⊎◌, ◌&&◌, if◌then◌else◌, cond, Bool, true, false, List, ◌∷◌, All, Contains, Option, Some, None, length, IsPermutation, ℤ, pos, ◌≤ℤ◌}
 use Rattle.dimacs_lines.specs.Limits.{IsNode}
-use Rattle.dimacs_claims.specs.declared.block.Label.{Label}
-use Rattle.dimacs_claims.specs.Labels.{BlockValue, IsBlock, label}
-use Rattle.dimacs_solve.specs.declared.adjacency.Adjacency.{Adjacency}
-use Rattle.dimacs_solve.specs.declared.adjacency.WeightedArc.{WeightedArc}
-use Rattle.dimacs_solve.specs.declared.frontier.Walk.{Walk}
-use Rattle.dimacs_solve.specs.inside.Adjacency.{AreByNode, out, out_arc_to}
-use Rattle.dimacs_solve.specs.inside.Frontiers.{IsNearest}
+use Rattle.dimacs_claims.specs.{declared.block.Label.{Label}, Labels.{BlockValue, IsBlock, label}}
+use Rattle.dimacs_solve.specs.{declared.adjacency.Adjacency.{Adjacency}, declared.adjacency.WeightedArc.{WeightedArc}}
+use Rattle.dimacs_solve.specs.{declared.frontier.Walk.{Walk}, inside.Adjacency.{AreByNode, out, out_arc_to}}
+use Rattle.dimacs_solve.specs.{inside.Frontiers.{IsNearest}, Paths.{IsNearestFirst}}
 use Rattle.dimacs_solve.specs.inside.NodeStates.{Known, IsSettled, IsReachedWithin, Sets, reached}
-use Rattle.dimacs_solve.specs.Paths.{IsNearestFirst}
 
 abbrev pub is_settled : Known → Bool
 is_settled k = k.found && k.final

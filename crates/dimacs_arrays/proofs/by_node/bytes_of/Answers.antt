@@ -1,6 +1,6 @@
 use Rattle.std.proofs.Common.{◌≡◌, ◌+◌, ◌∙◌, sym, arith}
-use Rattle.std.specs.List.{range_with_len}
 use Rattle.std.proofs.lemmas.List.FromFn.{length-map-range_with_len, map-range_with_len_more}
+use Rattle.std.specs.List.{range_with_len}
 use Rattle.dimacs_judging.specs.Cuts.{members}
 use Rattle.dimacs_arrays.proofs.ByNodeLemmas.{bits, byte_in, marked_set}
 use Rattle.dimacs_arrays.proofs.by_node.bytes_of.Goals as goal

@@ -1,10 +1,9 @@
-use Rattle.std.proofs.Common.{◌≡◌, ◌∙◌, ap, length, arith}
-use Rattle.std.proofs.lemmas.Bool.{le-ltb, lt-ltb}
+use Rattle.std.proofs.{Common.{◌≡◌, ◌∙◌, ap, length, arith}, lemmas.Bool.{le-ltb, lt-ltb}}
 use Rattle.dimacs_claims.specs.Cuts.{CutValue}
 use Rattle.dimacs_judging.specs.Cuts.{members}
 use Rattle.dimacs_arrays.proofs.ByNodeLemmas.{all_nodes, no_nodes, node_in, node_out}
-use Rattle.dimacs_arrays.proofs.by_node.cut_of.Goals as goal
 use Rattle.dimacs_arrays.proofs.by_node.cut_of.Goals.{then-inside-i-gt0+in_ok-add, else-inside-i-gt0}
+use Rattle.dimacs_arrays.proofs.by_node.cut_of.Goals as goal
 
 pub loop-i-init : goal.loop-i-init
 loop-i-init c = record {

@@ -1,6 +1,5 @@
-use Rattle.std.proofs.Common.{rules, SFits}
+use Rattle.std.proofs.{Common.{rules, SFits}, lemmas.Int.{to_z-of_z}}
 use Rattle.std.specs.Int.{w128}
-use Rattle.std.proofs.lemmas.Int.{to_z-of_z}
 use Rattle.dimacs_arrays.proofs.ByNodeLemmas.{if_wider, wider_by}
 use Rattle.dimacs_arrays.proofs.by_node.fit_array.Goals as goal
 

@@ -1,7 +1,6 @@
-use Rattle.std.proofs.Common.{◌≡◌, ◌+◌, ◌∙◌, sym, w64, rules, arith, SFits}
-use Rattle.std.specs.Int.{w128}
-use Rattle.std.proofs.lemmas.Int.{to_z-of_z}
+use Rattle.std.proofs.{Common.{◌≡◌, ◌+◌, ◌∙◌, sym, w64, rules, arith, SFits}, lemmas.Int.{to_z-of_z}}
 use Rattle.std.proofs.lemmas.List.FromFn.{map-range_with_len_more}
+use Rattle.std.specs.Int.{w128}
 use Rattle.dimacs_arrays.proofs.ByNodeLemmas.{sum_of, sums_are}
 use Rattle.dimacs_arrays.proofs.by_node.numbers_of.Goals as goal
 

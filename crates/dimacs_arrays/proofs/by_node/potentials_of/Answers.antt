@@ -1,6 +1,5 @@
-use Rattle.std.proofs.Common.{◌≡◌, ◌∙◌, ap, get_or, length, pos, w64, rules, arith, SFits}
+use Rattle.std.proofs.{Common.{◌≡◌, ◌∙◌, ap, get_or, length, pos, w64, rules, arith, SFits}, lemmas.Int.{to_z-of_z}}
 use Rattle.std.specs.Int.{w128}
-use Rattle.std.proofs.lemmas.Int.{to_z-of_z}
 use Rattle.dimacs_claims.specs.Potentials.{PotentialsValue, potential_of}
 use Rattle.dimacs_arrays.proofs.ByNodeLemmas.{all_numbers, no_numbers, number_set}
 use Rattle.dimacs_arrays.proofs.by_node.potentials_of.Goals as goal

@@ -4,8 +4,7 @@ use Rattle.dimacs_judging.specs.Tests.{Settles}
 use Rattle.dimacs_arrays.specs.declared.certify_infeasible.InfeasibleCertified.{InfeasibleCertified}
 use Rattle.dimacs_arrays.specs.declared.min.MinArrays.{MinArrays}
 use Rattle.dimacs_arrays.specs.MinArrays.{CertifiesInfeasible, min_lengths, min_limits, min_spelled}
-use Rattle.dimacs_arrays.proofs.AnswerLemmas.{Call, call_tells, call_tells_limit}
-use Rattle.dimacs_arrays.proofs.MinLemmas.{min_clear, min_one_way}
+use Rattle.dimacs_arrays.proofs.{AnswerLemmas.{Call, call_tells, call_tells_limit}, MinLemmas.{min_clear, min_one_way}}
 use Rattle.dimacs_arrays.proofs.certify_infeasible.certify_infeasible_arrays.Goals as goal
 
 abbrev call : MinArrays → Call InfeasibleCertified MinValue

@@ -1,12 +1,8 @@
-use Rattle.std.proofs.Common.{◌∙◌, List, [], ◌∷◌, ℤ, length, sym}
-use Rattle.std.proofs.lemmas.List.FromFn.{length-map-range_with_len}
+use Rattle.std.proofs.{Common.{◌∙◌, List, [], ◌∷◌, ℤ, length, sym}, lemmas.List.FromFn.{length-map-range_with_len}}
 use Rattle.dimacs_instance.specs.MaxFlows.{MaxValue, IsMax}
-use Rattle.dimacs_judging.specs.FlowTests.{feasible_max_rows}
-use Rattle.dimacs_judging.specs.Tests.{Settles}
-use Rattle.dimacs_arrays.specs.declared.certify_max.MaxCertified.{MaxCertified}
-use Rattle.dimacs_arrays.specs.declared.error.Array.TheVariants.{Flows}
-use Rattle.dimacs_arrays.specs.declared.lengths.ArrayLength.{ArrayLength}
-use Rattle.dimacs_arrays.specs.declared.max.MaxArrays.{MaxArrays}
+use Rattle.dimacs_judging.specs.{FlowTests.{feasible_max_rows}, Tests.{Settles}}
+use Rattle.dimacs_arrays.specs.{declared.certify_max.MaxCertified.{MaxCertified}, declared.max.MaxArrays.{MaxArrays}}
+use Rattle.dimacs_arrays.specs.{declared.error.Array.TheVariants.{Flows}, declared.lengths.ArrayLength.{ArrayLength}}
 use Rattle.dimacs_arrays.specs.Answers.{length_of}
 use Rattle.dimacs_arrays.specs.MaxArrays.{CertifiesMaxFlow, max_arc, max_lengths, max_limits, max_spelled}
 use Rattle.dimacs_arrays.proofs.AnswerLemmas.{Call, all_fit, call_tells, call_tells_limit, call_tells_refusal}

@@ -1,14 +1,10 @@
-use Rattle.std.proofs.Common.{◌∙◌, ap, List, ℤ, subst, rules, SFits}
+use Rattle.std.proofs.{Common.{◌∙◌, ap, List, ℤ, subst, rules, SFits}, lemmas.Int.{to_z-of_z}}
 use Rattle.std.specs.Int.{w128}
-use Rattle.std.proofs.lemmas.Int.{to_z-of_z}
 use Rattle.dimacs_claims.specs.Cuts.{CutValue, IsCut}
-use Rattle.dimacs_judging.specs.Feasible.{FeasibleMax, value}
-use Rattle.dimacs_judging.specs.FlowTests.{feasible_max_rows}
-use Rattle.dimacs_judging.specs.Tests.{Refutes}
+use Rattle.dimacs_judging.specs.{Feasible.{FeasibleMax, value}, FlowTests.{feasible_max_rows}, Tests.{Refutes}}
 use Rattle.dimacs_judging.proofs.Settling.{refuted_settles}
-use Rattle.dimacs_decide.specs.declared.maximum.MaxDecision.{MaxDecision}
+use Rattle.dimacs_decide.specs.{declared.maximum.MaxDecision.{MaxDecision}, MaxDecision.{DecidesMax}}
 use Rattle.dimacs_decide.specs.declared.maximum.MaxDecision.TheVariants.{Optimal}
-use Rattle.dimacs_decide.specs.MaxDecision.{DecidesMax}
 use Rattle.dimacs_arrays.specs.MaxArrays.{CertifiesMaxFlow}
 use Rattle.dimacs_arrays.proofs.CertifyLemmas.{max_by, max_feasible}
 use Rattle.dimacs_arrays.proofs.certify_max.certify_over.Goals as goal

@@ -2,10 +2,8 @@ use Rattle.std.proofs.Common.{◌∙◌, List, [], ◌∷◌, ℤ, length, subst
 use Rattle.std.proofs.lemmas.List.FromFn.{length-map-range_with_len}
 use Rattle.dimacs_instance.specs.MinFlows.{MinValue, IsMin}
 use Rattle.dimacs_judging.specs.Tests.{Settles}
-use Rattle.dimacs_arrays.specs.declared.certify_min.MinCertified.{MinCertified}
-use Rattle.dimacs_arrays.specs.declared.error.Array.TheVariants.{Flows}
-use Rattle.dimacs_arrays.specs.declared.lengths.ArrayLength.{ArrayLength}
-use Rattle.dimacs_arrays.specs.declared.min.MinArrays.{MinArrays}
+use Rattle.dimacs_arrays.specs.{declared.certify_min.MinCertified.{MinCertified}, declared.min.MinArrays.{MinArrays}}
+use Rattle.dimacs_arrays.specs.{declared.error.Array.TheVariants.{Flows}, declared.lengths.ArrayLength.{ArrayLength}}
 use Rattle.dimacs_arrays.specs.Answers.{length_of}
 use Rattle.dimacs_arrays.specs.MinArrays.{CertifiesMinFlow, min_arc, min_claimed_rows, min_lengths, min_limits, min_spelled}
 use Rattle.dimacs_arrays.proofs.AnswerLemmas.{Call, all_fit, call_tells, call_tells_limit, call_tells_refusal}

@@ -1,12 +1,8 @@
-use Rattle.std.proofs.Common.{List, ℤ, subst, rules, SFits}
+use Rattle.std.proofs.{Common.{List, ℤ, subst, rules, SFits}, lemmas.Int.{to_z-of_z}}
 use Rattle.std.specs.Int.{w128}
-use Rattle.std.proofs.lemmas.Int.{to_z-of_z}
-use Rattle.dimacs_judging.specs.Feasible.{FeasibleMin}
-use Rattle.dimacs_judging.specs.FlowTests.{feasible_min_rows}
-use Rattle.dimacs_judging.specs.Tests.{Refutes}
-use Rattle.dimacs_decide.specs.declared.least.MinDecision.{MinDecision}
+use Rattle.dimacs_judging.specs.{Feasible.{FeasibleMin}, FlowTests.{feasible_min_rows}, Tests.{Refutes}}
+use Rattle.dimacs_decide.specs.{declared.least.MinDecision.{MinDecision}, MinDecision.{DecidesMin}}
 use Rattle.dimacs_decide.specs.declared.least.MinDecision.TheVariants.{Optimal, Better}
-use Rattle.dimacs_decide.specs.MinDecision.{DecidesMin}
 use Rattle.dimacs_arrays.specs.inside.MinCertified.{IsLeastBy}
 use Rattle.dimacs_arrays.proofs.CertifyLemmas.{min_better, min_costly, min_infeasible, min_least}
 use Rattle.dimacs_arrays.proofs.certify_min.certify_over.Goals as goal

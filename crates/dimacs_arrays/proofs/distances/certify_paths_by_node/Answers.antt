@@ -1,10 +1,8 @@
-use Rattle.std.proofs.Common.{◌≡◌, ◌∷◌, []}
-use Rattle.std.proofs.lemmas.List.Elements.{All-head}
+use Rattle.std.proofs.{Common.{◌≡◌, ◌∷◌, []}, lemmas.List.Elements.{All-head}}
 use Rattle.dimacs_claims.specs.Labels.{IsBlock}
 use Rattle.dimacs_decide.specs.Claims.{claimed_by_node}
 use Rattle.dimacs_arrays.specs.inside.PredecessorsOf.{ArePredsOf}
-use Rattle.dimacs_arrays.proofs.CertifyPathsLemmas.{one_block}
-use Rattle.dimacs_arrays.proofs.OrderLemmas.{predecessors_by}
+use Rattle.dimacs_arrays.proofs.{CertifyPathsLemmas.{one_block}, OrderLemmas.{predecessors_by}}
 use Rattle.dimacs_arrays.proofs.TightPredecessorLemmas.{tight_certified}
 use Rattle.dimacs_arrays.proofs.distances.certify_paths_by_node.Goals as goal
 

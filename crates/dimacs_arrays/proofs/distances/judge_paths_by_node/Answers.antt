@@ -1,8 +1,6 @@
 use Rattle.std.proofs.Common.{inl}
-use Rattle.dimacs_decide.specs.Claims.{claimed_by_node}
-use Rattle.dimacs_decide.specs.Predecessors.{pred_by_node}
-use Rattle.dimacs_arrays.proofs.LabelLemmas.{unlabelled}
-use Rattle.dimacs_arrays.proofs.TightPredecessorLemmas.{tight_judged}
+use Rattle.dimacs_decide.specs.{Claims.{claimed_by_node}, Predecessors.{pred_by_node}}
+use Rattle.dimacs_arrays.proofs.{LabelLemmas.{unlabelled}, TightPredecessorLemmas.{tight_judged}}
 use Rattle.dimacs_arrays.proofs.distances.judge_paths_by_node.Goals as goal
 
 pub returns-in_err-labels : goal.returns-in_err-labels

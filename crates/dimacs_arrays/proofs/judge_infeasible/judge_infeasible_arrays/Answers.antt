@@ -1,11 +1,8 @@
 use Rattle.std.proofs.Common.{List, [], ◌∷◌, ℕ, length, subst}
 use Rattle.dimacs_instance.specs.MinFlows.{MinValue, IsMin}
 use Rattle.dimacs_judging.specs.declared.verdict.Verdict.{Verdict}
-use Rattle.dimacs_arrays.specs.declared.error.Array.TheVariants.{Inside}
-use Rattle.dimacs_arrays.specs.declared.lengths.ArrayLength.{ArrayLength}
-use Rattle.dimacs_arrays.specs.declared.min.MinArrays.{MinArrays}
-use Rattle.dimacs_arrays.specs.Answers.{length_of}
-use Rattle.dimacs_arrays.specs.ByNode.{marked}
+use Rattle.dimacs_arrays.specs.{declared.error.Array.TheVariants.{Inside}, declared.lengths.ArrayLength.{ArrayLength}}
+use Rattle.dimacs_arrays.specs.{declared.min.MinArrays.{MinArrays}, Answers.{length_of}, ByNode.{marked}}
 use Rattle.dimacs_arrays.specs.MinArrays.{JudgesInfeasible, min_lengths, min_limits, min_spelled}
 use Rattle.dimacs_arrays.proofs.AnswerLemmas.{Call, all_fit, call_tells, call_tells_limit, call_tells_refusal}
 use Rattle.dimacs_arrays.proofs.MinLemmas.{min_clear, min_one_way}

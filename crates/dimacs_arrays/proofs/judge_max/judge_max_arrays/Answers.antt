@@ -1,12 +1,8 @@
-use Rattle.std.proofs.Common.{◌∙◌, List, [], ◌∷◌, ℕ, ℤ, length, sym}
-use Rattle.std.proofs.lemmas.List.FromFn.{length-map-range_with_len}
+use Rattle.std.proofs.{Common.{◌∙◌, List, [], ◌∷◌, ℕ, ℤ, length, sym}, lemmas.List.FromFn.{length-map-range_with_len}}
 use Rattle.dimacs_instance.specs.MaxFlows.{MaxValue, IsMax}
 use Rattle.dimacs_judging.specs.declared.verdict.Verdict.{Verdict}
-use Rattle.dimacs_arrays.specs.declared.error.Array.TheVariants.{Flows, Inside}
-use Rattle.dimacs_arrays.specs.declared.lengths.ArrayLength.{ArrayLength}
-use Rattle.dimacs_arrays.specs.declared.max.MaxArrays.{MaxArrays}
-use Rattle.dimacs_arrays.specs.Answers.{length_of}
-use Rattle.dimacs_arrays.specs.ByNode.{marked}
+use Rattle.dimacs_arrays.specs.{declared.error.Array.TheVariants.{Flows, Inside}, declared.max.MaxArrays.{MaxArrays}}
+use Rattle.dimacs_arrays.specs.{declared.lengths.ArrayLength.{ArrayLength}, Answers.{length_of}, ByNode.{marked}}
 use Rattle.dimacs_arrays.specs.MaxArrays.{JudgesMaxFlow, max_arc, max_lengths, max_limits, max_spelled}
 use Rattle.dimacs_arrays.proofs.AnswerLemmas.{Call, all_fit, call_tells, call_tells_limit, call_tells_refusal}
 use Rattle.dimacs_arrays.proofs.MaxLemmas.{max_clear, max_one_way}

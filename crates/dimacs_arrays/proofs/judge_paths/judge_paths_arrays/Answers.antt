@@ -3,14 +3,10 @@ use Rattle.dimacs_lines.specs.Limits.{IsNode}
 use Rattle.dimacs_network.specs.Arcs.{NetworkValue}
 use Rattle.dimacs_instance.specs.Graph.{IsGraph}
 use Rattle.dimacs_judging.specs.declared.verdict.Verdict.{Verdict}
-use Rattle.dimacs_decide.specs.Claims.{claimed_by_node}
-use Rattle.dimacs_arrays.specs.declared.error.Array.TheVariants.{Distances, Predecessors}
-use Rattle.dimacs_arrays.specs.declared.lengths.ArrayLength.{ArrayLength}
-use Rattle.dimacs_arrays.specs.declared.graph.GraphArrays.{GraphArrays}
-use Rattle.dimacs_arrays.specs.Answers.{length_of}
-use Rattle.dimacs_arrays.specs.GraphArrays.{graph_lengths, graph_limits, graph_spelled}
-use Rattle.dimacs_decide.specs.Predecessors.{pred_by_node}
-use Rattle.dimacs_arrays.specs.Paths.{JudgesByNode}
+use Rattle.dimacs_decide.specs.{Claims.{claimed_by_node}, Predecessors.{pred_by_node}}
+use Rattle.dimacs_arrays.specs.{declared.error.Array.TheVariants.{Distances, Predecessors}, Answers.{length_of}}
+use Rattle.dimacs_arrays.specs.{declared.lengths.ArrayLength.{ArrayLength}, declared.graph.GraphArrays.{GraphArrays}}
+use Rattle.dimacs_arrays.specs.{GraphArrays.{graph_lengths, graph_limits, graph_spelled}, Paths.{JudgesByNode}}
 use Rattle.dimacs_arrays.proofs.AnswerLemmas.{Call, all_fit, call_tells, call_tells_limit, call_tells_refusal}
 use Rattle.dimacs_arrays.proofs.GraphLemmas.{graph_clear, graph_one_way}
 use Rattle.dimacs_arrays.proofs.judge_paths.judge_paths_arrays.Goals as goal

@@ -1,13 +1,10 @@
-use Rattle.std.proofs.Common.{◌≡◌, ◌≢◌, ◌<◌, [], length, ap, arith, rules, w64, SFits}
-use Rattle.std.specs.Int.{w128}
-use Rattle.std.proofs.lemmas.Int.{to_z-of_z}
+use Rattle.std.proofs.{Common.{◌≡◌, ◌≢◌, ◌<◌, [], length, ap, arith, rules, w64, SFits}, lemmas.Int.{to_z-of_z}}
 use Rattle.std.proofs.lemmas.List.Elements.{All-get_or}
-use Rattle.dimacs_claims.specs.declared.block.Label.{Label}
-use Rattle.dimacs_claims.specs.Labels.{IsItem, IsLabel, no_label}
+use Rattle.std.specs.Int.{w128}
+use Rattle.dimacs_claims.specs.{declared.block.Label.{Label}, Labels.{IsItem, IsLabel, no_label}}
 use Rattle.dimacs_claims.proofs.ByIdLemmas.{fresh_apart}
 use Rattle.dimacs_decide.proofs.TightTailLemmas.{not_source}
-use Rattle.dimacs_arrays.proofs.PredLemmas.{at_place}
-use Rattle.dimacs_arrays.proofs.LabelDistanceLemmas.{reached_all, reached_more}
+use Rattle.dimacs_arrays.proofs.{PredLemmas.{at_place}, LabelDistanceLemmas.{reached_all, reached_more}}
 use Rattle.dimacs_arrays.proofs.label_distances.distances_of.Goals as goal
 
 pub loop-i-preserved : goal.loop-i-preserved

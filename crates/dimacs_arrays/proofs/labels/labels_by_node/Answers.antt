@@ -1,6 +1,5 @@
 use Rattle.std.proofs.Common.{length}
-use Rattle.dimacs_decide.specs.Claims.{claimed_by_node}
-use Rattle.dimacs_decide.specs.Predecessors.{pred_by_node}
+use Rattle.dimacs_decide.specs.{Claims.{claimed_by_node}, Predecessors.{pred_by_node}}
 use Rattle.dimacs_arrays.proofs.DistanceLemmas.{distance_within, no_pred_without}
 use Rattle.dimacs_arrays.proofs.LabelLemmas.{in_order, no_pred, no_source, refused, refused_by, spelled_by}
 use Rattle.dimacs_arrays.proofs.labels.labels_by_node.Goals as goal

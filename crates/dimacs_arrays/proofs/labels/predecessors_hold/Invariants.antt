@@ -1,7 +1,6 @@
 use Rattle.std.proofs.Common.{length}
 use Rattle.dimacs_judging.specs.Tests.{ClearBelow}
-use Rattle.dimacs_decide.specs.Claims.{claimed_by_node}
-use Rattle.dimacs_decide.specs.Predecessors.{pred_by_node}
+use Rattle.dimacs_decide.specs.{Claims.{claimed_by_node}, Predecessors.{pred_by_node}}
 use Rattle.dimacs_arrays.specs.Paths.{pred_row}
 use Rattle.dimacs_arrays.proofs.labels.predecessors_hold.Given as goal
 

@@ -1,5 +1,4 @@
-use Rattle.std.proofs.Common.{◌≡◌, ◌≤◌, length, arith}
-use Rattle.std.proofs.lemmas.Option.{get_or_from_slice_get, slice_get_within}
+use Rattle.std.proofs.{Common.{◌≡◌, ◌≤◌, length, arith}, lemmas.Option.{get_or_from_slice_get, slice_get_within}}
 use Rattle.dimacs_network.specs.Arcs.{arc_at, no_arc}
 use Rattle.dimacs_arrays.proofs.LimitLemmas.{all_in_range, first_past, one_more}
 use Rattle.dimacs_arrays.proofs.limits.arcs_hold.Goals as goal

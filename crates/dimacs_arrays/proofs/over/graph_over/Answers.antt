@@ -1,10 +1,7 @@
 use Rattle.std.proofs.Common.{subst}
 use Rattle.dimacs_instance.specs.Graph.{IsGraph}
-use Rattle.dimacs_arrays.specs.GraphArrays.{graph_lengths, graph_spelled}
-use Rattle.dimacs_arrays.specs.Spelled.{arc_limits}
-use Rattle.dimacs_arrays.specs.Spelled.{IsSpelled}
-use Rattle.dimacs_arrays.proofs.AnswerLemmas.{tells_limit}
-use Rattle.dimacs_arrays.proofs.SpelledLemmas.{arcs_clear, arcs_one_way}
+use Rattle.dimacs_arrays.specs.{GraphArrays.{graph_lengths, graph_spelled}, Spelled.{arc_limits, IsSpelled}}
+use Rattle.dimacs_arrays.proofs.{AnswerLemmas.{tells_limit}, SpelledLemmas.{arcs_clear, arcs_one_way}}
 use Rattle.dimacs_arrays.proofs.over.graph_over.Goals as goal
 
 pub returns-in_err-graph : goal.returns-in_err-graph

@@ -1,9 +1,7 @@
 use Rattle.std.proofs.Common.{subst}
 use Rattle.dimacs_instance.specs.MaxFlows.{IsMax}
-use Rattle.dimacs_arrays.specs.MaxArrays.{max_lengths, max_limits, max_spelled}
-use Rattle.dimacs_arrays.specs.Spelled.{IsSpelled}
-use Rattle.dimacs_arrays.proofs.AnswerLemmas.{tells_limit}
-use Rattle.dimacs_arrays.proofs.MaxLemmas.{max_clear, max_one_way}
+use Rattle.dimacs_arrays.specs.{MaxArrays.{max_lengths, max_limits, max_spelled}, Spelled.{IsSpelled}}
+use Rattle.dimacs_arrays.proofs.{AnswerLemmas.{tells_limit}, MaxLemmas.{max_clear, max_one_way}}
 use Rattle.dimacs_arrays.proofs.over.max_over.Goals as goal
 
 pub returns-in_err-instance : goal.returns-in_err-instance

@@ -1,9 +1,7 @@
 use Rattle.std.proofs.Common.{subst}
 use Rattle.dimacs_instance.specs.MinFlows.{IsMin}
-use Rattle.dimacs_arrays.specs.MinArrays.{min_lengths, min_limits, min_spelled}
-use Rattle.dimacs_arrays.specs.Spelled.{IsSpelled}
-use Rattle.dimacs_arrays.proofs.AnswerLemmas.{tells_limit}
-use Rattle.dimacs_arrays.proofs.MinLemmas.{min_clear, min_one_way}
+use Rattle.dimacs_arrays.specs.{MinArrays.{min_lengths, min_limits, min_spelled}, Spelled.{IsSpelled}}
+use Rattle.dimacs_arrays.proofs.{AnswerLemmas.{tells_limit}, MinLemmas.{min_clear, min_one_way}}
 use Rattle.dimacs_arrays.proofs.over.min_over.Goals as goal
 
 pub returns-in_err-instance : goal.returns-in_err-instance

@@ -3,8 +3,8 @@ use Rattle.dimacs_claims.specs.Labels.{IsBlock}
 use Rattle.dimacs_decide.specs.Claims.{claimed_by_node}
 use Rattle.dimacs_arrays.specs.PathsSpelled.{label_with}
 use Rattle.dimacs_arrays.proofs.PathsOverLemmas.{few_yet, has_source, lawful_label, near, none_more, none_yet, one_more}
-use Rattle.dimacs_arrays.proofs.paths_over.block_by_id.Goals as goal
 use Rattle.dimacs_arrays.proofs.paths_over.block_by_id.Goals.{in-Some+in_ok-add, in_default}
+use Rattle.dimacs_arrays.proofs.paths_over.block_by_id.Goals as goal
 
 pub add-requires : goal.add-requires
 add-requires c =

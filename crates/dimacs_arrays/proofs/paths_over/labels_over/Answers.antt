@@ -1,13 +1,9 @@
 use Rattle.std.proofs.Common.{[], ◌∷◌, length, rules}
 use Rattle.dimacs_judging.specs.Tests.{Settles}
-use Rattle.dimacs_decide.specs.Claims.{claimed_by_node}
-use Rattle.dimacs_arrays.specs.declared.error.Array.TheVariants.{Predecessors}
-use Rattle.dimacs_arrays.specs.Answers.{length_of}
-use Rattle.dimacs_arrays.specs.Paths.{label_rows}
-use Rattle.dimacs_decide.specs.Predecessors.{pred_by_node}
-use Rattle.dimacs_arrays.specs.PathsSpelled.{AreOrderedLabels, HasSource, source_limits}
-use Rattle.dimacs_arrays.proofs.AnswerLemmas.{tells_refusal}
-use Rattle.dimacs_arrays.proofs.PathsOverLemmas.{none_ordered}
+use Rattle.dimacs_decide.specs.{Claims.{claimed_by_node}, Predecessors.{pred_by_node}}
+use Rattle.dimacs_arrays.specs.{declared.error.Array.TheVariants.{Predecessors}, Answers.{length_of}}
+use Rattle.dimacs_arrays.specs.{Paths.{label_rows}, PathsSpelled.{AreOrderedLabels, HasSource, source_limits}}
+use Rattle.dimacs_arrays.proofs.{AnswerLemmas.{tells_refusal}, PathsOverLemmas.{none_ordered}}
 use Rattle.dimacs_arrays.proofs.paths_over.labels_over.Goals as goal
 
 pub returns-in_err-labels_by_node : goal.returns-in_err-labels_by_node

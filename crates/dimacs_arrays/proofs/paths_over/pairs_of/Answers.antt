@@ -1,7 +1,5 @@
-use Rattle.std.proofs.Common.{◌∙◌, refl, arith}
+use Rattle.std.proofs.{Common.{◌∙◌, refl, arith}, lemmas.List.{take_all}, lemmas.Slice.Zip.{length-zip}}
 use Rattle.std.specs.List.{zip}
-use Rattle.std.proofs.lemmas.List.{take_all}
-use Rattle.std.proofs.lemmas.Slice.Zip.{length-zip}
 use Rattle.dimacs_arrays.proofs.PathsOverLemmas.{pairs_more}
 use Rattle.dimacs_arrays.proofs.paths_over.pairs_of.Goals as goal
 

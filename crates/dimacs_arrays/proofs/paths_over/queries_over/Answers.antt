@@ -1,7 +1,6 @@
 use Rattle.std.proofs.Common.{◌≡◌, [], ◌∷◌, None}
 use Rattle.dimacs_instance.specs.QueryTexts.{AreLawful}
-use Rattle.dimacs_arrays.specs.declared.error.ArrayError.TheVariants.{Limit}
-use Rattle.dimacs_arrays.specs.Answers.{first_misfit}
+use Rattle.dimacs_arrays.specs.{declared.error.ArrayError.TheVariants.{Limit}, Answers.{first_misfit}}
 use Rattle.dimacs_arrays.specs.PathsSpelled.{AreAsked, queries_spelled, query_lengths, query_row}
 use Rattle.dimacs_arrays.proofs.AnswerLemmas.{tells_limit}
 use Rattle.dimacs_arrays.proofs.PathsOverLemmas.{all_clear, in_range_lawful, lawful_in_range, queries_one_way}

@@ -1,5 +1,4 @@
-use Rattle.std.proofs.Common.{◌∙◌, ◌<◌, length, subst, sym, arith, ap}
-use Rattle.std.proofs.lemmas.List.{length-set}
+use Rattle.std.proofs.{Common.{◌∙◌, ◌<◌, length, subst, sym, arith, ap}, lemmas.List.{length-set}}
 use Rattle.std.proofs.lemmas.List.Elements.{All-get_or}
 use Rattle.dimacs_lines.specs.Limits.{IsNode}
 use Rattle.dimacs_claims.specs.Labels.{IsLabel, no_label}

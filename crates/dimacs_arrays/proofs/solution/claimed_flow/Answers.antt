@@ -1,6 +1,5 @@
-use Rattle.std.proofs.Common.{ℤ, subst, rules, SFits}
+use Rattle.std.proofs.{Common.{ℤ, subst, rules, SFits}, lemmas.Int.{to_z-of_z}}
 use Rattle.std.specs.Int.{w128}
-use Rattle.std.proofs.lemmas.Int.{to_z-of_z}
 use Rattle.dimacs_records.specs.Ranges.{IsWhole}
 use Rattle.dimacs_arrays.proofs.SolutionLemmas.{entry_refused, value_refused}
 use Rattle.dimacs_arrays.proofs.solution.claimed_flow.Goals as goal

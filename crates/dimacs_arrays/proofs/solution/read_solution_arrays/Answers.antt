@@ -1,8 +1,7 @@
 use Rattle.std.proofs.Common.{[], ℕ, List, refl}
 use Rattle.dimacs_network.specs.Arcs.{NetworkValue}
 use Rattle.dimacs_instance.specs.Graph.{IsGraph}
-use Rattle.dimacs_arrays.specs.declared.solution.ClaimedFlow.{ClaimedFlow}
-use Rattle.dimacs_arrays.specs.declared.solution.EndArrays.{EndArrays}
+use Rattle.dimacs_arrays.specs.{declared.solution.ClaimedFlow.{ClaimedFlow}, declared.solution.EndArrays.{EndArrays}}
 use Rattle.dimacs_arrays.specs.SolutionArrays.{ReadsSolutionOver, ends_lengths, ends_limits, ends_spelled}
 use Rattle.dimacs_arrays.proofs.AnswerLemmas.{Call, call_tells, call_tells_limit, call_tells_refusal}
 use Rattle.dimacs_arrays.proofs.SolutionLemmas.{ends_clear, ends_one_way}

@@ -1,13 +1,10 @@
-use Rattle.std.proofs.Common.{◌∙◌, [], ◌∷◌, ℤ, List, length, sym, w64}
-use Rattle.std.proofs.lemmas.Int.{to_z-of_z}
+use Rattle.std.proofs.{Common.{◌∙◌, [], ◌∷◌, ℤ, List, length, sym, w64}, lemmas.Int.{to_z-of_z}}
 use Rattle.std.proofs.lemmas.List.FromFn.{length-map-range_with_len}
 use Rattle.dimacs_network.specs.Arcs.{NetworkValue}
 use Rattle.dimacs_instance.specs.Graph.{IsGraph}
 use Rattle.dimacs_claims.specs.declared.solution.Solution.{Solution}
-use Rattle.dimacs_arrays.specs.declared.error.Array.TheVariants.{Flows}
-use Rattle.dimacs_arrays.specs.declared.lengths.ArrayLength.{ArrayLength}
-use Rattle.dimacs_arrays.specs.declared.solution.EndArrays.{EndArrays}
-use Rattle.dimacs_arrays.specs.Answers.{length_of}
+use Rattle.dimacs_arrays.specs.{declared.error.Array.TheVariants.{Flows}, declared.lengths.ArrayLength.{ArrayLength}}
+use Rattle.dimacs_arrays.specs.{declared.solution.EndArrays.{EndArrays}, Answers.{length_of}}
 use Rattle.dimacs_arrays.specs.SolutionArrays.{MakesSolution, end_arc, ends_lengths, ends_limits, ends_spelled}
 use Rattle.dimacs_arrays.proofs.AnswerLemmas.{Call, all_fit, call_tells, call_tells_limit, call_tells_refusal}
 use Rattle.dimacs_arrays.proofs.SolutionLemmas.{ends_clear, ends_one_way}

@@ -1,7 +1,6 @@
 use Rattle.std.proofs.Common.{[], ℕ, refl}
 use Rattle.dimacs_instance.specs.MaxFlows.{MaxValue, IsMax}
-use Rattle.dimacs_arrays.specs.declared.max.MaxArrays.{MaxArrays}
-use Rattle.dimacs_arrays.specs.declared.solve_max.MaxSolved.{MaxSolved}
+use Rattle.dimacs_arrays.specs.{declared.max.MaxArrays.{MaxArrays}, declared.solve_max.MaxSolved.{MaxSolved}}
 use Rattle.dimacs_arrays.specs.MaxArrays.{SolvesMaxFlow, max_lengths, max_limits, max_spelled}
 use Rattle.dimacs_arrays.proofs.AnswerLemmas.{Call, call_tells, call_tells_limit, call_tells_refusal}
 use Rattle.dimacs_arrays.proofs.MaxLemmas.{max_clear, max_one_way}

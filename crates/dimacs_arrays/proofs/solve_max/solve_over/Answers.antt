@@ -1,7 +1,5 @@
-use Rattle.std.proofs.Common.{◌∙◌, rules, SFits, subst}
+use Rattle.std.proofs.{Common.{◌∙◌, rules, SFits, subst}, lemmas.Int.{to_z-of_z}, lemmas.Slice.Zip.{AllZip-long}}
 use Rattle.std.specs.Int.{w128}
-use Rattle.std.proofs.lemmas.Int.{to_z-of_z}
-use Rattle.std.proofs.lemmas.Slice.Zip.{AllZip-long}
 use Rattle.dimacs_claims.specs.Cuts.{CutValue, IsCut}
 use Rattle.dimacs_arrays.proofs.CertifyLemmas.{max_by}
 use Rattle.dimacs_arrays.proofs.solve_max.solve_over.Goals as goal

@@ -1,7 +1,5 @@
-use Rattle.std.proofs.Common.{◌∙◌, rules, SFits}
+use Rattle.std.proofs.{Common.{◌∙◌, rules, SFits}, lemmas.Int.{to_z-of_z}, lemmas.Slice.Zip.{AllZip-long}}
 use Rattle.std.specs.Int.{w128}
-use Rattle.std.proofs.lemmas.Int.{to_z-of_z}
-use Rattle.std.proofs.lemmas.Slice.Zip.{AllZip-long}
 use Rattle.dimacs_arrays.proofs.CertifyLemmas.{min_by, min_by_wider}
 use Rattle.dimacs_arrays.proofs.solve_min.least_by.Goals as goal
 

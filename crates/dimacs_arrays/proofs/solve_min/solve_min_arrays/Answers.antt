@@ -1,7 +1,6 @@
 use Rattle.std.proofs.Common.{[], ℕ, refl, subst}
 use Rattle.dimacs_instance.specs.MinFlows.{MinValue, IsMin}
-use Rattle.dimacs_arrays.specs.declared.min.MinArrays.{MinArrays}
-use Rattle.dimacs_arrays.specs.declared.solve_min.MinSolved.{MinSolved}
+use Rattle.dimacs_arrays.specs.{declared.min.MinArrays.{MinArrays}, declared.solve_min.MinSolved.{MinSolved}}
 use Rattle.dimacs_arrays.specs.MinArrays.{SolvesMinFlow, min_lengths, min_limits, min_spelled}
 use Rattle.dimacs_arrays.proofs.AnswerLemmas.{Call, call_tells, call_tells_limit, call_tells_refusal}
 use Rattle.dimacs_arrays.proofs.MinLemmas.{min_clear, min_one_way}

@@ -1,13 +1,10 @@
-use Rattle.std.proofs.Common.{◌≡◌, ◌∷◌, [], ℕ, length, ap}
-use Rattle.std.proofs.lemmas.List.Elements.{All-head}
+use Rattle.std.proofs.{Common.{◌≡◌, ◌∷◌, [], ℕ, length, ap}, lemmas.List.Elements.{All-head}}
 use Rattle.dimacs_claims.specs.Labels.{IsBlock, LabelsValue}
 use Rattle.dimacs_instance.specs.QueryTexts.{Sources}
 use Rattle.dimacs_network.specs.Arcs.{NetworkValue}
 use Rattle.dimacs_solve.specs.Paths.{AreProduced}
-use Rattle.dimacs_arrays.specs.inside.PredecessorsOf.{ArePredsOf}
-use Rattle.dimacs_arrays.specs.inside.LabelDistances.{AreDistancesOf}
-use Rattle.dimacs_arrays.proofs.CertifyPathsLemmas.{one_block}
-use Rattle.dimacs_arrays.proofs.SolveLemmas.{found_by, one_source}
+use Rattle.dimacs_arrays.specs.{inside.PredecessorsOf.{ArePredsOf}, inside.LabelDistances.{AreDistancesOf}}
+use Rattle.dimacs_arrays.proofs.{CertifyPathsLemmas.{one_block}, SolveLemmas.{found_by, one_source}}
 use Rattle.dimacs_arrays.proofs.solve_paths.solve_over.Goals as goal
 
 one_alone : (g : NetworkValue) (s : ℕ) (labels : LabelsValue) → AreProduced g (Sources (s ∷ [])) labels → length labels.blocks ≡ 1

@@ -2,10 +2,9 @@ use Rattle.std.proofs.Common.{[], ℕ, refl}
 use Rattle.dimacs_lines.specs.Limits.{IsNode}
 use Rattle.dimacs_network.specs.Arcs.{NetworkValue}
 use Rattle.dimacs_instance.specs.Graph.{IsGraph}
-use Rattle.dimacs_arrays.specs.declared.graph.GraphArrays.{GraphArrays}
+use Rattle.dimacs_arrays.specs.{declared.graph.GraphArrays.{GraphArrays}, Paths.{SolvesByNode}}
 use Rattle.dimacs_arrays.specs.declared.solve_paths.PathsSolved.{PathsSolved}
 use Rattle.dimacs_arrays.specs.GraphArrays.{graph_lengths, graph_limits, graph_spelled}
-use Rattle.dimacs_arrays.specs.Paths.{SolvesByNode}
 use Rattle.dimacs_arrays.proofs.AnswerLemmas.{Call, call_tells, call_tells_limit, call_tells_refusal}
 use Rattle.dimacs_arrays.proofs.GraphLemmas.{graph_clear, graph_one_way}
 use Rattle.dimacs_arrays.proofs.solve_paths.solve_paths_arrays.Goals as goal

@@ -1,6 +1,5 @@
 use Rattle.std.proofs.Common.{◌≢◌, ℕ, ◌<◌}
-use Rattle.dimacs_decide.specs.Claims.{claimed_by_node}
-use Rattle.dimacs_decide.specs.Predecessors.{NeedsPredecessor, pred_by_node}
+use Rattle.dimacs_decide.specs.{Claims.{claimed_by_node}, Predecessors.{NeedsPredecessor, pred_by_node}}
 use Rattle.dimacs_arrays.proofs.tight_predecessors.all_have_predecessors.Given as goal
 
 -- the nodes before v that need a predecessor have one

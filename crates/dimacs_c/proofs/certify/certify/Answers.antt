@@ -1,7 +1,6 @@
 use Rattle.std.proofs.Common.{[], ◌∷◌, Some, ap}
 use Rattle.dimacs_lines.specs.Devices.{InMemory}
-use Rattle.dimacs_runs.specs.Certified.{Certified}
-use Rattle.dimacs_runs.specs.Outputs.{WritesAlike}
+use Rattle.dimacs_runs.specs.{Certified.{Certified}, Outputs.{WritesAlike}}
 use Rattle.dimacs_c.specs.Calls.{handed}
 use Rattle.dimacs_c.proofs.CallLemmas.{answered_texts}
 use Rattle.dimacs_c.proofs.certify.certify.Goals as goal

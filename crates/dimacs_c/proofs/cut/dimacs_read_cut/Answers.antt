@@ -1,10 +1,8 @@
 use Rattle.std.proofs.Common.{Some, ap, codes, refl}
 use Rattle.dimacs_records.specs.declared.kinds.TextKind.TheVariants.{Cut}
 use Rattle.dimacs_claims.specs.Cuts.{CutValue, SpellsCut, empty_cut}
-use Rattle.dimacs_fill.specs.CutFilled.{ReadsCutInto, inside_of}
-use Rattle.dimacs_fill.specs.Filling.{IsFilled}
-use Rattle.dimacs_c.specs.Calls.{handed}
-use Rattle.dimacs_c.specs.Reading.{SetsLength}
+use Rattle.dimacs_fill.specs.{CutFilled.{ReadsCutInto, inside_of}, Filling.{IsFilled}}
+use Rattle.dimacs_c.specs.{Calls.{handed}, Reading.{SetsLength}}
 use Rattle.dimacs_c.proofs.ReadLemmas.{read_memory, was_unread}
 use Rattle.dimacs_c.proofs.cut.dimacs_read_cut.Goals as goal
 

@@ -1,9 +1,7 @@
 use Rattle.std.proofs.Common.{None, ap}
 use Rattle.dimacs_lines.specs.Devices.{InMemory}
 use Rattle.dimacs_arrays.specs.Spelled.{SpellsCutArray}
-use Rattle.dimacs_c.specs.ArrayTexts.{cut_text}
-use Rattle.dimacs_c.specs.Arrays.{buffers}
-use Rattle.dimacs_c.specs.Calls.{handed}
+use Rattle.dimacs_c.specs.{ArrayTexts.{cut_text}, Arrays.{buffers}, Calls.{handed}}
 use Rattle.dimacs_c.proofs.ArrayLemmas.{items_answered}
 use Rattle.dimacs_c.proofs.cut.dimacs_write_cut.Goals as goal
 

@@ -1,9 +1,7 @@
 use Rattle.std.proofs.Common.{None, ap}
 use Rattle.dimacs_lines.specs.Devices.{InMemory}
 use Rattle.dimacs_arrays.specs.PathsSpelled.{SpellsDistancesArray}
-use Rattle.dimacs_c.specs.ArrayTexts.{distances_text}
-use Rattle.dimacs_c.specs.Arrays.{buffers}
-use Rattle.dimacs_c.specs.Calls.{handed}
+use Rattle.dimacs_c.specs.{ArrayTexts.{distances_text}, Arrays.{buffers}, Calls.{handed}}
 use Rattle.dimacs_c.proofs.ArrayLemmas.{items_answered}
 use Rattle.dimacs_c.proofs.distances.dimacs_write_distances.Goals as goal
 

@@ -2,8 +2,7 @@ use Rattle.std.proofs.Common.{◌∙◌, ◌∷◌, [], List, ℕ, Some, ap, inl
 use Rattle.std.specs.String.{string_bytes}
 use Rattle.dimacs_lines.specs.Devices.{InMemory}
 use Rattle.dimacs_runs.specs.Explained.{is_explained}
-use Rattle.dimacs_c.specs.Calls.{HandsOut, handed}
-use Rattle.dimacs_c.specs.Explained.{ReportsJob, text_named}
+use Rattle.dimacs_c.specs.{Calls.{HandsOut, handed}, Explained.{ReportsJob, text_named}}
 use Rattle.dimacs_c.proofs.ExplainLemmas.{front_of, run_report}
 use Rattle.dimacs_c.proofs.explain.explain.Goals as goal
 

@@ -1,6 +1,5 @@
 use Rattle.std.proofs.Common.{◌≡◌, ◌++◌, map}
-use Rattle.std.specs.String.{string_bytes}
-use Rattle.std.specs.Str.Lossy.{utf8_lossy}
+use Rattle.std.specs.{String.{string_bytes}, Str.Lossy.{utf8_lossy}}
 use Rattle.dimacs_lines.specs.Fields.{Run}
 use Rattle.dimacs_c.specs.Explained.{words}
 use Rattle.dimacs_c.proofs.explain.words_of.Given as goal

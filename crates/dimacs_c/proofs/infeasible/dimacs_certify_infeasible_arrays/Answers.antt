@@ -1,8 +1,7 @@
 use Rattle.std.proofs.Common.{None, Some, ap}
 use Rattle.dimacs_lines.specs.Devices.{InMemory}
 use Rattle.dimacs_arrays.specs.MinArrays.{CertifiesInfeasibleArrays}
-use Rattle.dimacs_c.specs.Arrays.{infeasible_printed, buffers}
-use Rattle.dimacs_c.specs.Calls.{handed}
+use Rattle.dimacs_c.specs.{Arrays.{infeasible_printed, buffers}, Calls.{handed}}
 use Rattle.dimacs_c.proofs.ArrayLemmas.{items_answered}
 use Rattle.dimacs_c.proofs.infeasible.dimacs_certify_infeasible_arrays.Goals as goal
 

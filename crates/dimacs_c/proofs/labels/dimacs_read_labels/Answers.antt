@@ -1,11 +1,9 @@
 use Rattle.std.proofs.Common.{ℕ, ℤ, Some, ap, codes, pos, refl}
-use Rattle.dimacs_records.specs.declared.kinds.TextKind.TheVariants as kinds
 use Rattle.dimacs_claims.specs.LabelTexts.{SpellsLabels}
-use Rattle.dimacs_fill.specs.BlockFilled.{FillsLabels, ReadsLabelsInto}
-use Rattle.dimacs_fill.specs.Filling.{Array, IsKept}
-use Rattle.dimacs_c.specs.Calls.{handed}
-use Rattle.dimacs_c.specs.Reading.{SetsLabels}
+use Rattle.dimacs_fill.specs.{BlockFilled.{FillsLabels, ReadsLabelsInto}, Filling.{Array, IsKept}}
+use Rattle.dimacs_c.specs.{Calls.{handed}, Reading.{SetsLabels}}
 use Rattle.dimacs_c.proofs.ReadLemmas.{fill_memory, unfilled}
+use Rattle.dimacs_records.specs.declared.kinds.TextKind.TheVariants as kinds
 use Rattle.dimacs_c.proofs.labels.dimacs_read_labels.Goals as goal
 
 pub returns-in-Err : goal.returns-in-Err

@@ -1,8 +1,7 @@
 use Rattle.std.proofs.Common.{None, Some, ap}
 use Rattle.dimacs_lines.specs.Devices.{InMemory}
 use Rattle.dimacs_arrays.specs.MaxArrays.{SolvesMaxArrays}
-use Rattle.dimacs_c.specs.Arrays.{max_found, buffers}
-use Rattle.dimacs_c.specs.Calls.{handed}
+use Rattle.dimacs_c.specs.{Arrays.{max_found, buffers}, Calls.{handed}}
 use Rattle.dimacs_c.proofs.ArrayLemmas.{items_answered}
 use Rattle.dimacs_c.proofs.max.dimacs_solve_max_arrays.Goals as goal
 

@@ -1,8 +1,7 @@
 use Rattle.std.proofs.Common.{None, Some, ap}
 use Rattle.dimacs_lines.specs.Devices.{InMemory}
 use Rattle.dimacs_arrays.specs.MinArrays.{CertifiesMinArrays}
-use Rattle.dimacs_c.specs.Arrays.{min_printed, buffers}
-use Rattle.dimacs_c.specs.Calls.{handed}
+use Rattle.dimacs_c.specs.{Arrays.{min_printed, buffers}, Calls.{handed}}
 use Rattle.dimacs_c.proofs.ArrayLemmas.{items_answered}
 use Rattle.dimacs_c.proofs.min.dimacs_certify_min_arrays.Goals as goal
 

@@ -1,8 +1,7 @@
 use Rattle.std.proofs.Common.{Some, ap}
 use Rattle.dimacs_lines.specs.Devices.{InMemory}
 use Rattle.dimacs_arrays.specs.MinArrays.{SolvesMinArrays}
-use Rattle.dimacs_c.specs.Arrays.{min_found, buffers}
-use Rattle.dimacs_c.specs.Calls.{handed}
+use Rattle.dimacs_c.specs.{Arrays.{min_found, buffers}, Calls.{handed}}
 use Rattle.dimacs_c.proofs.ArrayLemmas.{items_answered}
 use Rattle.dimacs_c.proofs.min.dimacs_solve_min_arrays.Goals as goal
 

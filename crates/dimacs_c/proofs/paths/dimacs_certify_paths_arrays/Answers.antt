@@ -1,8 +1,7 @@
 use Rattle.std.proofs.Common.{None, Some, ap}
 use Rattle.dimacs_lines.specs.Devices.{InMemory}
 use Rattle.dimacs_arrays.specs.GraphArrays.{CertifiesPathsArrays}
-use Rattle.dimacs_c.specs.Arrays.{paths_printed, buffers}
-use Rattle.dimacs_c.specs.Calls.{handed}
+use Rattle.dimacs_c.specs.{Arrays.{paths_printed, buffers}, Calls.{handed}}
 use Rattle.dimacs_c.proofs.ArrayLemmas.{items_answered}
 use Rattle.dimacs_c.proofs.paths.dimacs_certify_paths_arrays.Goals as goal
 

@@ -1,11 +1,9 @@
 use Rattle.std.proofs.Common.{ℤ, Some, ap, codes, refl}
-use Rattle.dimacs_records.specs.declared.kinds.TextKind.TheVariants as kinds
 use Rattle.dimacs_claims.specs.Potentials.{SpellsPotentials}
-use Rattle.dimacs_fill.specs.Filling.{Array, IsKept}
-use Rattle.dimacs_fill.specs.PotentialsFilled.{FillsPotentials, ReadsPotentialsInto}
-use Rattle.dimacs_c.specs.Calls.{handed}
-use Rattle.dimacs_c.specs.Reading.{SetsLength}
+use Rattle.dimacs_fill.specs.{Filling.{Array, IsKept}, PotentialsFilled.{FillsPotentials, ReadsPotentialsInto}}
+use Rattle.dimacs_c.specs.{Calls.{handed}, Reading.{SetsLength}}
 use Rattle.dimacs_c.proofs.ReadLemmas.{fill_memory, unfilled}
+use Rattle.dimacs_records.specs.declared.kinds.TextKind.TheVariants as kinds
 use Rattle.dimacs_c.proofs.potentials.dimacs_read_potentials.Goals as goal
 
 pub returns-in-Err : goal.returns-in-Err

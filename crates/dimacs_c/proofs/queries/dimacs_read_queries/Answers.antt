@@ -1,10 +1,9 @@
 use Rattle.std.proofs.Common.{[], Some, ap, codes, refl}
-use Rattle.dimacs_records.specs.declared.kinds.TextKind.TheVariants as kinds
 use Rattle.dimacs_instance.specs.QueryTexts.{Sources, SpellsQueries}
 use Rattle.dimacs_fill.specs.QueriesFilled.{HoldQueries, ReadsQueriesInto, query_sizes}
-use Rattle.dimacs_c.specs.Calls.{handed}
-use Rattle.dimacs_c.specs.Reading.{SetsQueries}
+use Rattle.dimacs_c.specs.{Calls.{handed}, Reading.{SetsQueries}}
 use Rattle.dimacs_c.proofs.ReadLemmas.{read_memory, was_unread}
+use Rattle.dimacs_records.specs.declared.kinds.TextKind.TheVariants as kinds
 use Rattle.dimacs_c.proofs.queries.dimacs_read_queries.Goals as goal
 
 pub returns-in-Err : goal.returns-in-Err

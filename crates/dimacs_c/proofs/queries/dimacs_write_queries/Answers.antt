@@ -2,9 +2,7 @@ use Rattle.std.proofs.Common.{None, ap}
 use Rattle.std.specs.Prelude.{nat_lt}
 use Rattle.dimacs_lines.specs.Devices.{InMemory}
 use Rattle.dimacs_arrays.specs.PathsSpelled.{SpellsQueryArrays}
-use Rattle.dimacs_c.specs.ArrayTexts.{queries_text}
-use Rattle.dimacs_c.specs.Arrays.{buffers}
-use Rattle.dimacs_c.specs.Calls.{handed}
+use Rattle.dimacs_c.specs.{ArrayTexts.{queries_text}, Arrays.{buffers}, Calls.{handed}}
 use Rattle.dimacs_c.proofs.ArrayLemmas.{items_answered}
 use Rattle.dimacs_c.proofs.queries.dimacs_write_queries.Goals as goal
 

@@ -2,8 +2,7 @@ use Rattle.std.proofs.Common.{Some, ap, codes, refl}
 use Rattle.dimacs_records.specs.declared.kinds.TextKind.TheVariants.{Graph}
 use Rattle.dimacs_instance.specs.Graph.{SpellsGraph}
 use Rattle.dimacs_fill.specs.GraphFilled.{HoldGraph, ReadsGraphInto, graph_sizes}
-use Rattle.dimacs_c.specs.Calls.{handed}
-use Rattle.dimacs_c.specs.Reading.{SetsGraph}
+use Rattle.dimacs_c.specs.{Calls.{handed}, Reading.{SetsGraph}}
 use Rattle.dimacs_c.proofs.ReadLemmas.{arcs_memory, was_unread}
 use Rattle.dimacs_c.proofs.read_instance.dimacs_read_graph.Goals as goal
 

@@ -2,8 +2,7 @@ use Rattle.std.proofs.Common.{Some, ap, codes, refl}
 use Rattle.dimacs_records.specs.declared.kinds.TextKind.TheVariants.{Max}
 use Rattle.dimacs_instance.specs.MaxTexts.{SpellsMax}
 use Rattle.dimacs_fill.specs.MaxFilled.{HoldMax, ReadsMaxInto, max_sizes}
-use Rattle.dimacs_c.specs.Calls.{handed}
-use Rattle.dimacs_c.specs.Reading.{SetsMax}
+use Rattle.dimacs_c.specs.{Calls.{handed}, Reading.{SetsMax}}
 use Rattle.dimacs_c.proofs.ReadLemmas.{arcs_memory, was_unread}
 use Rattle.dimacs_c.proofs.read_instance.dimacs_read_max.Goals as goal
 

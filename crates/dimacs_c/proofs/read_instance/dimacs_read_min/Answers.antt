@@ -2,8 +2,7 @@ use Rattle.std.proofs.Common.{Some, ap, codes, refl}
 use Rattle.dimacs_records.specs.declared.kinds.TextKind.TheVariants.{Min}
 use Rattle.dimacs_instance.specs.MinTexts.{SpellsMin}
 use Rattle.dimacs_fill.specs.MinFilled.{HoldMin, ReadsMinInto, min_sizes}
-use Rattle.dimacs_c.specs.Calls.{handed}
-use Rattle.dimacs_c.specs.Reading.{SetsMin}
+use Rattle.dimacs_c.specs.{Calls.{handed}, Reading.{SetsMin}}
 use Rattle.dimacs_c.proofs.ReadLemmas.{arcs_memory, was_unread}
 use Rattle.dimacs_c.proofs.read_instance.dimacs_read_min.Goals as goal
 

@@ -1,12 +1,8 @@
-use Rattle.std.proofs.Common.{None, Some, ap, w64, rules, SFits}
-use Rattle.std.proofs.lemmas.Int.{to_z-of_z}
+use Rattle.std.proofs.{Common.{None, Some, ap, w64, rules, SFits}, lemmas.Int.{to_z-of_z}}
 use Rattle.dimacs_lines.specs.Devices.{InMemory}
 use Rattle.dimacs_arrays.specs.SolutionArrays.{ReadsSolutionArrays}
-use Rattle.dimacs_c.specs.ArrayTexts.{flow_read, value_read}
-use Rattle.dimacs_c.specs.Arrays.{buffers}
-use Rattle.dimacs_c.specs.Calls.{handed}
-use Rattle.dimacs_c.proofs.ArrayLemmas.{claim_answered}
-use Rattle.dimacs_c.proofs.ReadLemmas.{value_set}
+use Rattle.dimacs_c.specs.{ArrayTexts.{flow_read, value_read}, Arrays.{buffers}, Calls.{handed}}
+use Rattle.dimacs_c.proofs.{ArrayLemmas.{claim_answered}, ReadLemmas.{value_set}}
 use Rattle.dimacs_c.proofs.solution.dimacs_read_solution.Goals as goal
 
 pub returns : goal.returns

@@ -1,10 +1,7 @@
-use Rattle.std.proofs.Common.{None, ap, w64}
-use Rattle.std.proofs.lemmas.Int.{to_z-of_z}
+use Rattle.std.proofs.{Common.{None, ap, w64}, lemmas.Int.{to_z-of_z}}
 use Rattle.dimacs_lines.specs.Devices.{InMemory}
 use Rattle.dimacs_arrays.specs.SolutionArrays.{MakesSolutionArrays}
-use Rattle.dimacs_c.specs.ArrayTexts.{solution_text}
-use Rattle.dimacs_c.specs.Arrays.{buffers}
-use Rattle.dimacs_c.specs.Calls.{handed}
+use Rattle.dimacs_c.specs.{ArrayTexts.{solution_text}, Arrays.{buffers}, Calls.{handed}}
 use Rattle.dimacs_c.proofs.ArrayLemmas.{items_answered}
 use Rattle.dimacs_c.proofs.solution.dimacs_write_solution.Goals as goal
 

@@ -1,7 +1,6 @@
 use Rattle.std.proofs.Common.{[], ◌∷◌, Some, ap}
 use Rattle.dimacs_lines.specs.Devices.{InMemory}
-use Rattle.dimacs_runs.specs.Outputs.{MayWrite}
-use Rattle.dimacs_runs.specs.Solved.{Solved}
+use Rattle.dimacs_runs.specs.{Outputs.{MayWrite}, Solved.{Solved}}
 use Rattle.dimacs_c.specs.Calls.{handed}
 use Rattle.dimacs_c.proofs.CallLemmas.{answered_texts, are_queries}
 use Rattle.dimacs_c.proofs.solve.solve.Goals as goal

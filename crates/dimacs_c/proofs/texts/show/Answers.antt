@@ -1,7 +1,6 @@
 use Rattle.std.proofs.Common.{Some, ap}
 use Rattle.dimacs_lines.specs.Devices.{InMemory}
-use Rattle.dimacs_runs.specs.Runs.{Prints}
-use Rattle.dimacs_runs.specs.declared.text.TextForm.TheVariants.{Summary}
+use Rattle.dimacs_runs.specs.{Runs.{Prints}, declared.text.TextForm.TheVariants.{Summary}}
 use Rattle.dimacs_c.specs.Calls.{handed}
 use Rattle.dimacs_c.proofs.CallLemmas.{answered}
 use Rattle.dimacs_c.proofs.texts.show.Goals as goal

@@ -1,9 +1,7 @@
 use Rattle.std.proofs.Common.{None, ap}
 use Rattle.dimacs_lines.specs.Devices.{InMemory}
 use Rattle.dimacs_arrays.specs.Spelled.{SpellsMaxArrays}
-use Rattle.dimacs_c.specs.ArrayTexts.{max_text}
-use Rattle.dimacs_c.specs.Arrays.{buffers}
-use Rattle.dimacs_c.specs.Calls.{handed}
+use Rattle.dimacs_c.specs.{ArrayTexts.{max_text}, Arrays.{buffers}, Calls.{handed}}
 use Rattle.dimacs_c.proofs.ArrayLemmas.{items_answered}
 use Rattle.dimacs_c.proofs.write_instance.dimacs_write_max.Goals as goal
 

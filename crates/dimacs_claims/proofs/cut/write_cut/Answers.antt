@@ -1,10 +1,9 @@
 use Rattle.std.proofs.Common.{ap, map, arith}
-use Rattle.std.specs.FinSet as set
 use Rattle.dimacs_records.specs.declared.records.Record.TheVariants.{CutNode}
 use Rattle.dimacs_records.proofs.ReadLaws.{spells_one_value}
 use Rattle.dimacs_claims.specs.Cuts.{canonical_cut}
-use Rattle.dimacs_claims.proofs.CutLemmas.{cut_round_trip, one_cut}
-use Rattle.dimacs_claims.proofs.NodeLists.{lines_of_passing, passing}
+use Rattle.dimacs_claims.proofs.{CutLemmas.{cut_round_trip, one_cut}, NodeLists.{lines_of_passing, passing}}
+use Rattle.std.specs.FinSet as set
 use Rattle.dimacs_claims.proofs.cut.write_cut.Goals as goal
 
 pub put_text-requires : goal.put_text-requires

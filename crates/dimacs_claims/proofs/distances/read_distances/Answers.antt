@@ -1,9 +1,7 @@
-use Rattle.std.proofs.Common.{ap, length, ◌∙◌}
-use Rattle.std.proofs.lemmas.List.{length-map}
+use Rattle.std.proofs.{Common.{ap, length, ◌∙◌}, lemmas.List.{length-map}}
 use Rattle.dimacs_lines.specs.Lines.{lines}
 use Rattle.dimacs_records.specs.declared.kinds.TextKind.TheVariants.{Distances}
-use Rattle.dimacs_claims.specs.DistanceTexts.{GivesDistances, bare}
-use Rattle.dimacs_claims.specs.LabelTexts.{label_records}
+use Rattle.dimacs_claims.specs.{DistanceTexts.{GivesDistances, bare}, LabelTexts.{label_records}}
 use Rattle.dimacs_claims.proofs.LabelLaws.{fit_read}
 use Rattle.dimacs_claims.proofs.distances.read_distances.Goals as goal
 

@@ -1,7 +1,6 @@
 use Rattle.std.proofs.Common.{ap, subst}
 use Rattle.dimacs_records.proofs.ReadLaws.{spells_one_value}
-use Rattle.dimacs_claims.specs.DistanceTexts.{canonical_distances}
-use Rattle.dimacs_claims.specs.Labels.{AreLabels}
+use Rattle.dimacs_claims.specs.{DistanceTexts.{canonical_distances}, Labels.{AreLabels}}
 use Rattle.dimacs_claims.proofs.DistanceLaws.{distances_round_trip, one_distances}
 use Rattle.dimacs_claims.proofs.distances.write_distances.Goals as goal
 

@@ -1,5 +1,4 @@
-use Rattle.std.proofs.Common.{◌≡◌, length, arith}
-use Rattle.std.proofs.lemmas.Result.{on_ok_weaker}
+use Rattle.std.proofs.{Common.{◌≡◌, length, arith}, lemmas.Result.{on_ok_weaker}}
 use Rattle.dimacs_claims.proofs.BuilderLemmas.{added_last}
 use Rattle.dimacs_claims.proofs.labels.add_to_last.Goals as goal
 

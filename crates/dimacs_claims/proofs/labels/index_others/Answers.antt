@@ -1,7 +1,5 @@
-use Rattle.std.proofs.Common.{◌≡◌, ◌∷◌, [], ◌∙◌, ap, sym, subst, length, arith}
-use Rattle.std.proofs.lemmas.List.{length-append}
-use Rattle.dimacs_claims.specs.inside.ById.{IsById, labels_at}
-use Rattle.dimacs_claims.specs.Labels.{IsBlock}
+use Rattle.std.proofs.{Common.{◌≡◌, ◌∷◌, [], ◌∙◌, ap, sym, subst, length, arith}, lemmas.List.{length-append}}
+use Rattle.dimacs_claims.specs.{inside.ById.{IsById, labels_at}, Labels.{IsBlock}}
 use Rattle.dimacs_claims.proofs.ByIdLemmas.{fresh_apart, indexed_more, labels_of}
 use Rattle.dimacs_claims.proofs.labels.index_others.Goals as goal
 

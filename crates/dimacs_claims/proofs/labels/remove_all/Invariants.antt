@@ -1,6 +1,5 @@
 use Rattle.std.proofs.Common.{◌≡◌, ℕ, drop, true}
-use Rattle.std.specs.Prelude.{is_some}
-use Rattle.std.specs.FinSet.{contains}
+use Rattle.std.specs.{Prelude.{is_some}, FinSet.{contains}}
 use Rattle.dimacs_claims.specs.Labels.{distance_in}
 use Rattle.dimacs_claims.proofs.labels.remove_all.Given as goal
 

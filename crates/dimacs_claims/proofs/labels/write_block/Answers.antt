@@ -1,9 +1,7 @@
-use Rattle.std.proofs.Common.{◌∷◌, [], length, map, take, arith, refl}
-use Rattle.std.proofs.lemmas.Simd.{map-map}
+use Rattle.std.proofs.{Common.{◌∷◌, [], length, map, take, arith, refl}, lemmas.Simd.{map-map}}
 use Rattle.dimacs_records.specs.declared.records.Record.TheVariants.{LabelsBlock}
 use Rattle.dimacs_records.proofs.WrittenLemmas.{all_items, line_after, lines_after, lines_of_items}
-use Rattle.dimacs_claims.specs.LabelTexts.{label_line, block_lines}
-use Rattle.dimacs_claims.specs.inside.Lines.{in_kind, line_in_kind}
+use Rattle.dimacs_claims.specs.{LabelTexts.{label_line, block_lines}, inside.Lines.{in_kind, line_in_kind}}
 use Rattle.dimacs_claims.proofs.labels.write_block.Goals as goal
 
 pub returns : goal.returns

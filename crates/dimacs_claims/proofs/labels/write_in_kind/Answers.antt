@@ -1,13 +1,9 @@
 use Rattle.std.proofs.Common.{◌≡◌, ℕ, ◌<◌, ◌∷◌, [], List, ◌++◌, ◌+◌, ap, sym, subst, ◌∙◌, map, take, length, get_or}
+use Rattle.std.proofs.{lemmas.List.{append-nil, map-append, take_more}, lemmas.List.Concat.{flat_map-append}}
 use Rattle.std.specs.List.{All, flat_map}
-use Rattle.std.proofs.lemmas.List.{append-nil, map-append, take_more}
-use Rattle.std.proofs.lemmas.List.Concat.{flat_map-append}
-use Rattle.dimacs_records.specs.declared.records.Record.{Record}
-use Rattle.dimacs_records.specs.declared.records.Record.TheVariants.{LabelsProblem}
+use Rattle.dimacs_records.specs.{declared.records.Record.{Record}, declared.records.Record.TheVariants.{LabelsProblem}}
 use Rattle.dimacs_records.specs.Canonical.{canonical_text}
-use Rattle.dimacs_claims.specs.inside.Lines.{in_kind}
-use Rattle.dimacs_claims.specs.Labels.{BlockValue, IsBlock}
-use Rattle.dimacs_claims.specs.LabelTexts.{block_lines}
+use Rattle.dimacs_claims.specs.{inside.Lines.{in_kind}, Labels.{BlockValue, IsBlock}, LabelTexts.{block_lines}}
 use Rattle.dimacs_records.proofs.WrittenLemmas.{line_after, lines_after}
 use Rattle.dimacs_claims.proofs.labels.write_in_kind.Goals as goal
 

@@ -1,10 +1,8 @@
 use Rattle.std.proofs.Common.{map, take, length, ◌∷◌}
 use Rattle.std.specs.List.{flat_map}
 use Rattle.dimacs_lines.specs.OutputBuffers.{IsWritten}
-use Rattle.dimacs_records.specs.declared.records.Record.TheVariants.{LabelsProblem}
-use Rattle.dimacs_records.specs.Canonical.{canonical_text}
-use Rattle.dimacs_claims.specs.inside.Lines.{in_kind}
-use Rattle.dimacs_claims.specs.LabelTexts.{block_lines}
+use Rattle.dimacs_records.specs.{declared.records.Record.TheVariants.{LabelsProblem}, Canonical.{canonical_text}}
+use Rattle.dimacs_claims.specs.{inside.Lines.{in_kind}, LabelTexts.{block_lines}}
 use Rattle.dimacs_claims.proofs.labels.write_in_kind.Given as goal
 
 -- the problem line and the blocks so far were written

@@ -1,5 +1,4 @@
-use Rattle.std.proofs.Common.{ap, subst}
-use Rattle.std.proofs.lemmas.List.{map-id}
+use Rattle.std.proofs.{Common.{ap, subst}, lemmas.List.{map-id}}
 use Rattle.dimacs_lines.specs.Puts.{Puts}
 use Rattle.dimacs_records.proofs.ReadLaws.{spells_one_value}
 use Rattle.dimacs_records.specs.Canonical.{canonical_text}

@@ -1,13 +1,9 @@
-use Rattle.std.proofs.Common.{◌≡◌, SFits, Result, rules, subst}
+use Rattle.std.proofs.{Common.{◌≡◌, SFits, Result, rules, subst}, lemmas.Int.{to_z-of_z}}
 use Rattle.std.specs.Int.{w128}
-use Rattle.std.proofs.lemmas.Int.{to_z-of_z}
 use Rattle.dimacs_lines.specs.Lines.{lines}
-use Rattle.dimacs_records.specs.declared.faults.ReadError.{ReadError}
-use Rattle.dimacs_records.specs.declared.kinds.TextKind.TheVariants.{Solution}
-use Rattle.dimacs_records.specs.Faults.{Fault}
-use Rattle.dimacs_records.specs.Texts.{Reads}
-use Rattle.dimacs_claims.specs.SolutionReading.{IsPlaced}
-use Rattle.dimacs_claims.specs.SolutionTexts.{SolutionValue, SpellsSolution}
+use Rattle.dimacs_records.specs.{declared.faults.ReadError.{ReadError}, declared.kinds.TextKind.TheVariants.{Solution}}
+use Rattle.dimacs_records.specs.{Faults.{Fault}, Texts.{Reads}}
+use Rattle.dimacs_claims.specs.{SolutionReading.{IsPlaced}, SolutionTexts.{SolutionValue, SpellsSolution}}
 use Rattle.dimacs_claims.proofs.SolutionLemmas.{error_kept, kept_lawful, kept_solution}
 use Rattle.dimacs_claims.proofs.solution.read_solution.Goals as goal
 

@@ -1,8 +1,6 @@
-use Rattle.std.proofs.Common.{◌≡◌, SFits, ap, refl, rules, ◌∙◌, length, map, take, arith}
+use Rattle.std.proofs.{Common.{◌≡◌, SFits, ap, refl, rules, ◌∙◌, length, map, take, arith}, lemmas.Int.{to_z-of_z}}
 use Rattle.std.specs.Int.{w128}
-use Rattle.std.proofs.lemmas.Int.{to_z-of_z}
-use Rattle.dimacs_records.proofs.ReadLaws.{spells_one_value}
-use Rattle.dimacs_records.proofs.WrittenLemmas.{all_items, lines_of_items}
+use Rattle.dimacs_records.proofs.{ReadLaws.{spells_one_value}, WrittenLemmas.{all_items, lines_of_items}}
 use Rattle.dimacs_claims.specs.SolutionTexts.{canonical_solution, claimed, entry_record}
 use Rattle.dimacs_claims.proofs.SolutionLemmas.{canonical-renumbered, one_solution, solution_round_trip}
 use Rattle.dimacs_claims.proofs.solution.write_solution.Goals as goal

@@ -1,5 +1,4 @@
-use Rattle.std.proofs.Common.{rules, ◌≡◌, length, arith, w64, SFits}
-use Rattle.std.proofs.lemmas.Int.{to_z-of_z}
+use Rattle.std.proofs.{Common.{rules, ◌≡◌, length, arith, w64, SFits}, lemmas.Int.{to_z-of_z}}
 use Rattle.dimacs_decide.specs.inside.Cancelling.{IsCancelling}
 use Rattle.dimacs_decide.proofs.CancelLemmas as C
 use Rattle.dimacs_decide.proofs.cancel.cancel.Goals as goal

@@ -1,10 +1,7 @@
-use Rattle.std.proofs.Common.{rules, ◌≡◌, ◌<◌, pos, length, arith, ap, w64, SFits}
-use Rattle.std.proofs.lemmas.Int.{ints, to_z-of_z}
-use Rattle.std.proofs.lemmas.Option.{get_or_from_slice_get}
-use Rattle.std.proofs.lemmas.Slice.Zip.{AllZip-long}
-use Rattle.dimacs_network.specs.declared.network.ArcView.{ArcView}
+use Rattle.std.proofs.{Common.{rules, ◌≡◌, ◌<◌, pos, length, arith, ap, w64, SFits}, lemmas.Int.{ints, to_z-of_z}}
+use Rattle.std.proofs.{lemmas.Option.{get_or_from_slice_get}, lemmas.Slice.Zip.{AllZip-long}}
+use Rattle.dimacs_network.specs.{declared.network.ArcView.{ArcView}, Arcs.{arc_at, no_arc}}
 use Rattle.dimacs_judging.specs.Rows.{amount_at}
-use Rattle.dimacs_network.specs.Arcs.{arc_at, no_arc}
 use Rattle.dimacs_judging.proofs.Passing.{pair_at}
 use Rattle.dimacs_decide.specs.inside.Cycles.{residual_at}
 use Rattle.dimacs_decide.specs.inside.ResidualCapacities.{residual_capacity_at, residual_capacity_on}

@@ -1,7 +1,6 @@
 use Rattle.std.proofs.Common.{◌∙◌, ap, is_some, refl, sym}
 use Rattle.dimacs_network.specs.DenseTables.{value_at}
-use Rattle.dimacs_decide.proofs.BlockClaimLemmas.{label_within}
-use Rattle.dimacs_decide.proofs.CertifiedPathsLemmas.{decided_here}
+use Rattle.dimacs_decide.proofs.{BlockClaimLemmas.{label_within}, CertifiedPathsLemmas.{decided_here}}
 use Rattle.dimacs_decide.proofs.certified_paths.certify_by.Goals as goal
 
 pub certify_block-requires-clause-within : goal.certify_block-requires-clause-within

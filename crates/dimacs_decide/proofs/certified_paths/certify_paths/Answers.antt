@@ -1,11 +1,9 @@
-use Rattle.std.proofs.Common.{◌≡◌, ◌∙◌, ◌<◌, ◌≤◌, Ok, Err, length, arith, ap, refl, subst}
-use Rattle.std.proofs.lemmas.List.{take_all}
+use Rattle.std.proofs.{Common.{◌≡◌, ◌∙◌, ◌<◌, ◌≤◌, Ok, Err, length, arith, ap, refl, subst}, lemmas.List.{take_all}}
 use Rattle.std.proofs.lemmas.List.Elements.{All-more}
 use Rattle.std.specs.List.{AllZip}
 use Rattle.dimacs_claims.specs.Labels.{AreLabels, BlockValue, LabelsValue, label}
 use Rattle.dimacs_judging.specs.inside.Labels.{block_at}
-use Rattle.dimacs_decide.specs.CertifiedPaths.{AreAllDistances}
-use Rattle.dimacs_decide.specs.Distances.{AreDistancesFrom}
+use Rattle.dimacs_decide.specs.{CertifiedPaths.{AreAllDistances}, Distances.{AreDistancesFrom}}
 use Rattle.dimacs_decide.specs.inside.DistanceBlocks.{IsBlockFor}
 use Rattle.dimacs_decide.proofs.CertifiedPathsLemmas.{decided_here, fewer, made_more, next_source, paths_certified, refused_at, same_block, sources_within}
 use Rattle.dimacs_decide.proofs.certified_paths.certify_paths.Goals as goal

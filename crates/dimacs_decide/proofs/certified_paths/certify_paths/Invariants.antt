@@ -1,10 +1,7 @@
 use Rattle.std.proofs.Common.{◌≡◌, take}
-use Rattle.std.specs.List.{AllZip}
-use Rattle.std.specs.Prelude.{IfSome}
-use Rattle.dimacs_network.specs.AdjacencyLists.{AreAdjacencyLists}
-use Rattle.dimacs_network.specs.declared.adjacency_lists.Side.TheVariants.{Tail}
-use Rattle.dimacs_decide.specs.CertifiedPaths.{AreAllDistances}
-use Rattle.dimacs_decide.specs.inside.DistanceBlocks.{IsBlockFor}
+use Rattle.std.specs.{List.{AllZip}, Prelude.{IfSome}}
+use Rattle.dimacs_network.specs.{AdjacencyLists.{AreAdjacencyLists}, declared.adjacency_lists.Side.TheVariants.{Tail}}
+use Rattle.dimacs_decide.specs.{CertifiedPaths.{AreAllDistances}, inside.DistanceBlocks.{IsBlockFor}}
 use Rattle.dimacs_decide.specs.inside.FewLabels.{AreFree}
 use Rattle.dimacs_decide.proofs.certified_paths.certify_paths.Given as goal
 

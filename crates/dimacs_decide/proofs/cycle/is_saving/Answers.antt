@@ -1,11 +1,7 @@
 use Rattle.std.proofs.Common.{rules, ◌≡◌, ◌<◌, ◌∙◌, ℕ, pos, false, length, arith, add-one, ap, sym, subst, SFits, to_z, ◌+ℤ◌, ◌<ℤ◌}
+use Rattle.std.proofs.{lemmas.Int.{ints, to_z-of_z}, lemmas.Bool.{false≢true}, lemmas.Option.{get_or_from_slice_get}}
 use Rattle.std.specs.Int.{w128}
-use Rattle.std.proofs.lemmas.Int.{ints, to_z-of_z}
-use Rattle.std.proofs.lemmas.Bool.{false≢true}
-use Rattle.std.proofs.lemmas.Option.{get_or_from_slice_get}
-use Rattle.dimacs_network.specs.declared.network.ArcView.{ArcView}
-use Rattle.dimacs_network.specs.Arcs.{arc_at, no_arc}
-use Rattle.dimacs_network.specs.Tables.{value_of}
+use Rattle.dimacs_network.specs.{declared.network.ArcView.{ArcView}, Arcs.{arc_at, no_arc}, Tables.{value_of}}
 use Rattle.dimacs_decide.specs.inside.Cycles.{LeadsFrom, ending_of, gain_after, gain_of, node_after, residual_at}
 use Rattle.dimacs_decide.specs.inside.Heights.{gain_at}
 use Rattle.dimacs_decide.proofs.HeightLemmas.{arc_bounds, gain_least, gain_most}

@@ -1,11 +1,8 @@
 use Rattle.std.proofs.Common.{rules, ◌≡◌, ◌<◌, pos, length, arith, ap, w64, SFits, ◌<ℤ◌, sym, ◌∙◌}
-use Rattle.std.proofs.lemmas.Int.{ints, to_z-of_z}
-use Rattle.std.proofs.lemmas.Option.{get_or_from_slice_get}
+use Rattle.std.proofs.{lemmas.Int.{ints, to_z-of_z}, lemmas.Option.{get_or_from_slice_get}}
 use Rattle.std.proofs.lemmas.Slice.Zip.{AllZip-long}
-use Rattle.dimacs_network.specs.declared.network.ArcView.{ArcView}
-use Rattle.dimacs_network.specs.AdjacencyLists.{end_of}
+use Rattle.dimacs_network.specs.{declared.network.ArcView.{ArcView}, AdjacencyLists.{end_of}, Arcs.{arc_at, no_arc}}
 use Rattle.dimacs_judging.specs.Rows.{amount_at}
-use Rattle.dimacs_network.specs.Arcs.{arc_at, no_arc}
 use Rattle.dimacs_judging.proofs.Passing.{pair_at}
 use Rattle.dimacs_decide.specs.inside.ResidualCapacities.{residual_capacity_at, residual_capacity_on}
 use Rattle.dimacs_decide.proofs.HeightLemmas.{arc_bounds}

@@ -1,5 +1,4 @@
-use Rattle.std.proofs.Common.{◌≡◌, arith}
-use Rattle.std.proofs.lemmas.Option.{get_or_from_slice_get, slice_get_within}
+use Rattle.std.proofs.{Common.{◌≡◌, arith}, lemmas.Option.{get_or_from_slice_get, slice_get_within}}
 use Rattle.dimacs_network.specs.Arcs.{arc_at, no_arc}
 use Rattle.dimacs_judging.proofs.RowLemmas.{arc_clear_end, arc_clear_more, arc_first}
 use Rattle.dimacs_decide.proofs.distances.arcs_hold.Goals as goal

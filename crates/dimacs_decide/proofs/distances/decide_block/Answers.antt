@@ -1,7 +1,6 @@
 use Rattle.dimacs_network.specs.Tables.{value_of}
 use Rattle.dimacs_judging.specs.Tests.{Clear}
-use Rattle.dimacs_decide.specs.Distances.{claim_row, reach_row}
-use Rattle.dimacs_decide.specs.inside.TightTrees.{IsWholeTightTree}
+use Rattle.dimacs_decide.specs.{Distances.{claim_row, reach_row}, inside.TightTrees.{IsWholeTightTree}}
 use Rattle.dimacs_decide.proofs.ClaimLemmas.{arc_refuted, certified, node_refuted, reaches_all, refused, source_refuted, zero_from_clear}
 use Rattle.dimacs_decide.proofs.distances.decide_block.Goals as goal
 

@@ -1,6 +1,5 @@
-use Rattle.std.proofs.Common.{rules, ◌≡◌, ◌+ℤ◌, pos, arith, SFits, to_z}
+use Rattle.std.proofs.{Common.{rules, ◌≡◌, ◌+ℤ◌, pos, arith, SFits, to_z}, lemmas.Int.{ints, to_z-of_z}}
 use Rattle.std.specs.Int.{w128}
-use Rattle.std.proofs.lemmas.Int.{ints, to_z-of_z}
 use Rattle.dimacs_instance.specs.MinFlows.{positive_part}
 use Rattle.dimacs_network.specs.Tables.{value_of}
 use Rattle.dimacs_decide.proofs.ExcessLemmas.{excess_more, excess_none}

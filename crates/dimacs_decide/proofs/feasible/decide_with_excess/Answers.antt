@@ -1,7 +1,6 @@
 use Rattle.std.proofs.Common.{◌≡◌, ◌∙◌, ℕ, ℤ, pos, ◌<ℤ◌, ◌<◌, ap, sym, subst}
 use Rattle.dimacs_network.specs.Tables.{value_of}
-use Rattle.dimacs_decide.specs.inside.Residual.{IsResidualSearch, rank_of}
-use Rattle.dimacs_decide.specs.inside.Augmentation.{IsSent, IsStuck}
+use Rattle.dimacs_decide.specs.{inside.Residual.{IsResidualSearch, rank_of}, inside.Augmentation.{IsSent, IsStuck}}
 use Rattle.dimacs_decide.specs.inside.Imbalances.{AreImbalances}
 use Rattle.dimacs_decide.proofs.FeasibleLemmas.{sent_tells, stuck_tells}
 use Rattle.dimacs_decide.proofs.feasible.decide_with_excess.Goals as goal

@@ -1,12 +1,10 @@
 use Rattle.std.proofs.Common.{◌≡◌, ◌∙◌, ◌-◌, ◌<◌, length, None, arith, sym, subst}
-use Rattle.std.specs.Prelude.{slice_index}
 use Rattle.std.proofs.lemmas.Option.{get_or_from_slice_get}
-use Rattle.dimacs_network.specs.Arcs.{arc_at, no_arc}
-use Rattle.dimacs_network.specs.AdjacencyLists.{IsLast}
+use Rattle.std.specs.Prelude.{slice_index}
+use Rattle.dimacs_network.specs.{Arcs.{arc_at, no_arc}, AdjacencyLists.{IsLast}}
 use Rattle.dimacs_network.specs.declared.adjacency_lists.Side.TheVariants.{Tail}
 use Rattle.dimacs_judging.specs.CertificateTests.{RelaxFails}
-use Rattle.dimacs_decide.proofs.FewLemmas.{passed_on}
-use Rattle.dimacs_decide.proofs.TightTailLemmas.{no_fault}
+use Rattle.dimacs_decide.proofs.{FewLemmas.{passed_on}, TightTailLemmas.{no_fault}}
 use Rattle.dimacs_decide.proofs.few_labels.arcs_hold_from.Goals as goal
 
 pub loop-next-init : goal.loop-next-init

@@ -2,8 +2,7 @@ use Rattle.std.proofs.Common.{◌∙◌, refl, subst}
 use Rattle.dimacs_claims.specs.Labels.{BlockValue, label}
 use Rattle.dimacs_judging.specs.Tests.{Clear}
 use Rattle.dimacs_network.specs.Tables.{value_of}
-use Rattle.dimacs_decide.specs.Distances.{claim_row}
-use Rattle.dimacs_decide.specs.inside.TightTrees.{IsTightTree}
+use Rattle.dimacs_decide.specs.{Distances.{claim_row}, inside.TightTrees.{IsTightTree}}
 use Rattle.dimacs_decide.proofs.LightestLemmas.{lightest_clear, lightest_joined, lightest_tree}
 use Rattle.dimacs_decide.proofs.ClaimLemmas.{certified}
 use Rattle.dimacs_decide.proofs.few_labels.few_tree.Goals as goal

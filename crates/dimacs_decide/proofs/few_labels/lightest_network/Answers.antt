@@ -1,6 +1,5 @@
 use Rattle.std.proofs.Common.{◌≡◌, ◌∙◌, ◌<◌, ◌≤◌, length, get_or, refl, ap, sym, subst, arith}
-use Rattle.std.proofs.lemmas.List.{get_or_default, map_more, take_all}
-use Rattle.std.proofs.lemmas.Option.{get_or_from_slice_get}
+use Rattle.std.proofs.{lemmas.List.{get_or_default, map_more, take_all}, lemmas.Option.{get_or_from_slice_get}}
 use Rattle.dimacs_network.specs.Arcs.{NetworkValue, arc_at, no_arc}
 use Rattle.dimacs_judging.specs.LightestArcs.{AreCovering, arcs_in}
 use Rattle.dimacs_decide.specs.inside.FewLabels.{AreLightest}

@@ -1,17 +1,13 @@
 use Rattle.std.proofs.Common.{rules, ◌≡◌, ◌∙◌, pos, arith, ap, sym, subst, refl, w64, SFits, ◌+◌, ◌+ℤ◌}
-use Rattle.std.specs.Int.{w128}
-use Rattle.std.proofs.lemmas.Int.{ints, to_z-of_z}
-use Rattle.std.proofs.lemmas.Option.{get_or_from_slice_get}
+use Rattle.std.proofs.{lemmas.Int.{ints, to_z-of_z}, lemmas.Option.{get_or_from_slice_get}}
 use Rattle.std.proofs.lemmas.Slice.Zip.{AllZip-long}
-use Rattle.dimacs_network.specs.declared.network.ArcView.{ArcView}
+use Rattle.std.specs.Int.{w128}
+use Rattle.dimacs_network.specs.{declared.network.ArcView.{ArcView}, AdjacencyLists.{end_of, other_end}}
+use Rattle.dimacs_network.specs.{Arcs.{arc_at, no_arc}, Tables.{value_of}}
 use Rattle.dimacs_instance.specs.MinFlows.{HasBounds}
-use Rattle.dimacs_network.specs.AdjacencyLists.{end_of, other_end}
 use Rattle.dimacs_judging.specs.Rows.{amount_at}
-use Rattle.dimacs_network.specs.Arcs.{arc_at, no_arc}
 use Rattle.dimacs_judging.proofs.Passing.{pair_at}
-use Rattle.dimacs_network.specs.Tables.{value_of}
-use Rattle.dimacs_decide.specs.declared.heights.HeightLabel.{HeightLabel}
-use Rattle.dimacs_decide.specs.inside.Heights.{gain_at, height_of}
+use Rattle.dimacs_decide.specs.{declared.heights.HeightLabel.{HeightLabel}, inside.Heights.{gain_at, height_of}}
 use Rattle.dimacs_decide.specs.inside.ResidualCapacities.{residual_capacity_at}
 use Rattle.dimacs_decide.proofs.HeightLemmas.{arc_bounds, gain_least, gain_most}
 use Rattle.dimacs_decide.proofs.heights.lift.Goals as goal

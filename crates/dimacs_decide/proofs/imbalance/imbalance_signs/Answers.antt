@@ -1,5 +1,4 @@
-use Rattle.std.proofs.Common.{◌≡◌, pos, ◌<ℤ◌, arith}
-use Rattle.std.proofs.lemmas.Int.{ints}
+use Rattle.std.proofs.{Common.{◌≡◌, pos, ◌<ℤ◌, arith}, lemmas.Int.{ints}}
 use Rattle.dimacs_network.specs.Tables.{value_of}
 use Rattle.dimacs_decide.proofs.FeasibleLemmas.{signs_even, signs_none, signs_deficit}
 use Rattle.dimacs_decide.proofs.imbalance.imbalance_signs.Goals.{then-amount-lt0, else-amount-lt0}

@@ -1,10 +1,7 @@
 use Rattle.std.proofs.Common.{rules, ◌≡◌, ◌∙◌, ◌^◌, inl, inr, pos, ◌-ℤ◌, sym, subst, arith, w64, SFits}
+use Rattle.std.proofs.{lemmas.Bool.{cases_eq}, lemmas.Int.{ints, to_z-of_z}, lemmas.Slice.Zip.{AllZip-long}}
 use Rattle.std.specs.Int.{w128}
-use Rattle.std.proofs.lemmas.Bool.{cases_eq}
-use Rattle.std.proofs.lemmas.Int.{ints, to_z-of_z}
-use Rattle.std.proofs.lemmas.Slice.Zip.{AllZip-long}
-use Rattle.dimacs_judging.specs.Flows.{net}
-use Rattle.dimacs_judging.specs.inside.Ranges.{IsOfSize}
+use Rattle.dimacs_judging.specs.{Flows.{net}, inside.Ranges.{IsOfSize}}
 use Rattle.dimacs_judging.proofs.Passing.{same_number}
 use Rattle.dimacs_network.specs.Tables.{value_of}
 use Rattle.dimacs_decide.specs.FeasibilityDecision.{imbalance_at}

@@ -1,7 +1,6 @@
 use Rattle.std.proofs.Common.{◌<ℤ◌}
 use Rattle.dimacs_judging.specs.Feasible.{FeasibleMin}
-use Rattle.dimacs_decide.specs.Bounds.{KeepsBounds}
-use Rattle.dimacs_decide.specs.FeasibilityDecision.{total_excess}
+use Rattle.dimacs_decide.specs.{Bounds.{KeepsBounds}, FeasibilityDecision.{total_excess}}
 use Rattle.dimacs_decide.proofs.InfeasibleLemmas.{falls}
 use Rattle.dimacs_decide.proofs.infeasible.decide_infeasible.Goals as goal
 

@@ -1,6 +1,5 @@
 use Rattle.dimacs_instance.specs.MinFlows.{positive_part}
-use Rattle.dimacs_decide.specs.Bounds.{KeepsBounds}
-use Rattle.dimacs_decide.specs.FeasibilityDecision.{total_excess}
+use Rattle.dimacs_decide.specs.{Bounds.{KeepsBounds}, FeasibilityDecision.{total_excess}}
 use Rattle.dimacs_decide.proofs.infeasible.decide_infeasible.Given as goal
 
 abbrev pub invariant-asking : goal.invariant-asking

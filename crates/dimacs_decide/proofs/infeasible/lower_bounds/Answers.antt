@@ -1,9 +1,6 @@
-use Rattle.std.proofs.Common.{◌≡◌, ◌∷◌, [], ◌<◌, length, take, refl, arith, rules, w64, SFits}
-use Rattle.std.proofs.lemmas.Int.{to_z-of_z}
-use Rattle.std.proofs.lemmas.List.{map-append, take_more}
-use Rattle.std.proofs.lemmas.Option.{get_or_from_slice_get}
-use Rattle.dimacs_network.specs.declared.network.ArcView.{ArcView}
-use Rattle.dimacs_network.specs.Arcs.{arc_at, no_arc}
+use Rattle.std.proofs.{Common.{◌≡◌, ◌∷◌, [], ◌<◌, length, take, refl, arith, rules, w64, SFits}, lemmas.Int.{to_z-of_z}}
+use Rattle.std.proofs.{lemmas.List.{map-append, take_more}, lemmas.Option.{get_or_from_slice_get}}
+use Rattle.dimacs_network.specs.{declared.network.ArcView.{ArcView}, Arcs.{arc_at, no_arc}}
 use Rattle.dimacs_decide.proofs.infeasible.lower_bounds.Goals as goal
 
 pub loop-i-preserved : goal.loop-i-preserved

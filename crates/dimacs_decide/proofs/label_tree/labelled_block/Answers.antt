@@ -1,12 +1,9 @@
-use Rattle.std.proofs.Common.{◌∙◌, IsSome, inl, inr, refl, sym, ap, subst, arith}
-use Rattle.std.proofs.lemmas.Bool.{cases_order}
+use Rattle.std.proofs.{Common.{◌∙◌, IsSome, inl, inr, refl, sym, ap, subst, arith}, lemmas.Bool.{cases_order}}
 use Rattle.dimacs_records.specs.declared.reasons.Reason.TheVariants.{PredUnknown}
 use Rattle.dimacs_judging.proofs.RowLemmas.{node_first}
 use Rattle.dimacs_network.specs.Tables.{value_of}
-use Rattle.dimacs_decide.specs.Predecessors.{pred_by_node}
-use Rattle.dimacs_decide.specs.inside.LabelTrees.{IsLabelTree}
-use Rattle.dimacs_decide.proofs.LabelTreeLemmas.{all_agree}
-use Rattle.dimacs_decide.proofs.PathBackLemmas.{labelled_so}
+use Rattle.dimacs_decide.specs.{Predecessors.{pred_by_node}, inside.LabelTrees.{IsLabelTree}}
+use Rattle.dimacs_decide.proofs.{LabelTreeLemmas.{all_agree}, PathBackLemmas.{labelled_so}}
 use Rattle.dimacs_decide.proofs.label_tree.labelled_block.Goals as goal
 
 pub label_from-requires-clause-proposed : goal.label_from-requires-clause-proposed

@@ -1,7 +1,6 @@
 use Rattle.std.proofs.Common.{◌≡◌}
 use Rattle.dimacs_network.specs.Tables.{value_of}
-use Rattle.dimacs_decide.specs.Predecessors.{pred_by_node}
-use Rattle.dimacs_decide.specs.inside.LabelTrees.{AreLabelledBelow, IsLabelTree}
+use Rattle.dimacs_decide.specs.{Predecessors.{pred_by_node}, inside.LabelTrees.{AreLabelledBelow, IsLabelTree}}
 use Rattle.dimacs_decide.proofs.label_tree.labelled_block.Given as goal
 
 -- the nodes before v are labelled if they have a distance

@@ -3,8 +3,7 @@ use Rattle.dimacs_lines.specs.Limits.{IsNode}
 use Rattle.dimacs_claims.specs.Potentials.{potential_of}
 use Rattle.dimacs_network.specs.Tables.{value_of}
 use Rattle.dimacs_decide.specs.inside.Heights.{BelowBound, bound, height_of}
-use Rattle.dimacs_decide.proofs.HeightLemmas.{heights_begun, begun_low, rise_left_less}
-use Rattle.dimacs_decide.proofs.LeastLemmas.{settled_tells}
+use Rattle.dimacs_decide.proofs.{HeightLemmas.{heights_begun, begun_low, rise_left_less}, LeastLemmas.{settled_tells}}
 use Rattle.dimacs_decide.proofs.least.decide_by_rounds.Goals as goal
 
 pub loop-changed-init : goal.loop-changed-init

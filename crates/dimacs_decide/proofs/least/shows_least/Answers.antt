@@ -1,5 +1,4 @@
-use Rattle.std.proofs.Common.{◌≡◌, ◌∙◌, [], ◌∷◌, arith, sym}
-use Rattle.std.proofs.lemmas.Slice.Zip.{AllZip-long}
+use Rattle.std.proofs.{Common.{◌≡◌, ◌∙◌, [], ◌∷◌, arith, sym}, lemmas.Slice.Zip.{AllZip-long}}
 use Rattle.dimacs_claims.specs.Potentials.{potential_of}
 use Rattle.dimacs_judging.specs.CertificateTests.{slack_row}
 use Rattle.dimacs_judging.proofs.Duality.{slack_is_least}

@@ -1,8 +1,7 @@
 use Rattle.std.proofs.Common.{◌<◌}
 use Rattle.dimacs_judging.specs.Cuts.{members}
 use Rattle.dimacs_network.specs.Tables.{value_of}
-use Rattle.dimacs_decide.specs.inside.Residual.{rank_of}
-use Rattle.dimacs_decide.specs.inside.Augmentation.{IsSent, IsStuck}
+use Rattle.dimacs_decide.specs.{inside.Residual.{rank_of}, inside.Augmentation.{IsSent, IsStuck}}
 use Rattle.dimacs_decide.specs.inside.Imbalances.{AreEnds}
 use Rattle.dimacs_decide.proofs.MaximumLemmas.{bounds_from_capacities, max_bounds, sent_tells, stuck_tells}
 use Rattle.dimacs_decide.proofs.maximum.decide_by_search.Goals as goal

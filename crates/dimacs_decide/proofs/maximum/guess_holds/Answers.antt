@@ -1,5 +1,4 @@
-use Rattle.std.proofs.Common.{◌≡◌, ◌∙◌, arith, sym}
-use Rattle.std.proofs.lemmas.Slice.Zip.{AllZip-long}
+use Rattle.std.proofs.{Common.{◌≡◌, ◌∙◌, arith, sym}, lemmas.Slice.Zip.{AllZip-long}}
 use Rattle.dimacs_judging.specs.Cuts.{members}
 use Rattle.dimacs_judging.proofs.Duality.{tight_is_maximum}
 use Rattle.dimacs_decide.proofs.maximum.guess_holds.Goals as goal

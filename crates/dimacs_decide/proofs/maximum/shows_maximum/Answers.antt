@@ -1,7 +1,5 @@
-use Rattle.std.proofs.Common.{◌≡◌, ◌∙◌, arith, sym}
-use Rattle.std.proofs.lemmas.Slice.Zip.{AllZip-long}
-use Rattle.dimacs_judging.specs.CertificateTests.{cut_rows}
-use Rattle.dimacs_judging.specs.Cuts.{members}
+use Rattle.std.proofs.{Common.{◌≡◌, ◌∙◌, arith, sym}, lemmas.Slice.Zip.{AllZip-long}}
+use Rattle.dimacs_judging.specs.{CertificateTests.{cut_rows}, Cuts.{members}}
 use Rattle.dimacs_judging.proofs.Duality.{tight_is_maximum}
 use Rattle.dimacs_decide.proofs.TestLemmas.{holds, passes}
 use Rattle.dimacs_decide.proofs.maximum.shows_maximum.Goals as goal

@@ -1,7 +1,5 @@
-use Rattle.std.proofs.Common.{rules, refl, sym, SFits}
+use Rattle.std.proofs.{Common.{rules, refl, sym, SFits}, lemmas.Int.{to_z-of_z}, lemmas.Slice.Zip.{AllZip-long}}
 use Rattle.std.specs.Int.{w128}
-use Rattle.std.proofs.lemmas.Int.{to_z-of_z}
-use Rattle.std.proofs.lemmas.Slice.Zip.{AllZip-long}
 use Rattle.dimacs_judging.specs.Claims.{Carries}
 use Rattle.dimacs_decide.specs.Entries.{AreEntriesOf}
 use Rattle.dimacs_decide.proofs.SolutionLemmas.{carried}

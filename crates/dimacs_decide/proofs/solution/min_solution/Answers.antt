@@ -1,12 +1,7 @@
-use Rattle.std.proofs.Common.{rules, ◌≡◌, refl, sym, SFits}
+use Rattle.std.proofs.{Common.{rules, ◌≡◌, refl, sym, SFits}, lemmas.Int.{to_z-of_z}, lemmas.Slice.Zip.{AllZip-long}}
 use Rattle.std.specs.Int.{w128}
-use Rattle.std.proofs.lemmas.Int.{to_z-of_z}
-use Rattle.std.proofs.lemmas.Slice.Zip.{AllZip-long}
-use Rattle.dimacs_judging.specs.Claims.{Carries}
+use Rattle.dimacs_judging.specs.{Claims.{Carries}, Flows.{cost}, FlowTests.{cost_row}, Tests.{Clear}}
 use Rattle.dimacs_decide.specs.Entries.{AreEntriesOf}
-use Rattle.dimacs_judging.specs.Flows.{cost}
-use Rattle.dimacs_judging.specs.FlowTests.{cost_row}
-use Rattle.dimacs_judging.specs.Tests.{Clear}
 use Rattle.dimacs_judging.proofs.Passing.{costs_wide}
 use Rattle.dimacs_decide.proofs.SolutionLemmas.{carried}
 use Rattle.dimacs_decide.proofs.solution.min_solution.Goals as goal

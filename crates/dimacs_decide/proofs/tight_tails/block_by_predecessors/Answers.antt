@@ -1,10 +1,8 @@
 use Rattle.std.proofs.Common.{◌≡◌, ℕ, All}
 use Rattle.dimacs_lines.specs.Limits.{IsNode}
 use Rattle.dimacs_claims.specs.Labels.{IsBlock, label}
-use Rattle.dimacs_decide.specs.Predecessors.{pred_by_node}
-use Rattle.dimacs_decide.specs.TightTails.{AreTightTails, IsRelaxedBy}
-use Rattle.dimacs_decide.proofs.ClaimLemmas.{shown}
-use Rattle.dimacs_decide.proofs.TightTailLemmas.{all_tight, tails_claimed}
+use Rattle.dimacs_decide.specs.{Predecessors.{pred_by_node}, TightTails.{AreTightTails, IsRelaxedBy}}
+use Rattle.dimacs_decide.proofs.{ClaimLemmas.{shown}, TightTailLemmas.{all_tight, tails_claimed}}
 use Rattle.dimacs_decide.proofs.tight_tails.block_by_predecessors.Goals as goal
 
 pub labelled_block-requires-clause-preds : goal.labelled_block-requires-clause-preds

@@ -1,7 +1,5 @@
-use Rattle.std.proofs.Common.{◌≡◌, ◌∙◌, ◌<◌, length, subst, sym, arith}
-use Rattle.std.proofs.lemmas.List.{length-set}
-use Rattle.std.proofs.lemmas.List.Elements.{All-get_or}
-use Rattle.std.proofs.lemmas.Option.{get_or_from_slice_get, slice_get_within}
+use Rattle.std.proofs.{Common.{◌≡◌, ◌∙◌, ◌<◌, length, subst, sym, arith}, lemmas.List.{length-set}}
+use Rattle.std.proofs.{lemmas.List.Elements.{All-get_or}, lemmas.Option.{get_or_from_slice_get, slice_get_within}}
 use Rattle.dimacs_lines.specs.Limits.{IsNode}
 use Rattle.dimacs_network.specs.Arcs.{JoinsNodes, arc_at, no_arc}
 use Rattle.dimacs_decide.specs.Predecessors.{pred_by_node}

@@ -1,11 +1,9 @@
 use Rattle.std.proofs.Common.{◌≡◌, ◌∙◌, ◌+◌, ◌-◌, ◌^◌, ◌<◌, ◌==◌, ℕ, length, pos, refl, ap, arith, rules, w64, SFits}
-use Rattle.std.specs.Int.{w128}
-use Rattle.std.specs.Prelude.{if◌then◌else◌}
 use Rattle.std.proofs.lemmas.Int.{to_z-of_z}
+use Rattle.std.specs.{Int.{w128}, Prelude.{if◌then◌else◌}}
 use Rattle.dimacs_claims.specs.Labels.{label}
 use Rattle.dimacs_fill.specs.BlockFilled.{distances_of, item_of}
-use Rattle.dimacs_fill.proofs.FillLemmas.{each_node}
-use Rattle.dimacs_fill.proofs.BlockLemmas.{at_place, distances_more, first_labels, no_labels}
+use Rattle.dimacs_fill.proofs.{FillLemmas.{each_node}, BlockLemmas.{at_place, distances_more, first_labels, no_labels}}
 use Rattle.dimacs_fill.proofs.block.fill_distances.Goals as goal
 
 pub loop-i-init : goal.loop-i-init

@@ -1,6 +1,5 @@
 use Rattle.std.proofs.Common.{◌≡◌}
-use Rattle.dimacs_fill.specs.BlockFilled.{distances_of}
-use Rattle.dimacs_fill.specs.Filling.{filled}
+use Rattle.dimacs_fill.specs.{BlockFilled.{distances_of}, Filling.{filled}}
 use Rattle.dimacs_fill.proofs.BlockLemmas.{first_labels}
 use Rattle.dimacs_fill.proofs.block.fill_distances.Given as goal
 

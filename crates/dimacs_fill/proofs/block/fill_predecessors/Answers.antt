@@ -1,7 +1,6 @@
 use Rattle.std.proofs.Common.{◌∙◌, ◌<◌, length, refl, ap, arith}
 use Rattle.dimacs_fill.specs.BlockFilled.{pred_in, preds_of}
-use Rattle.dimacs_fill.proofs.FillLemmas.{each_node}
-use Rattle.dimacs_fill.proofs.BlockLemmas.{first_labels, preds_more}
+use Rattle.dimacs_fill.proofs.{FillLemmas.{each_node}, BlockLemmas.{first_labels, preds_more}}
 use Rattle.dimacs_fill.proofs.block.fill_predecessors.Goals as goal
 
 pub loop-i-init : goal.loop-i-init

@@ -1,10 +1,8 @@
-use Rattle.std.proofs.Common.{◌≡◌, Err, refl, rules}
-use Rattle.std.proofs.lemmas.Result.{err_from_is_err_and}
+use Rattle.std.proofs.{Common.{◌≡◌, Err, refl, rules}, lemmas.Result.{err_from_is_err_and}}
 use Rattle.dimacs_lines.specs.Lines.{lines}
 use Rattle.dimacs_records.specs.declared.kinds.TextKind.TheVariants.{Graph}
 use Rattle.dimacs_network.specs.Arcs.{NetworkValue}
-use Rattle.dimacs_instance.specs.Graph.{GivesGraph}
-use Rattle.dimacs_instance.specs.Summaries.{SumsUpGraph}
+use Rattle.dimacs_instance.specs.{Graph.{GivesGraph}, Summaries.{SumsUpGraph}}
 use Rattle.dimacs_instance.proofs.GraphLemmas.{graph_faultless, one_graph}
 use Rattle.dimacs_fill.specs.inside.Columns.{columns}
 use Rattle.dimacs_fill.proofs.ArcReadingLemmas.{graph_given, graph_into, refused, unread, whole_inner}

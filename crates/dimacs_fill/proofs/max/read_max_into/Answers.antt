@@ -1,10 +1,7 @@
-use Rattle.std.proofs.Common.{◌≡◌, Err, refl, rules}
-use Rattle.std.proofs.lemmas.Result.{err_from_is_err_and}
+use Rattle.std.proofs.{Common.{◌≡◌, Err, refl, rules}, lemmas.Result.{err_from_is_err_and}}
 use Rattle.dimacs_lines.specs.Lines.{lines}
 use Rattle.dimacs_records.specs.declared.kinds.TextKind.TheVariants.{Max}
-use Rattle.dimacs_instance.specs.MaxFlows.{MaxValue}
-use Rattle.dimacs_instance.specs.MaxTexts.{GivesMax}
-use Rattle.dimacs_instance.specs.Summaries.{SumsUpMax}
+use Rattle.dimacs_instance.specs.{MaxFlows.{MaxValue}, MaxTexts.{GivesMax}, Summaries.{SumsUpMax}}
 use Rattle.dimacs_instance.proofs.MaxTextLemmas.{max_faultless, one_max}
 use Rattle.dimacs_fill.specs.inside.Columns.{columns}
 use Rattle.dimacs_fill.proofs.ArcReadingLemmas.{max_given, max_into, refused, unread, whole_inner}

@@ -1,10 +1,7 @@
-use Rattle.std.proofs.Common.{◌≡◌, ◌∙◌, Err, refl, rules}
-use Rattle.std.proofs.lemmas.Result.{err_from_is_err_and}
+use Rattle.std.proofs.{Common.{◌≡◌, ◌∙◌, Err, refl, rules}, lemmas.Result.{err_from_is_err_and}}
 use Rattle.dimacs_lines.specs.Lines.{lines}
 use Rattle.dimacs_records.specs.declared.kinds.TextKind.TheVariants.{Min}
-use Rattle.dimacs_instance.specs.MinFlows.{MinValue}
-use Rattle.dimacs_instance.specs.MinTexts.{GivesMin}
-use Rattle.dimacs_instance.specs.Summaries.{HasNodes}
+use Rattle.dimacs_instance.specs.{MinFlows.{MinValue}, MinTexts.{GivesMin}, Summaries.{HasNodes}}
 use Rattle.dimacs_instance.proofs.MinTextLemmas.{min_faultless, one_min}
 use Rattle.dimacs_fill.specs.inside.Columns.{columns}
 use Rattle.dimacs_fill.proofs.ArcReadingLemmas.{min_given, min_into, refused, unread, whole_inner}

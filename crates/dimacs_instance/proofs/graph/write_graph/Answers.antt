@@ -1,6 +1,5 @@
 use Rattle.std.proofs.Common.{◌≡◌, ap, length, map, take, arith, rules}
-use Rattle.dimacs_records.proofs.ReadLaws.{spells_one_value}
-use Rattle.dimacs_records.proofs.WrittenLemmas.{all_items, lines_of_items}
+use Rattle.dimacs_records.proofs.{ReadLaws.{spells_one_value}, WrittenLemmas.{all_items, lines_of_items}}
 use Rattle.dimacs_instance.specs.Graph.{graph_arc, canonical_graph}
 use Rattle.dimacs_instance.proofs.GraphLemmas.{graph_round_trip, one_graph}
 use Rattle.dimacs_instance.proofs.graph.write_graph.Goals as goal

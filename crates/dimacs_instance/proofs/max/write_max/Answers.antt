@@ -1,6 +1,5 @@
 use Rattle.std.proofs.Common.{◌≡◌, ap, length, map, take, arith, rules}
-use Rattle.dimacs_records.proofs.ReadLaws.{spells_one_value}
-use Rattle.dimacs_records.proofs.WrittenLemmas.{all_items, lines_of_items}
+use Rattle.dimacs_records.proofs.{ReadLaws.{spells_one_value}, WrittenLemmas.{all_items, lines_of_items}}
 use Rattle.dimacs_instance.specs.MaxTexts.{max_arc, canonical_max}
 use Rattle.dimacs_instance.proofs.MaxTextLemmas.{max_round_trip, one_max}
 use Rattle.dimacs_instance.proofs.max.write_max.Goals as goal

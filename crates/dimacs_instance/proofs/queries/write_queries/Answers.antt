@@ -1,8 +1,6 @@
-use Rattle.std.proofs.Common.{ap, ◌∷◌, [], refl, take, arith}
-use Rattle.std.proofs.lemmas.List.{take_all}
+use Rattle.std.proofs.{Common.{ap, ◌∷◌, [], refl, take, arith}, lemmas.List.{take_all}}
 use Rattle.dimacs_records.specs.declared.records.Record.TheVariants.{QueriesProblem}
-use Rattle.dimacs_records.proofs.ReadLaws.{spells_one_value}
-use Rattle.dimacs_records.proofs.WrittenLemmas.{line_after, lines_after, lines_of_list}
+use Rattle.dimacs_records.proofs.{ReadLaws.{spells_one_value}, WrittenLemmas.{line_after, lines_after, lines_of_list}}
 use Rattle.dimacs_instance.specs.QueryTexts.{asked, canonical_queries, query_lines}
 use Rattle.dimacs_instance.proofs.QueriesLemmas.{queries_round_trip, one_queries}
 use Rattle.dimacs_instance.proofs.queries.write_queries.Goals as goal

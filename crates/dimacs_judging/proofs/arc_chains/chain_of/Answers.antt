@@ -1,5 +1,4 @@
-use Rattle.std.proofs.Common.{◌+◌, ◌*◌, ◌/◌, bit_and, arith}
-use Rattle.std.proofs.lemmas.Nat.{and_le_r}
+use Rattle.std.proofs.{Common.{◌+◌, ◌*◌, ◌/◌, bit_and, arith}, lemmas.Nat.{and_le_r}}
 use Rattle.dimacs_judging.proofs.arc_chains.chain_of.Goals as goal
 
 pub returns-clause-inside : goal.returns-clause-inside

@@ -1,5 +1,4 @@
-use Rattle.std.proofs.Common.{rules, arith, w64, SFits}
-use Rattle.std.proofs.lemmas.Int.{to_z-of_z}
+use Rattle.std.proofs.{Common.{rules, arith, w64, SFits}, lemmas.Int.{to_z-of_z}}
 use Rattle.dimacs_judging.proofs.RowLemmas.{flow_clear_more, flow_first, arc_clear_end}
 use Rattle.dimacs_judging.proofs.arc_test.arcs_hold.Goals as goal
 

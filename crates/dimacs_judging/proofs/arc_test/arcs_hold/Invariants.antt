@@ -1,5 +1,4 @@
-use Rattle.dimacs_judging.specs.Tests.{ClearBelow}
-use Rattle.dimacs_judging.specs.Rows.{flow_row}
+use Rattle.dimacs_judging.specs.{Tests.{ClearBelow}, Rows.{flow_row}}
 use Rattle.dimacs_judging.proofs.arc_test.arcs_hold.Given as goal
 
 abbrev pub invariant-loop-i : goal.invariant-loop-i

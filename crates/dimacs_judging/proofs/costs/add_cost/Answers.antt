@@ -1,5 +1,4 @@
-use Rattle.std.proofs.Common.{arith, ◌≡◌, ◌*ℤ◌, refl, IsTrue, false}
-use Rattle.std.proofs.lemmas.Int.{ints, to_z-of_z}
+use Rattle.std.proofs.{Common.{arith, ◌≡◌, ◌*ℤ◌, refl, IsTrue, false}, lemmas.Int.{ints, to_z-of_z}}
 use Rattle.dimacs_judging.proofs.costs.add_cost.Goals as goal
 
 pub returns-else-is_wide : goal.returns-else-is_wide

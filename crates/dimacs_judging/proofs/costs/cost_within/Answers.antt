@@ -1,10 +1,7 @@
-use Rattle.std.proofs.Common.{rules, ◌≤◌, length, refl, arith, w64, SFits}
+use Rattle.std.proofs.{Common.{rules, ◌≤◌, length, refl, arith, w64, SFits}, lemmas.Int.{ints, to_z-of_z}}
+use Rattle.std.proofs.{lemmas.List.{take_all}, lemmas.Option.{slice_get_within}}
 use Rattle.std.specs.Int.{w128}
-use Rattle.std.proofs.lemmas.Int.{ints, to_z-of_z}
-use Rattle.std.proofs.lemmas.List.{take_all}
-use Rattle.std.proofs.lemmas.Option.{slice_get_within}
-use Rattle.dimacs_judging.proofs.RowLemmas.{arc_clear_end}
-use Rattle.dimacs_judging.proofs.StepLemmas.{cost_step, cost_clear_more, cost_first}
+use Rattle.dimacs_judging.proofs.{RowLemmas.{arc_clear_end}, StepLemmas.{cost_step, cost_clear_more, cost_first}}
 use Rattle.dimacs_judging.proofs.costs.cost_within.Goals as goal
 
 pub loop-i-preserved : goal.loop-i-preserved

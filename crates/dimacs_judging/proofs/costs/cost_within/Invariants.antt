@@ -1,8 +1,6 @@
 use Rattle.std.proofs.Common.{◌≡◌, take}
-use Rattle.dimacs_judging.specs.Flows.{cost}
-use Rattle.dimacs_judging.specs.FlowTests.{cost_row}
+use Rattle.dimacs_judging.specs.{Flows.{cost}, FlowTests.{cost_row}, Tests.{ClearBelow}}
 use Rattle.dimacs_records.specs.Ranges.{IsWide}
-use Rattle.dimacs_judging.specs.Tests.{ClearBelow}
 use Rattle.dimacs_judging.proofs.costs.cost_within.Given as goal
 
 abbrev pub invariant-loop-i : goal.invariant-loop-i

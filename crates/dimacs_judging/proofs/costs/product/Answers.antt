@@ -1,6 +1,5 @@
-use Rattle.std.proofs.Common.{◌^◌, ◌*ℤ◌, arith, SFits}
+use Rattle.std.proofs.{Common.{◌^◌, ◌*ℤ◌, arith, SFits}, lemmas.Int.{ints, to_z-of_z}}
 use Rattle.std.specs.Int.{w128}
-use Rattle.std.proofs.lemmas.Int.{ints, to_z-of_z}
 use Rattle.dimacs_judging.proofs.Products.{product_small}
 use Rattle.dimacs_judging.proofs.costs.product.Goals as goal
 

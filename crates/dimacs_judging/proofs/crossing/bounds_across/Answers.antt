@@ -1,8 +1,6 @@
-use Rattle.std.proofs.Common.{rules, ◌^◌, arith, w64, SFits}
-use Rattle.std.proofs.lemmas.Int.{ints}
-use Rattle.dimacs_judging.specs.inside.Ranges.{IsOfSize}
+use Rattle.std.proofs.{Common.{rules, ◌^◌, arith, w64, SFits}, lemmas.Int.{ints}}
+use Rattle.dimacs_judging.specs.{inside.Ranges.{IsOfSize}, Cuts.{members}}
 use Rattle.dimacs_judging.proofs.CrossLemmas.{bound_more}
-use Rattle.dimacs_judging.specs.Cuts.{members}
 use Rattle.dimacs_judging.proofs.crossing.bounds_across.Goals as goal
 
 pub loop-i-preserved : goal.loop-i-preserved

@@ -1,6 +1,5 @@
-use Rattle.std.proofs.Common.{rules, refl, IsTrue, false, arith, SFits}
+use Rattle.std.proofs.{Common.{rules, refl, IsTrue, false, arith, SFits}, lemmas.Int.{to_z-of_z}}
 use Rattle.std.specs.Int.{w128}
-use Rattle.std.proofs.lemmas.Int.{to_z-of_z}
 use Rattle.dimacs_judging.proofs.crossing.set_is_violated.Goals as goal
 
 pub returns-then-excludes : goal.returns-then-excludes

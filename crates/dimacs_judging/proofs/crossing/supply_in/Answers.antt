@@ -1,8 +1,6 @@
-use Rattle.std.proofs.Common.{rules, ◌^◌, arith, w64, SFits}
-use Rattle.std.proofs.lemmas.Int.{ints}
-use Rattle.dimacs_judging.specs.inside.Ranges.{IsOfSize}
+use Rattle.std.proofs.{Common.{rules, ◌^◌, arith, w64, SFits}, lemmas.Int.{ints}}
+use Rattle.dimacs_judging.specs.{inside.Ranges.{IsOfSize}, Cuts.{members}}
 use Rattle.dimacs_judging.proofs.CrossLemmas.{supply_more}
-use Rattle.dimacs_judging.specs.Cuts.{members}
 use Rattle.dimacs_instance.specs.MinFlows.{supply_of}
 use Rattle.dimacs_judging.proofs.crossing.supply_in.Goals as goal
 

@@ -1,8 +1,6 @@
 use Rattle.std.proofs.Common.{◌≡◌, ◌∙◌, sym, true, false}
-use Rattle.dimacs_judging.specs.Cuts.{members}
-use Rattle.dimacs_judging.specs.CertificateTests.{cut_rows}
-use Rattle.dimacs_judging.proofs.Passing.{cut_is_tight, tight_cut_clear, cut_told}
-use Rattle.dimacs_judging.proofs.Settling.{decided}
+use Rattle.dimacs_judging.specs.{Cuts.{members}, CertificateTests.{cut_rows}}
+use Rattle.dimacs_judging.proofs.{Passing.{cut_is_tight, tight_cut_clear, cut_told}, Settling.{decided}}
 use Rattle.dimacs_judging.proofs.cuts.cut_tests.Goals as goal
 
 pub returns : goal.returns

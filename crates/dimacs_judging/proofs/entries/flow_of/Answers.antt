@@ -1,8 +1,6 @@
 use Rattle.std.proofs.Common.{[], ◌∷◌, inl}
-use Rattle.dimacs_judging.specs.Claims.{entry_row}
-use Rattle.dimacs_judging.specs.declared.verdict.JudgeError.TheVariants.{Refused}
-use Rattle.dimacs_judging.proofs.Claims.{carries_clear, entry_one_way}
-use Rattle.dimacs_judging.proofs.Settling.{error_settles}
+use Rattle.dimacs_judging.specs.{Claims.{entry_row}, declared.verdict.JudgeError.TheVariants.{Refused}}
+use Rattle.dimacs_judging.proofs.{Claims.{carries_clear, entry_one_way}, Settling.{error_settles}}
 use Rattle.dimacs_judging.proofs.entries.flow_of.Goals as goal
 
 pub returns-in_err-flow : goal.returns-in_err-flow

@@ -1,8 +1,6 @@
-use Rattle.std.proofs.Common.{List, take, sym, subst, ◌∙◌}
-use Rattle.std.proofs.lemmas.List.{take_all, take_more}
+use Rattle.std.proofs.{Common.{List, take, sym, subst, ◌∙◌}, lemmas.List.{take_all, take_more}}
 use Rattle.dimacs_claims.specs.declared.solution.Entry.{Entry}
-use Rattle.dimacs_judging.specs.Claims.{no_entry}
-use Rattle.dimacs_judging.specs.Places.{ArePlaced}
+use Rattle.dimacs_judging.specs.{Claims.{no_entry}, Places.{ArePlaced}}
 use Rattle.dimacs_judging.proofs.entries.places_of.Goals as goal
 
 pub loop-entry-init : goal.loop-entry-init

@@ -1,6 +1,5 @@
-use Rattle.std.proofs.Common.{rules, ◌≡◌, ◌∙◌, arith, SFits}
+use Rattle.std.proofs.{Common.{rules, ◌≡◌, ◌∙◌, arith, SFits}, lemmas.Int.{to_z-of_z}}
 use Rattle.std.specs.Int.{w128}
-use Rattle.std.proofs.lemmas.Int.{to_z-of_z}
 use Rattle.dimacs_judging.specs.Flows.{net}
 use Rattle.dimacs_judging.proofs.RowLemmas.{node_clear_more, node_clear_end, node_first, no_node_zero}
 use Rattle.dimacs_judging.proofs.feasible.balances_hold.Goals as goal

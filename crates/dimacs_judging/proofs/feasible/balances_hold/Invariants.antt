@@ -1,7 +1,5 @@
 use Rattle.std.proofs.Common.{◌≡◌, ℕ, List, ℤ}
-use Rattle.dimacs_judging.specs.Tests.{ClearBelow}
-use Rattle.dimacs_judging.specs.FlowTests.{balance_row}
-use Rattle.dimacs_judging.specs.Flows.{net}
+use Rattle.dimacs_judging.specs.{Tests.{ClearBelow}, FlowTests.{balance_row}, Flows.{net}}
 use Rattle.dimacs_judging.proofs.feasible.balances_hold.Given as goal
 
 abbrev pub invariant-loop-v : goal.invariant-loop-v

@@ -1,5 +1,4 @@
-use Rattle.std.proofs.Common.{inr, inl}
-use Rattle.std.proofs.lemmas.Result.{err_from_is_err_and}
+use Rattle.std.proofs.{Common.{inr, inl}, lemmas.Result.{err_from_is_err_and}}
 use Rattle.dimacs_judging.proofs.feasible.balances_if_feasible.Goals as goal
 
 pub returns-in_err-balances_hold : goal.returns-in_err-balances_hold

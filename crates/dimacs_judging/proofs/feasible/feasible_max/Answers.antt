@@ -1,7 +1,6 @@
 use Rattle.dimacs_judging.specs.FlowTests.{feasible_max_rows, max_demand}
-use Rattle.dimacs_judging.proofs.Passing.{feasible_max_holds, feasible_max_clear}
+use Rattle.dimacs_judging.proofs.{Passing.{feasible_max_holds, feasible_max_clear}, Settling.{error_settles}}
 use Rattle.dimacs_judging.proofs.Reasons.{bound_one_way, balance_one_way}
-use Rattle.dimacs_judging.proofs.Settling.{error_settles}
 use Rattle.dimacs_judging.proofs.feasible.feasible_max.Goals as goal
 
 pub returns-in_err-balances_if_feasible : goal.returns-in_err-balances_if_feasible

@@ -1,7 +1,6 @@
 use Rattle.dimacs_judging.specs.FlowTests.{feasible_min_rows, min_demand}
-use Rattle.dimacs_judging.proofs.Passing.{feasible_min_holds, feasible_min_clear}
+use Rattle.dimacs_judging.proofs.{Passing.{feasible_min_holds, feasible_min_clear}, Settling.{error_settles}}
 use Rattle.dimacs_judging.proofs.Reasons.{bound_one_way, balance_one_way}
-use Rattle.dimacs_judging.proofs.Settling.{error_settles}
 use Rattle.dimacs_judging.proofs.feasible.feasible_min.Goals as goal
 
 pub returns-in_err-balances_if_feasible : goal.returns-in_err-balances_if_feasible

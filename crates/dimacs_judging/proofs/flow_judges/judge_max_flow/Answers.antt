@@ -1,8 +1,6 @@
-use Rattle.std.proofs.Common.{◌∙◌, ap, rules, SFits}
+use Rattle.std.proofs.{Common.{◌∙◌, ap, rules, SFits}, lemmas.Int.{to_z-of_z}}
 use Rattle.std.specs.Int.{w128}
-use Rattle.std.proofs.lemmas.Int.{to_z-of_z}
-use Rattle.dimacs_judging.specs.declared.verdict.Verdict.TheVariants.{Max}
-use Rattle.dimacs_judging.specs.Cuts.{members}
+use Rattle.dimacs_judging.specs.{declared.verdict.Verdict.TheVariants.{Max}, Cuts.{members}}
 use Rattle.dimacs_judging.proofs.FlowJudges.{max_infeasible, max_passed, max_shown, max_untight}
 use Rattle.dimacs_judging.proofs.flow_judges.judge_max_flow.Goals as goal
 

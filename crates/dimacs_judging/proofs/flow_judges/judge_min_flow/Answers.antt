@@ -1,6 +1,5 @@
-use Rattle.std.proofs.Common.{◌∙◌, ap, rules, SFits}
+use Rattle.std.proofs.{Common.{◌∙◌, ap, rules, SFits}, lemmas.Int.{to_z-of_z}}
 use Rattle.std.specs.Int.{w128}
-use Rattle.std.proofs.lemmas.Int.{to_z-of_z}
 use Rattle.dimacs_claims.specs.Potentials.{potential_of}
 use Rattle.dimacs_judging.specs.declared.verdict.Verdict.TheVariants.{Min}
 use Rattle.dimacs_judging.proofs.FlowJudges.{min_infeasible, min_passed, min_shown, min_unslack}

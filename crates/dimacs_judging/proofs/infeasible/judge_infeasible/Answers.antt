@@ -1,7 +1,5 @@
 use Rattle.std.proofs.Common.{refl, inl, inr}
-use Rattle.dimacs_judging.specs.Cuts.{members}
-use Rattle.dimacs_judging.specs.InfeasibleJudge.{infeasible_rows}
-use Rattle.dimacs_judging.specs.Tests.{AllClear}
+use Rattle.dimacs_judging.specs.{Cuts.{members}, InfeasibleJudge.{infeasible_rows}, Tests.{AllClear}}
 use Rattle.dimacs_judging.proofs.Duality.{violated_has_no_flow}
 use Rattle.dimacs_judging.proofs.InfeasibleJudge.{infeasible_passes, infeasible_judged}
 use Rattle.dimacs_judging.proofs.infeasible.judge_infeasible.Goals as goal

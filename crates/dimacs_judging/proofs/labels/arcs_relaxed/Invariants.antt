@@ -1,6 +1,4 @@
-use Rattle.dimacs_judging.specs.inside.Labels.{block_at}
-use Rattle.dimacs_judging.specs.CertificateTests.{relax_row}
-use Rattle.dimacs_judging.specs.Tests.{ClearBelow}
+use Rattle.dimacs_judging.specs.{inside.Labels.{block_at}, CertificateTests.{relax_row}, Tests.{ClearBelow}}
 use Rattle.dimacs_judging.proofs.labels.arcs_relaxed.Given as goal
 
 abbrev pub invariant-loop-i : goal.invariant-loop-i

@@ -1,5 +1,4 @@
-use Rattle.std.proofs.Common.{◌<◌, length}
-use Rattle.std.proofs.lemmas.Result.{err_from_is_err_and}
+use Rattle.std.proofs.{Common.{◌<◌, length}, lemmas.Result.{err_from_is_err_and}}
 use Rattle.dimacs_judging.proofs.BlockLemmas.{blocks_more, blocks_first}
 use Rattle.dimacs_judging.proofs.labels.blocks_hold.Goals as goal
 

@@ -1,6 +1,5 @@
 use Rattle.std.proofs.Common.{take}
-use Rattle.dimacs_judging.specs.CertificateTests.{label_rows}
-use Rattle.dimacs_judging.specs.Tests.{AllClear}
+use Rattle.dimacs_judging.specs.{CertificateTests.{label_rows}, Tests.{AllClear}}
 use Rattle.dimacs_judging.proofs.labels.blocks_hold.Given as goal
 
 -- all tests of the blocks so far pass

@@ -1,6 +1,5 @@
-use Rattle.std.proofs.Common.{IsTrue, false, refl, arith}
+use Rattle.std.proofs.{Common.{IsTrue, false, refl, arith}, lemmas.Int.{to_z-of_z}}
 use Rattle.std.specs.Int.{w128}
-use Rattle.std.proofs.lemmas.Int.{to_z-of_z}
 use Rattle.dimacs_judging.proofs.SupportLemmas.{none_more, none_left, few_between, arc_found}
 use Rattle.dimacs_judging.proofs.labels.has_arc_of_weight.Goals as goal
 

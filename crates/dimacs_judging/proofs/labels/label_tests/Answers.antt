@@ -1,6 +1,5 @@
 use Rattle.dimacs_judging.specs.CertificateTests.{label_rows}
-use Rattle.dimacs_judging.proofs.LabelsPassing.{labels_hold, labels_clear, told_distances}
-use Rattle.dimacs_judging.proofs.Settling.{decided}
+use Rattle.dimacs_judging.proofs.{LabelsPassing.{labels_hold, labels_clear, told_distances}, Settling.{decided}}
 use Rattle.dimacs_judging.proofs.labels.label_tests.Goals as goal
 
 pub returns-clause-decides : goal.returns-clause-decides

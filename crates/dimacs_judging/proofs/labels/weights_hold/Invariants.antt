@@ -1,5 +1,4 @@
-use Rattle.dimacs_judging.specs.CertificateTests.{negative_row}
-use Rattle.dimacs_judging.specs.Tests.{ClearBelow}
+use Rattle.dimacs_judging.specs.{CertificateTests.{negative_row}, Tests.{ClearBelow}}
 use Rattle.dimacs_judging.proofs.labels.weights_hold.Given as goal
 
 abbrev pub invariant-loop-i : goal.invariant-loop-i

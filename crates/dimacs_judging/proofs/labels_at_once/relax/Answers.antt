@@ -1,10 +1,8 @@
 use Rattle.std.proofs.Common.{IsTrue, ◌≡◌, ◌↔◌, ◌<ℤ◌, ◌+ℤ◌, ◌∙◌, ap, rules, w32, w64, SFits, true, false}
 use Rattle.std.proofs.lemmas.Int.{to_z-of_z}
 use Rattle.dimacs_network.specs.DenseTables.{value_at}
-use Rattle.dimacs_judging.specs.inside.Distances.{IsTight}
-use Rattle.dimacs_judging.specs.inside.LabelsAtOnce.{entries_at}
+use Rattle.dimacs_judging.specs.{inside.Distances.{IsTight}, inside.LabelsAtOnce.{entries_at}, Distances.{below}}
 use Rattle.dimacs_judging.specs.inside.NodeLabels.{entry_of, is_supported}
-use Rattle.dimacs_judging.specs.Distances.{below}
 use Rattle.dimacs_judging.proofs.LabelsAtOnce.{improves_nothing, none_from, small_set}
 use Rattle.dimacs_judging.proofs.NodeLabelLemmas.{relaxes_put, tight_where}
 use Rattle.dimacs_judging.proofs.labels_at_once.relax.Goals as goal

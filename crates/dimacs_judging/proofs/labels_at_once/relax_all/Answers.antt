@@ -1,11 +1,9 @@
-use Rattle.std.proofs.Common.{◌≡◌, ◌≤◌, arith, length}
-use Rattle.std.proofs.lemmas.List.Elements.{All-get_or}
+use Rattle.std.proofs.{Common.{◌≡◌, ◌≤◌, arith, length}, lemmas.List.Elements.{All-get_or}}
 use Rattle.std.proofs.lemmas.Option.{get_or_from_slice_get, slice_get_within}
 use Rattle.dimacs_network.specs.Arcs.{JoinsNodes}
 use Rattle.dimacs_judging.specs.inside.LabelsAtOnce.{entries_at}
-use Rattle.dimacs_judging.proofs.LabelsAtOnce.{one_at_most}
+use Rattle.dimacs_judging.proofs.{LabelsAtOnce.{one_at_most}, RowLemmas.{arc_clear_end}}
 use Rattle.dimacs_judging.proofs.NodeLabelLemmas.{all_counted, clear_after, count_on, entries_after, no_improvement}
-use Rattle.dimacs_judging.proofs.RowLemmas.{arc_clear_end}
 use Rattle.dimacs_judging.proofs.labels_at_once.relax_all.Goals as goal
 
 pub loop-i-init : goal.loop-i-init

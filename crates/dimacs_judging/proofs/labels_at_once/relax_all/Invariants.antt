@@ -1,6 +1,5 @@
 use Rattle.dimacs_network.specs.DenseTables.{HasNodes}
-use Rattle.dimacs_judging.specs.CertificateTests.{relax_row}
-use Rattle.dimacs_judging.specs.Tests.{ClearBelow}
+use Rattle.dimacs_judging.specs.{CertificateTests.{relax_row}, Tests.{ClearBelow}}
 use Rattle.dimacs_judging.specs.inside.LabelsAtOnce.{AreSmall, entries_at}
 use Rattle.dimacs_judging.specs.inside.NodeLabels.{HasLabels, supported_count}
 use Rattle.std.proofs.Common.{◌≤◌}

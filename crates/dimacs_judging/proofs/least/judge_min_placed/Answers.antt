@@ -1,7 +1,5 @@
-use Rattle.std.proofs.Common.{rules, refl, SFits}
+use Rattle.std.proofs.{Common.{rules, refl, SFits}, lemmas.Int.{to_z-of_z}, lemmas.Slice.Zip.{AllZip-long}}
 use Rattle.std.specs.Int.{w128}
-use Rattle.std.proofs.lemmas.Int.{to_z-of_z}
-use Rattle.std.proofs.lemmas.Slice.Zip.{AllZip-long}
 use Rattle.dimacs_judging.specs.MinJudge.{min_claim_rows}
 use Rattle.dimacs_judging.proofs.MinJudge.{min_judged, claim_refused, nodes_refused, slack_refused, min_passed}
 use Rattle.dimacs_judging.proofs.Settling.{refuted_refuses}

@@ -1,11 +1,8 @@
 use Rattle.std.proofs.Common.{◌≡◌, ◌<◌, Some, SFits, length, get_or, refl, ap, ◌∙◌, rules, arith}
+use Rattle.std.proofs.{lemmas.Int.{to_z-of_z}, lemmas.List.Elements.{Contains-get_or}}
 use Rattle.std.specs.Int.{w128}
-use Rattle.std.proofs.lemmas.Int.{to_z-of_z}
-use Rattle.std.proofs.lemmas.List.Elements.{Contains-get_or}
-use Rattle.dimacs_claims.specs.declared.block.Label.{Label}
-use Rattle.dimacs_claims.specs.Labels.{label, no_label}
-use Rattle.dimacs_judging.specs.inside.Leaving.{AreRelaxedFrom}
-use Rattle.dimacs_judging.specs.inside.NodeLabels.{entries}
+use Rattle.dimacs_claims.specs.{declared.block.Label.{Label}, Labels.{label, no_label}}
+use Rattle.dimacs_judging.specs.{inside.Leaving.{AreRelaxedFrom}, inside.NodeLabels.{entries}}
 use Rattle.dimacs_judging.proofs.LeavingLemmas.{all_clear, all_supported, from_still, labels_more}
 use Rattle.dimacs_judging.proofs.NodeLabelLemmas.{label_source}
 use Rattle.dimacs_judging.proofs.leaving.relax_leaving.Goals as goal

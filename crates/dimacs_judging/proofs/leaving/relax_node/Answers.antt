@@ -1,19 +1,14 @@
 use Rattle.std.proofs.Common.{◌≡◌, ◌+◌, ◌-◌, ◌<◌, IfSome, Option, ℤ, ◌+ℤ◌, SFits, length, slice_index, ap, arith, rules, subst, sym, ◌∙◌}
+use Rattle.std.proofs.{lemmas.Int.{to_z-of_z}, lemmas.Option.{get_or_from_slice_get}}
 use Rattle.std.specs.Int.{w64, w128}
-use Rattle.std.proofs.lemmas.Int.{to_z-of_z}
-use Rattle.std.proofs.lemmas.Option.{get_or_from_slice_get}
 use Rattle.dimacs_records.specs.Ranges.{IsWide}
-use Rattle.dimacs_network.specs.declared.network.ArcView.{ArcView}
-use Rattle.dimacs_network.specs.declared.adjacency_lists.Side.TheVariants.{Tail}
-use Rattle.dimacs_network.specs.AdjacencyLists.{IsLast}
+use Rattle.dimacs_network.specs.{declared.network.ArcView.{ArcView}, declared.adjacency_lists.Side.TheVariants.{Tail}}
+use Rattle.dimacs_network.specs.{AdjacencyLists.{IsLast}, Arcs.{arc_at, no_arc}}
 use Rattle.dimacs_claims.specs.Labels.{IsWithinRadius}
-use Rattle.dimacs_judging.specs.inside.Leaving.{IsRelaxedBy}
-use Rattle.dimacs_judging.specs.LightestArcs.{WeightsFall, arcs_in}
+use Rattle.dimacs_judging.specs.{inside.Leaving.{IsRelaxedBy}, LightestArcs.{WeightsFall, arcs_in}}
 use Rattle.dimacs_judging.specs.inside.NodeLabels.{entries}
-use Rattle.dimacs_network.specs.Arcs.{arc_at, no_arc}
 use Rattle.dimacs_judging.proofs.LeavingLemmas.{AreRelaxedOn, no_reason, node_beyond, node_done, node_more, relaxed_still, relaxed_this}
-use Rattle.dimacs_judging.proofs.LeastLemmas.{at_place}
-use Rattle.dimacs_judging.proofs.NodeLabelLemmas.{entries_after, entries_wide, label_wide}
+use Rattle.dimacs_judging.proofs.{LeastLemmas.{at_place}, NodeLabelLemmas.{entries_after, entries_wide, label_wide}}
 use Rattle.dimacs_judging.proofs.leaving.relax_node.Goals as goal
 
 pub loop-next-init : goal.loop-next-init

@@ -1,9 +1,7 @@
 use Rattle.std.proofs.Common.{◌≡◌, ◌<◌, ◌≤◌, ◌-◌, length}
-use Rattle.dimacs_network.specs.declared.network.ArcView.{ArcView}
-use Rattle.dimacs_judging.specs.inside.Leaving.{IsRelaxedBy}
-use Rattle.dimacs_judging.specs.LightestArcs.{arcs_in}
+use Rattle.dimacs_network.specs.{declared.network.ArcView.{ArcView}, Arcs.{arc_at}}
+use Rattle.dimacs_judging.specs.{inside.Leaving.{IsRelaxedBy}, LightestArcs.{arcs_in}}
 use Rattle.dimacs_judging.specs.inside.NodeLabels.{IsLabelled, entries}
-use Rattle.dimacs_network.specs.Arcs.{arc_at}
 use Rattle.dimacs_judging.proofs.LeavingLemmas.{AreRelaxedOn}
 use Rattle.dimacs_judging.proofs.leaving.relax_node.Given as goal
 

@@ -1,12 +1,9 @@
-use Rattle.std.proofs.Common.{◌≡◌, inl, length, ap, ◌∙◌, rules, SFits}
-use Rattle.std.specs.Int.{w128}
-use Rattle.std.proofs.lemmas.Int.{to_z-of_z}
+use Rattle.std.proofs.{Common.{◌≡◌, inl, length, ap, ◌∙◌, rules, SFits}, lemmas.Int.{to_z-of_z}}
 use Rattle.std.proofs.lemmas.Result.{err_from_is_err_and}
-use Rattle.dimacs_judging.specs.MaxJudge.{max_claim_rows}
-use Rattle.dimacs_judging.specs.declared.verdict.JudgeError.TheVariants.{Refused}
+use Rattle.std.specs.Int.{w128}
+use Rattle.dimacs_judging.specs.{MaxJudge.{max_claim_rows}, declared.verdict.JudgeError.TheVariants.{Refused}}
 use Rattle.dimacs_judging.proofs.MaxJudge.{claim_clear, claim_holds, claim_one_way, flow_refused, value_refused}
-use Rattle.dimacs_judging.proofs.Passing.{feasible_max_holds}
-use Rattle.dimacs_judging.proofs.Settling.{refusal_refutes}
+use Rattle.dimacs_judging.proofs.{Passing.{feasible_max_holds}, Settling.{refusal_refutes}}
 use Rattle.dimacs_judging.proofs.max_claim.max_claim_tests.Goals as goal
 
 pub returns-in_err-flow-clause-refuted : goal.returns-in_err-flow-clause-refuted

@@ -1,10 +1,7 @@
-use Rattle.std.proofs.Common.{rules, ◌∙◌, ap, length, refl, sym, SFits}
+use Rattle.std.proofs.{Common.{rules, ◌∙◌, ap, length, refl, sym, SFits}, lemmas.Int.{to_z-of_z}}
 use Rattle.std.specs.Int.{w128}
-use Rattle.std.proofs.lemmas.Int.{to_z-of_z}
-use Rattle.dimacs_judging.specs.Feasible.{value}
-use Rattle.dimacs_judging.specs.MaxJudge.{IsMaxClaim}
-use Rattle.dimacs_judging.proofs.MaxJudge.{max_passed}
-use Rattle.dimacs_judging.proofs.Passing.{value_is}
+use Rattle.dimacs_judging.specs.{Feasible.{value}, MaxJudge.{IsMaxClaim}}
+use Rattle.dimacs_judging.proofs.{MaxJudge.{max_passed}, Passing.{value_is}}
 use Rattle.dimacs_judging.proofs.max_claim.max_in_one_pass.Goals as goal
 
 pub value_if_shown-requires : goal.value_if_shown-requires

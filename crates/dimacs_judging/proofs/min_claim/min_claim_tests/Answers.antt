@@ -1,12 +1,9 @@
-use Rattle.std.proofs.Common.{rules, ◌≡◌, inl, length, ap, ◌∙◌, SFits}
-use Rattle.std.specs.Int.{w128}
-use Rattle.std.proofs.lemmas.Int.{to_z-of_z}
+use Rattle.std.proofs.{Common.{rules, ◌≡◌, inl, length, ap, ◌∙◌, SFits}, lemmas.Int.{to_z-of_z}}
 use Rattle.std.proofs.lemmas.Result.{err_from_is_err_and}
-use Rattle.dimacs_judging.specs.MinJudge.{min_claim_rows}
-use Rattle.dimacs_judging.specs.declared.verdict.JudgeError.TheVariants.{Refused}
+use Rattle.std.specs.Int.{w128}
+use Rattle.dimacs_judging.specs.{MinJudge.{min_claim_rows}, declared.verdict.JudgeError.TheVariants.{Refused}}
 use Rattle.dimacs_judging.proofs.MinJudge.{claim_clear, claim_holds, claim_one_way, flow_refused, value_refused}
-use Rattle.dimacs_judging.proofs.Passing.{feasible_min_holds}
-use Rattle.dimacs_judging.proofs.Settling.{refusal_refutes}
+use Rattle.dimacs_judging.proofs.{Passing.{feasible_min_holds}, Settling.{refusal_refutes}}
 use Rattle.dimacs_judging.proofs.min_claim.min_claim_tests.Goals as goal
 
 pub returns-in_err-flow-clause-refuted : goal.returns-in_err-flow-clause-refuted

@@ -1,10 +1,7 @@
-use Rattle.std.proofs.Common.{rules, ◌∙◌, ap, length, refl, sym, SFits}
+use Rattle.std.proofs.{Common.{rules, ◌∙◌, ap, length, refl, sym, SFits}, lemmas.Int.{to_z-of_z}}
 use Rattle.std.specs.Int.{w128}
-use Rattle.std.proofs.lemmas.Int.{to_z-of_z}
-use Rattle.dimacs_judging.specs.Flows.{cost}
-use Rattle.dimacs_judging.specs.MinJudge.{IsMinClaim}
-use Rattle.dimacs_judging.proofs.MinJudge.{min_passed}
-use Rattle.dimacs_judging.proofs.Passing.{value_is}
+use Rattle.dimacs_judging.specs.{Flows.{cost}, MinJudge.{IsMinClaim}}
+use Rattle.dimacs_judging.proofs.{MinJudge.{min_passed}, Passing.{value_is}}
 use Rattle.dimacs_judging.proofs.min_claim.min_in_one_pass.Goals as goal
 
 pub cost_if_shown-requires : goal.cost_if_shown-requires

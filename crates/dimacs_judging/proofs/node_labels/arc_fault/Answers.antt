@@ -1,6 +1,5 @@
-use Rattle.std.proofs.Common.{Some, ◌∙◌, ap, rules, w64, SFits}
+use Rattle.std.proofs.{Common.{Some, ◌∙◌, ap, rules, w64, SFits}, lemmas.Int.{to_z-of_z}}
 use Rattle.std.specs.Int.{w128}
-use Rattle.std.proofs.lemmas.Int.{to_z-of_z}
 use Rattle.dimacs_judging.proofs.NodeLabelLemmas.{fault_between}
 use Rattle.dimacs_judging.proofs.node_labels.arc_fault.Goals as goal
 

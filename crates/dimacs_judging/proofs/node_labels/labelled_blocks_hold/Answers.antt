@@ -1,11 +1,7 @@
-use Rattle.std.proofs.Common.{◌≡◌, ◌<◌, Err, inl, length, subst}
-use Rattle.std.proofs.lemmas.Result.{err_from_is_err_and}
+use Rattle.std.proofs.{Common.{◌≡◌, ◌<◌, Err, inl, length, subst}, lemmas.Result.{err_from_is_err_and}}
 use Rattle.dimacs_claims.specs.Labels.{BlockValue}
-use Rattle.dimacs_judging.specs.CertificateTests.{weight_row}
-use Rattle.dimacs_judging.specs.inside.CertificateTests.{distance_rows}
-use Rattle.dimacs_judging.specs.inside.Labels.{block_at}
-use Rattle.dimacs_judging.specs.Tests.{AllClear, Clear, FirstOfRow}
-use Rattle.dimacs_judging.specs.inside.Tests.{TestsAll}
+use Rattle.dimacs_judging.specs.{CertificateTests.{weight_row}, inside.CertificateTests.{distance_rows}}
+use Rattle.dimacs_judging.specs.{inside.Labels.{block_at}, Tests.{AllClear, Clear, FirstOfRow}, inside.Tests.{TestsAll}}
 use Rattle.dimacs_judging.proofs.BlockLemmas.{after_weights, block_is, blocks_first, blocks_more, blocks_tests}
 use Rattle.dimacs_judging.proofs.node_labels.labelled_blocks_hold.Goals as goal
 

@@ -1,8 +1,6 @@
 use Rattle.std.proofs.Common.{IfSome, take}
-use Rattle.dimacs_judging.specs.CertificateTests.{label_rows}
-use Rattle.dimacs_judging.specs.LightestArcs.{AreLightest}
+use Rattle.dimacs_judging.specs.{CertificateTests.{label_rows}, LightestArcs.{AreLightest}, Tests.{AllClear}}
 use Rattle.dimacs_judging.specs.inside.NodeLabels.{AllUnlabelled, AreAsTested}
-use Rattle.dimacs_judging.specs.Tests.{AllClear}
 use Rattle.dimacs_judging.proofs.node_labels.labelled_blocks_hold.Given as goal
 
 -- all tests of the blocks so far pass

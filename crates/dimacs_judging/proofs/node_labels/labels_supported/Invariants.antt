@@ -1,8 +1,7 @@
 use Rattle.std.proofs.Common.{◌≡◌, List}
 use Rattle.dimacs_network.specs.declared.network.ArcView.{ArcView}
 use Rattle.dimacs_claims.specs.Labels.{BlockValue}
-use Rattle.dimacs_judging.specs.CertificateTests.{support_row}
-use Rattle.dimacs_judging.specs.inside.NodeLabels.{AreSupported, entries}
+use Rattle.dimacs_judging.specs.{CertificateTests.{support_row}, inside.NodeLabels.{AreSupported, entries}}
 use Rattle.dimacs_judging.specs.Tests.{ClearBelow}
 use Rattle.dimacs_judging.proofs.node_labels.labels_supported.Given as goal
 

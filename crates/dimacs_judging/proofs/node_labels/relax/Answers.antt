@@ -1,5 +1,4 @@
-use Rattle.std.proofs.Common.{IsTrue, ◌≡◌, ◌↔◌, ◌∙◌, ap, rules, w64, SFits, true, false}
-use Rattle.std.proofs.lemmas.Int.{to_z-of_z}
+use Rattle.std.proofs.{Common.{IsTrue, ◌≡◌, ◌↔◌, ◌∙◌, ap, rules, w64, SFits, true, false}, lemmas.Int.{to_z-of_z}}
 use Rattle.dimacs_judging.specs.inside.Distances.{Improves, IsTight}
 use Rattle.dimacs_judging.specs.inside.NodeLabels.{is_supported, entries, entry_of}
 use Rattle.dimacs_judging.proofs.NodeLabelLemmas.{no_improvement, relaxes_put, tight_where}

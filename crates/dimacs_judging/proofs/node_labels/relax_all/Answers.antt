@@ -1,6 +1,5 @@
 use Rattle.std.proofs.Common.{◌≡◌, ◌≤◌, ◌+◌, arith, length, sym, Err}
-use Rattle.dimacs_judging.specs.declared.verdict.Where.TheVariants.{Arc}
-use Rattle.dimacs_judging.specs.inside.NodeLabels.{entries}
+use Rattle.dimacs_judging.specs.{declared.verdict.Where.TheVariants.{Arc}, inside.NodeLabels.{entries}}
 use Rattle.dimacs_judging.proofs.NodeLabelLemmas.{all_counted, both_tests, labels_tests, count_on, clear_after, first_after, entries_after, entries_wide, supported_after, supported_all}
 use Rattle.dimacs_judging.proofs.RowLemmas.{arc_clear_end}
 use Rattle.dimacs_judging.proofs.node_labels.relax_all.Goals as goal

@@ -1,5 +1,4 @@
-use Rattle.std.proofs.Common.{Err, is_some, sym, ap, ◌∙◌}
-use Rattle.std.proofs.lemmas.Result.{err_from_is_err_and}
+use Rattle.std.proofs.{Common.{Err, is_some, sym, ap, ◌∙◌}, lemmas.Result.{err_from_is_err_and}}
 use Rattle.dimacs_judging.proofs.RowLemmas.{weights_tests}
 use Rattle.dimacs_judging.proofs.node_labels.test_weights_for.Goals as goal
 

@@ -1,5 +1,4 @@
-use Rattle.std.proofs.Common.{rules, ◌≡◌, ◌∙◌, ◌+ℤ◌, ap, refl, arith, w32, w64, SFits}
-use Rattle.std.proofs.lemmas.Int.{ints, to_z-of_z}
+use Rattle.std.proofs.{Common.{rules, ◌≡◌, ◌∙◌, ◌+ℤ◌, ap, refl, arith, w32, w64, SFits}, lemmas.Int.{ints, to_z-of_z}}
 use Rattle.dimacs_judging.specs.declared.one_pass.NodeState.{NodeState}
 use Rattle.dimacs_judging.proofs.OnePass.{adds_at}
 use Rattle.dimacs_judging.proofs.one_pass.add_at.Goals as goal

@@ -1,5 +1,4 @@
-use Rattle.std.proofs.Common.{rules, SFits, w64}
-use Rattle.std.proofs.lemmas.Int.{to_z-of_z}
+use Rattle.std.proofs.{Common.{rules, SFits, w64}, lemmas.Int.{to_z-of_z}}
 use Rattle.dimacs_judging.proofs.one_pass.passes.Goals as goal
 
 pub returns-in-None-None : goal.returns-in-None-None

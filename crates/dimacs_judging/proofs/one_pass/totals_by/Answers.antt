@@ -1,8 +1,6 @@
-use Rattle.std.proofs.Common.{rules, ◌≤◌, ◌∙◌, length, arith, w64, SFits}
+use Rattle.std.proofs.{Common.{rules, ◌≤◌, ◌∙◌, length, arith, w64, SFits}, lemmas.Int.{to_z-of_z}}
+use Rattle.std.proofs.{lemmas.List.Elements.{All-get_or}, lemmas.Option.{get_or_from_slice_get, slice_get_within}}
 use Rattle.std.specs.Int.{w128}
-use Rattle.std.proofs.lemmas.Int.{to_z-of_z}
-use Rattle.std.proofs.lemmas.List.Elements.{All-get_or}
-use Rattle.std.proofs.lemmas.Option.{get_or_from_slice_get, slice_get_within}
 use Rattle.dimacs_network.specs.Arcs.{JoinsNodes}
 use Rattle.dimacs_judging.proofs.OnePass.{added_more, balances_added, cost_added, cost_fits, passed}
 use Rattle.dimacs_judging.proofs.one_pass.totals_by.Goals as goal

@@ -1,9 +1,7 @@
 use Rattle.std.proofs.Common.{List, Err, inl, inr, subst}
 use Rattle.dimacs_network.specs.declared.network.ArcView.{ArcView}
 use Rattle.dimacs_instance.specs.QueryTexts.{asked}
-use Rattle.dimacs_judging.specs.CertificateTests.{label_rows}
-use Rattle.dimacs_judging.specs.PathsJudge.{paths_rows}
-use Rattle.dimacs_judging.specs.Tests.{AllClear}
+use Rattle.dimacs_judging.specs.{CertificateTests.{label_rows}, PathsJudge.{paths_rows}, Tests.{AllClear}}
 use Rattle.dimacs_judging.specs.inside.Tests.{TestsAll}
 use Rattle.dimacs_judging.proofs.PathsPassing.{paths_shown, paths_judged, blocks_refused, labels_refused}
 use Rattle.dimacs_judging.proofs.paths.judge_paths.Goals as goal

@@ -1,8 +1,7 @@
 use Rattle.std.proofs.Common.{[], ◌∷◌}
 use Rattle.dimacs_claims.specs.Potentials.{potential_of}
 use Rattle.dimacs_judging.specs.CertificateTests.{slack_row}
-use Rattle.dimacs_judging.proofs.Passing.{potentials_slack, slack_clear}
-use Rattle.dimacs_judging.proofs.Settling.{decided, last_row}
+use Rattle.dimacs_judging.proofs.{Passing.{potentials_slack, slack_clear}, Settling.{decided, last_row}}
 use Rattle.dimacs_judging.proofs.potentials.slack_tests.Goals as goal
 
 pub returns : goal.returns

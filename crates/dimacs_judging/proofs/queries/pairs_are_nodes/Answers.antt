@@ -1,7 +1,6 @@
 use Rattle.std.proofs.Common.{◌≡◌, ◌*◌, ◌+◌, ◌<◌, ℕ, subst, arith}
 use Rattle.dimacs_instance.specs.QueryTexts.{Pairs}
-use Rattle.dimacs_judging.specs.QueryTests.{query_node_row}
-use Rattle.dimacs_judging.specs.Tests.{ClearBelow}
+use Rattle.dimacs_judging.specs.{QueryTests.{query_node_row}, Tests.{ClearBelow}}
 use Rattle.dimacs_judging.proofs.ListedRows.{listed_clear_more, listed_clear_end, listed_first, length-ends, from_at, to_at}
 use Rattle.dimacs_judging.proofs.queries.pairs_are_nodes.Goals as goal
 

@@ -1,7 +1,6 @@
 use Rattle.std.proofs.Common.{◌*◌}
 use Rattle.dimacs_instance.specs.QueryTexts.{Pairs}
-use Rattle.dimacs_judging.specs.QueryTests.{query_node_row}
-use Rattle.dimacs_judging.specs.Tests.{ClearBelow}
+use Rattle.dimacs_judging.specs.{QueryTests.{query_node_row}, Tests.{ClearBelow}}
 use Rattle.dimacs_judging.proofs.queries.pairs_are_nodes.Given as goal
 
 -- both tests of each pair so far pass

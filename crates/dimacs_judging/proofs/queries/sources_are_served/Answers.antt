@@ -1,5 +1,4 @@
-use Rattle.std.proofs.Common.{IsTrue, false, refl, arith}
-use Rattle.std.proofs.lemmas.Option.{get_or_from_slice_get, slice_get_within}
+use Rattle.std.proofs.{Common.{IsTrue, false, refl, arith}, lemmas.Option.{get_or_from_slice_get, slice_get_within}}
 use Rattle.dimacs_instance.specs.QueryTexts.{asked}
 use Rattle.dimacs_judging.specs.QueryTests.{IsServed}
 use Rattle.dimacs_judging.proofs.ListedRows.{listed_clear_more, listed_clear_end, listed_first, length-sources}

@@ -1,10 +1,8 @@
-use Rattle.std.proofs.Common.{◌∙◌, ◌∷◌, [], inl, rules, SFits}
-use Rattle.std.specs.Int.{w128}
-use Rattle.std.proofs.lemmas.Int.{to_z-of_z}
+use Rattle.std.proofs.{Common.{◌∙◌, ◌∷◌, [], inl, rules, SFits}, lemmas.Int.{to_z-of_z}}
 use Rattle.std.proofs.lemmas.Result.{err_from_is_err_and}
+use Rattle.std.specs.Int.{w128}
 use Rattle.dimacs_judging.specs.FlowTests.{cost_row, feasible_rows}
-use Rattle.dimacs_judging.proofs.RowLists.{first_after}
-use Rattle.dimacs_judging.proofs.Settling.{refused_in_front}
+use Rattle.dimacs_judging.proofs.{RowLists.{first_after}, Settling.{refused_in_front}}
 use Rattle.dimacs_judging.proofs.totals.cost_if_feasible.Goals as goal
 
 pub returns-in-Some : goal.returns-in-Some

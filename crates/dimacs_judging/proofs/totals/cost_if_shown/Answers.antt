@@ -1,6 +1,5 @@
-use Rattle.std.proofs.Common.{rules, ◌∙◌, SFits}
+use Rattle.std.proofs.{Common.{rules, ◌∙◌, SFits}, lemmas.Int.{to_z-of_z}}
 use Rattle.std.specs.Int.{w128}
-use Rattle.std.proofs.lemmas.Int.{to_z-of_z}
 use Rattle.dimacs_claims.specs.Potentials.{potential_of}
 use Rattle.dimacs_judging.proofs.Passing.{costs_wide, feasible_min_holds, potentials_slack}
 use Rattle.dimacs_judging.proofs.totals.cost_if_shown.Goals as goal

@@ -1,7 +1,5 @@
-use Rattle.std.proofs.Common.{◌∙◌, rules, SFits}
+use Rattle.std.proofs.{Common.{◌∙◌, rules, SFits}, lemmas.Int.{to_z-of_z}, lemmas.Result.{err_from_is_err_and}}
 use Rattle.std.specs.Int.{w128}
-use Rattle.std.proofs.lemmas.Int.{to_z-of_z}
-use Rattle.std.proofs.lemmas.Result.{err_from_is_err_and}
 use Rattle.dimacs_judging.proofs.totals.value_if_feasible.Goals as goal
 
 pub returns-in-Some : goal.returns-in-Some

@@ -1,11 +1,7 @@
-use Rattle.std.proofs.Common.{rules, ◌≡◌, ◌∙◌, sym, true, false, SFits}
+use Rattle.std.proofs.{Common.{rules, ◌≡◌, ◌∙◌, sym, true, false, SFits}, lemmas.Int.{to_z-of_z}}
 use Rattle.std.specs.Int.{w128}
-use Rattle.std.proofs.lemmas.Int.{to_z-of_z}
-use Rattle.dimacs_judging.specs.Cuts.{members}
-use Rattle.dimacs_judging.specs.Feasible.{value}
-use Rattle.dimacs_judging.specs.inside.OnePass.{indicator}
-use Rattle.dimacs_judging.proofs.OnePass.{tight_if_slack}
-use Rattle.dimacs_judging.proofs.Passing.{feasible_max_holds, potentials_slack}
+use Rattle.dimacs_judging.specs.{Cuts.{members}, Feasible.{value}, inside.OnePass.{indicator}}
+use Rattle.dimacs_judging.proofs.{OnePass.{tight_if_slack}, Passing.{feasible_max_holds, potentials_slack}}
 use Rattle.dimacs_judging.proofs.totals.value_if_shown.Goals as goal
 
 pub returns : goal.returns

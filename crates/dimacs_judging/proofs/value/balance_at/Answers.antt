@@ -1,8 +1,7 @@
 use Rattle.std.proofs.Common.{rules, ◌≡◌, ◌==◌, ◌+ℤ◌, ◌-ℤ◌, ◌^◌, arith, w64, SFits, to_z}
-use Rattle.std.specs.Int.{w128}
 use Rattle.std.proofs.lemmas.Int.{ints, to_z-of_z}
-use Rattle.dimacs_judging.specs.Flows.{when}
-use Rattle.dimacs_judging.specs.inside.Ranges.{IsOfSize}
+use Rattle.std.specs.Int.{w128}
+use Rattle.dimacs_judging.specs.{Flows.{when}, inside.Ranges.{IsOfSize}}
 use Rattle.dimacs_judging.proofs.StepLemmas.{balance_more}
 use Rattle.dimacs_judging.proofs.value.balance_at.Goals as goal
 

@@ -1,12 +1,8 @@
-use Rattle.std.proofs.Common.{◌≡◌, ◌+◌, ap, ◌∙◌, arith, take, drop}
-use Rattle.std.proofs.lemmas.Bool.Decides.{nat_tests}
-use Rattle.std.proofs.lemmas.Grind.{common_steps}
-use Rattle.std.proofs.lemmas.List.{take_rest}
-use Rattle.std.proofs.lemmas.Result.{err_from_is_err_and}
+use Rattle.std.proofs.{Common.{◌≡◌, ◌+◌, ap, ◌∙◌, arith, take, drop}, lemmas.Bool.Decides.{nat_tests}}
+use Rattle.std.proofs.{lemmas.Grind.{common_steps}, lemmas.List.{take_rest}, lemmas.Result.{err_from_is_err_and}}
 use Rattle.dimacs_lines.specs.Devices.{after_piece, one_more}
-use Rattle.dimacs_lines.proofs.PutLemmas.{after_piece-take, AcceptsFront-take}
+use Rattle.dimacs_lines.proofs.{PutLemmas.{after_piece-take, AcceptsFront-take}, device.put_all.Goals.{In_ok-count}}
 use Rattle.dimacs_lines.proofs.device.put_all.Goals as goal
-use Rattle.dimacs_lines.proofs.device.put_all.Goals.{In_ok-count}
 
 -- what this put accepted follows what was accepted before
 taken : (g : _) (c : In_ok-count g) → (g.S.Sink.seen c.put.new.self).accepted ≡ after_piece (g.S.Sink.seen c.args.sink.now).accepted (take (c.loop-done.done + c.in_ok-count.count) c.args.bytes.now)

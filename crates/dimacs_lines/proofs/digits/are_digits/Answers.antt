@@ -1,7 +1,6 @@
 use Rattle.std.proofs.Common.{◌<◌, ◌+◌, ◌^◌, ap, sym, subst, ◌∙◌, arith, eqb-true, eq-eqb, w64}
 use Rattle.std.specs.Int.{to_le_bytes}
-use Rattle.dimacs_lines.proofs.Lanes.{word_of-to_le_bytes}
-use Rattle.dimacs_lines.proofs.Marks.{carries, carries-none, carry_fits}
+use Rattle.dimacs_lines.proofs.{Lanes.{word_of-to_le_bytes}, Marks.{carries, carries-none, carry_fits}}
 use Rattle.dimacs_lines.proofs.digits.are_digits.Goals as goal
 
 pub overflow_add-result : goal.overflow_add-result

@@ -1,6 +1,5 @@
 use Rattle.std.proofs.Common.{◌/◌, ap, sym, ◌∙◌, arith, w64}
-use Rattle.std.specs.Int.{to_le_bytes}
-use Rattle.std.specs.Int.Count.{count_trailing_zeros}
+use Rattle.std.specs.{Int.{to_le_bytes}, Int.Count.{count_trailing_zeros}}
 use Rattle.dimacs_lines.proofs.Lanes.{word_of-to_le_bytes, AllBytes-to_le_bytes}
 use Rattle.dimacs_lines.proofs.Marks.{marks, count_trailing_zeros-marks}
 use Rattle.dimacs_lines.proofs.digits.count_to_end.Goals as goal

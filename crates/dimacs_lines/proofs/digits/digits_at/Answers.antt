@@ -1,13 +1,9 @@
 use Rattle.std.proofs.Common.{◌≡◌, ℕ, ◌-◌, ◌<◌, ◌≤◌, List, ◌++◌, min, length, take, drop, replicate, w64, sym, ap, subst, ◌∙◌, arith, take-take, length-take}
-use Rattle.std.specs.Char.{is_ascii_digit}
-use Rattle.std.specs.Int.{to_le_bytes}
-use Rattle.std.specs.Int.Digits.{AllBelowBase, number_from_digits}
-use Rattle.std.specs.List.{All, prefix_len}
-use Rattle.std.proofs.lemmas.List.{take-append-le}
-use Rattle.std.proofs.lemmas.List.Elements.{All-take}
+use Rattle.std.proofs.{lemmas.List.{take-append-le}, lemmas.List.Elements.{All-take}}
 use Rattle.std.proofs.lemmas.List.Sums.{prefix_len-le-length}
-use Rattle.dimacs_lines.specs.Number.{place_sum}
-use Rattle.dimacs_lines.specs.inside.Plain.{has_sixteen}
+use Rattle.std.specs.{Char.{is_ascii_digit}, Int.{to_le_bytes}, Int.Digits.{AllBelowBase, number_from_digits}}
+use Rattle.std.specs.List.{All, prefix_len}
+use Rattle.dimacs_lines.specs.{Number.{place_sum}, inside.Plain.{has_sixteen}}
 use Rattle.dimacs_lines.proofs.Lanes.{AllBytes-to_le_bytes}
 use Rattle.dimacs_lines.proofs.PlaceSums.{number_from_digits-zeros, All-turned, AllPass-take, AllPass-turned, prefix_len-digits, prefix_len-padded}
 use Rattle.dimacs_lines.proofs.digits.digits_at.Goals as goal

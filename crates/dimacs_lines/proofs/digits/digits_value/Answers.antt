@@ -1,6 +1,5 @@
-use Rattle.std.proofs.Common.{◌-◌, take, drop, sym, ap, subst, ◌∙◌, take-take}
+use Rattle.std.proofs.{Common.{◌-◌, take, drop, sym, ap, subst, ◌∙◌, take-take}, lemmas.List.{take_rest}}
 use Rattle.std.specs.Int.Digits.{AllBelowBase, number_from_digits}
-use Rattle.std.proofs.lemmas.List.{take_rest}
 use Rattle.dimacs_lines.proofs.PlaceSums.{number_from_digits-zeros, turned, AllBelowBase-digits, AllPass-digits}
 use Rattle.dimacs_lines.proofs.digits.digits_value.Goals as goal
 

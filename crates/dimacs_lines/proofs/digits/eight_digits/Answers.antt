@@ -1,8 +1,7 @@
 use Rattle.std.proofs.Common.{◌≡◌, ℕ, ◌/◌, ◌^◌, ◌%◌, ◌*◌, [], ◌∷◌, bit_and, ap, sym, ◌∙◌, arith, lit<, lit≤, ◌<◌, mod-eq_of_lt}
-use Rattle.std.specs.Int.Digits.{AllBelowBase, number_from_digits}
 use Rattle.std.proofs.lemmas.Nat.{and_mask}
-use Rattle.dimacs_lines.proofs.Lanes.{word_of, word_of-to_le_bytes}
-use Rattle.dimacs_lines.proofs.Pairs.{paired, joined-wrapped}
+use Rattle.std.specs.Int.Digits.{AllBelowBase, number_from_digits}
+use Rattle.dimacs_lines.proofs.{Lanes.{word_of, word_of-to_le_bytes}, Pairs.{paired, joined-wrapped}}
 use Rattle.dimacs_lines.proofs.digits.eight_digits.Goals as goal
 
 -- the three steps of `eight_digits`

@@ -1,9 +1,8 @@
 use Rattle.std.proofs.Common.{◌≡◌, ℕ, ◌+◌, ◌-◌, ◌<◌, List, ◌++◌, length, get_or, take, drop, replicate, w64, zero, suc, [], ◌∷◌, sym, ap, ◌∙◌, arith, length-append, length-take, All}
-use Rattle.std.specs.Int.{from_le_bytes}
-use Rattle.std.proofs.Math.Seq.{take-append-add}
-use Rattle.std.proofs.lemmas.List.{drop-replicate, take-replicate}
+use Rattle.std.proofs.{Math.Seq.{take-append-add}, lemmas.List.{drop-replicate, take-replicate}}
 use Rattle.std.proofs.lemmas.List.Elements.{All-from_get_or, All-append, All-replicate, All-take, All-head, All-tail}
 use Rattle.std.proofs.lemmas.Nat.{le_bytes_8}
+use Rattle.std.specs.Int.{from_le_bytes}
 use Rattle.dimacs_lines.proofs.digits.short_word.Goals as goal
 
 -- also past the end

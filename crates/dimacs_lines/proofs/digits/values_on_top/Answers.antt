@@ -1,9 +1,7 @@
 use Rattle.std.proofs.Common.{◌≡◌, ℕ, ◌+◌, ◌-◌, ◌*◌, ◌%◌, ◌^◌, ◌<◌, ◌≤◌, List, ◌++◌, length, map, take, replicate, bit_xor, get_or, lit<, sym, ap, ap₂, ◌∙◌, arith, w64, length-append, take_at}
+use Rattle.std.proofs.{Math.Seq.{take-append-add}, lemmas.List.{take-map, length-replicate, length-take-le}}
+use Rattle.std.proofs.{lemmas.Nat.{xor_lt}, lemmas.List.Elements.{All-append, All-replicate, All-map, All-take}}
 use Rattle.std.specs.Int.{to_le_bytes}
-use Rattle.std.proofs.Math.Seq.{take-append-add}
-use Rattle.std.proofs.lemmas.List.{take-map, length-replicate, length-take-le}
-use Rattle.std.proofs.lemmas.Nat.{xor_lt}
-use Rattle.std.proofs.lemmas.List.Elements.{All-append, All-replicate, All-map, All-take}
 use Rattle.dimacs_lines.proofs.Lanes.{AllBytes, word_of, word_of-zeros, word_of-take, word_of-map, to_le_bytes-word_of, word_of-to_le_bytes, AllBytes-to_le_bytes}
 use Rattle.dimacs_lines.proofs.digits.values_on_top.Goals as goal
 

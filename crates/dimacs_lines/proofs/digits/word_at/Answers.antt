@@ -1,7 +1,6 @@
 use Rattle.std.proofs.Common.{◌≡◌, ℕ, ◌+◌, ◌-◌, ◌*◌, ◌^◌, ◌/◌, ◌<◌, ◌≤◌, List, ◌++◌, length, take, drop, replicate, w64, ap, sym, ◌∙◌, arith, shr-shr, drop-drop, take_all, length-drop}
+use Rattle.std.proofs.{lemmas.List.{take_rest}, lemmas.List.Elements.{All-from_get_or, All-drop}}
 use Rattle.std.specs.Int.{to_le_bytes}
-use Rattle.std.proofs.lemmas.List.{take_rest}
-use Rattle.std.proofs.lemmas.List.Elements.{All-from_get_or, All-drop}
 use Rattle.dimacs_lines.proofs.Lanes.{AllBytes, word_of, word_of-drop, to_le_bytes-word_of, word_of-to_le_bytes}
 use Rattle.dimacs_lines.proofs.digits.word_at.Goals as goal
 

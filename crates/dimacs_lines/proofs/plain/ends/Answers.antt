@@ -1,10 +1,8 @@
 use Rattle.std.proofs.Common.{◌≡◌, ℕ, List, All, ◌+◌, ◌-◌, ◌%◌, ◌^◌, ◌<◌, ◌≤◌, Bool, ltb, cond, map, replicate, length, take, Fits, w32, ap, ◌∙◌, subst, sym, arith, refl, length-take}
-use Rattle.std.specs.Prelude.{not}
-use Rattle.std.specs.Char.{is_ascii_digit}
-use Rattle.std.proofs.lemmas.Bool.{agree_below_at}
-use Rattle.std.proofs.lemmas.List.{length-map}
+use Rattle.std.proofs.{lemmas.Bool.{agree_below_at}, lemmas.List.{length-map}}
 use Rattle.std.proofs.lemmas.List.Elements.{All-from_get_or, All-take}
 use Rattle.std.proofs.lemmas.Simd.{zip2_splat, zip2_of_maps, splat_is_map, map-map, mask_l-mod, mask_l-lt}
+use Rattle.std.specs.{Prelude.{not}, Char.{is_ascii_digit}}
 use lib.Lanes.{mask_l, top, zip2}
 use Rattle.dimacs_lines.specs.inside.Plain.{ends_of}
 use Rattle.dimacs_lines.proofs.EndMarks.{marks_agree}

@@ -1,5 +1,4 @@
-use Rattle.std.proofs.Common.{sym, arith, length}
-use Rattle.std.proofs.lemmas.List.Sums.{position_or_len_is}
+use Rattle.std.proofs.{Common.{sym, arith, length}, lemmas.List.Sums.{position_or_len_is}}
 use Rattle.dimacs_lines.specs.Fields.{is_blank}
 use Rattle.dimacs_lines.proofs.scan.field_length.Goals as goal
 

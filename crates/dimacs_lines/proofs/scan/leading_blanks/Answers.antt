@@ -1,6 +1,5 @@
-use Rattle.std.proofs.Common.{sym, ap, arith, length}
+use Rattle.std.proofs.{Common.{sym, ap, arith, length}, lemmas.List.Sums.{position_or_len_is}}
 use Rattle.std.specs.Prelude.{not}
-use Rattle.std.proofs.lemmas.List.Sums.{position_or_len_is}
 use Rattle.dimacs_lines.specs.Fields.{is_blank}
 use Rattle.dimacs_lines.proofs.scan.leading_blanks.Goals as goal
 

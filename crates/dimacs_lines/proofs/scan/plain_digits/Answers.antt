@@ -1,8 +1,6 @@
 use Rattle.std.proofs.Common.{◌≡◌, ◌+◌, ◌<◌, ◌≤◌, true, ℕ, List, refl, arith, length, take, drop, get_or, length-drop}
-use Rattle.std.specs.Char.{is_ascii_digit}
-use Rattle.std.specs.List.{prefix_len}
-use Rattle.std.proofs.lemmas.List.Sums.{prefix_len-le-length}
-use Rattle.std.proofs.lemmas.List.{get_or-drop, length-take}
+use Rattle.std.proofs.{lemmas.List.Sums.{prefix_len-le-length}, lemmas.List.{get_or-drop, length-take}}
+use Rattle.std.specs.{Char.{is_ascii_digit}, List.{prefix_len}}
 use Rattle.dimacs_lines.specs.Fields.{is_blank}
 use Rattle.dimacs_lines.proofs.DigitLemmas.{All-digits, run_of_digits}
 use Rattle.dimacs_lines.proofs.scan.plain_digits.Goals as goal

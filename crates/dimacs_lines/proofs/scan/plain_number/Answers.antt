@@ -1,8 +1,7 @@
 use Rattle.std.proofs.Common.{◌≡◌, ◌+◌, ◌<◌, ◌∙◌, ◌∷◌, ℕ, List, ap, arith, length, take, drop, get_or, length-drop}
-use Rattle.std.specs.List.{position_or_len}
 use Rattle.std.proofs.lemmas.List.{length-take, drop_more}
-use Rattle.dimacs_lines.specs.Fields.{is_blank}
-use Rattle.dimacs_lines.specs.Number.{place_sum}
+use Rattle.std.specs.List.{position_or_len}
+use Rattle.dimacs_lines.specs.{Fields.{is_blank}, Number.{place_sum}}
 use Rattle.dimacs_lines.proofs.DigitLemmas.{spells_digits, spells_minus, minus_in_front, read_back, read_minus}
 use Rattle.dimacs_lines.proofs.scan.plain_number.Goals as goal
 

@@ -1,5 +1,4 @@
-use Rattle.std.proofs.Common.{w8, ap, ◌%◌, ◌==◌, arith}
-use Rattle.std.proofs.lemmas.Nat.Bits.{bit_at_set_same, bit_at_set_other}
+use Rattle.std.proofs.{Common.{w8, ap, ◌%◌, ◌==◌, arith}, lemmas.Nat.Bits.{bit_at_set_same, bit_at_set_other}}
 use Rattle.dimacs_network.proofs.node_set.with_bit.Goals as goal
 
 pub returns : goal.returns

@@ -1,5 +1,4 @@
-use Rattle.std.proofs.Common.{w8, ap, ◌%◌, ◌==◌, arith}
-use Rattle.std.proofs.lemmas.Nat.Bits.{bit_at_clear_same, bit_at_clear_other}
+use Rattle.std.proofs.{Common.{w8, ap, ◌%◌, ◌==◌, arith}, lemmas.Nat.Bits.{bit_at_clear_same, bit_at_clear_other}}
 use Rattle.dimacs_network.proofs.node_set.without_bit.Goals as goal
 
 pub returns : goal.returns

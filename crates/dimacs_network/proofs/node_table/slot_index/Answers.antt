@@ -1,9 +1,6 @@
-use Rattle.std.proofs.Common.{◌≡◌, ◌+◌, ◌*◌, ◌%◌, ◌∙◌, ap, sym}
-use Rattle.std.proofs.lemmas.List.{get_or_past}
-use Rattle.dimacs_network.specs.declared.node_table.TheConstants.{NO_PAGE}
-use Rattle.dimacs_network.specs.Slots.{number_of}
-use Rattle.dimacs_network.proofs.SlotLemmas.{place_of-number}
-use Rattle.dimacs_network.proofs.node_table.slot_index.Goals.{in-Some, in-None}
+use Rattle.std.proofs.{Common.{◌≡◌, ◌+◌, ◌*◌, ◌%◌, ◌∙◌, ap, sym}, lemmas.List.{get_or_past}}
+use Rattle.dimacs_network.specs.{declared.node_table.TheConstants.{NO_PAGE}, Slots.{number_of}}
+use Rattle.dimacs_network.proofs.{SlotLemmas.{place_of-number}, node_table.slot_index.Goals.{in-Some, in-None}}
 use Rattle.dimacs_network.proofs.node_table.slot_index.Goals as goal
 
 pub returns : goal.returns

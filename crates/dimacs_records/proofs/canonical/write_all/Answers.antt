@@ -1,5 +1,4 @@
-use Rattle.std.proofs.Common.{length, take, arith}
-use Rattle.std.proofs.lemmas.List.{take_all}
+use Rattle.std.proofs.{Common.{length, take, arith}, lemmas.List.{take_all}}
 use Rattle.dimacs_records.proofs.WrittenLemmas.{lines_of_list}
 use Rattle.dimacs_records.proofs.canonical.write_all.Goals as goal
 

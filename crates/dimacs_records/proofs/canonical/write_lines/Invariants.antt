@@ -1,7 +1,6 @@
 use Rattle.std.proofs.Common.{ℕ, List, ◌≤◌}
 use Rattle.dimacs_lines.specs.OutputBuffers.{Appends}
-use Rattle.dimacs_records.specs.declared.records.Record.{Record}
-use Rattle.dimacs_records.specs.Canonical.{AreLines, canonical_text}
+use Rattle.dimacs_records.specs.{declared.records.Record.{Record}, Canonical.{AreLines, canonical_text}}
 use Rattle.dimacs_records.proofs.canonical.write_lines.Given as goal
 
 -- the lines of the numbers so far were written

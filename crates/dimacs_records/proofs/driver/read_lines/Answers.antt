@@ -1,6 +1,5 @@
-use Rattle.std.proofs.Common.{◌≡◌, Option, None, Some, Ok, refl, subst, false}
+use Rattle.std.proofs.{Common.{◌≡◌, Option, None, Some, Ok, refl, subst, false}, lemmas.Result.{err_from_is_err_and}}
 use Rattle.std.specs.Prelude.{is_some}
-use Rattle.std.proofs.lemmas.Result.{err_from_is_err_and}
 use Rattle.dimacs_lines.specs.Reader.{text_left}
 use Rattle.dimacs_records.specs.inside.Driver.{ReadsNext}
 use Rattle.dimacs_records.proofs.driver.read_lines.Goals as goal

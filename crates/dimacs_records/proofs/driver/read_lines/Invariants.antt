@@ -1,9 +1,6 @@
 use Rattle.std.proofs.Common.{◌≡◌, ◌≤◌, ◌+◌, ◌-◌, List, ℕ}
-use Rattle.dimacs_lines.specs.Reader.{text_left}
-use Rattle.dimacs_lines.specs.declared.reader.Progress.TheVariants.{Open}
-use Rattle.dimacs_lines.specs.Limits.{most_lines}
-use Rattle.dimacs_records.specs.Readings.{HasTaken}
-use Rattle.dimacs_records.specs.inside.Driver.{IsReadSoFar}
+use Rattle.dimacs_lines.specs.{Reader.{text_left}, declared.reader.Progress.TheVariants.{Open}, Limits.{most_lines}}
+use Rattle.dimacs_records.specs.{Readings.{HasTaken}, inside.Driver.{IsReadSoFar}}
 use Rattle.dimacs_records.proofs.driver.read_lines.Given as goal
 
 -- so many lines were read without an I/O error

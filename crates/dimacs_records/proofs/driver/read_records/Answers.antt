@@ -1,6 +1,5 @@
 use Rattle.std.proofs.Common.{ap}
-use Rattle.dimacs_lines.specs.Lines.{lines}
-use Rattle.dimacs_lines.specs.Reader.{State}
+use Rattle.dimacs_lines.specs.{Lines.{lines}, Reader.{State}}
 use Rattle.dimacs_records.proofs.DriverLemmas.{read_nothing}
 use Rattle.dimacs_records.proofs.driver.read_records.Goals as goal
 

@@ -1,6 +1,5 @@
 use Rattle.std.proofs.Common.{Ok, Some, None, ◌+◌, arith}
-use Rattle.dimacs_records.specs.Spelling.{texts_in}
-use Rattle.dimacs_records.specs.LineReader.{ReadsLine}
+use Rattle.dimacs_records.specs.{Spelling.{texts_in}, LineReader.{ReadsLine}}
 use Rattle.dimacs_records.proofs.DriverLemmas.{take_skip, take_record, take_fault}
 use Rattle.dimacs_records.proofs.TakenLines.{one_taken_or_not, taken_before}
 use Rattle.dimacs_records.proofs.driver.take_line.Goals as goal

@@ -1,11 +1,8 @@
-use Rattle.std.proofs.Common.{◌≡◌, ◌+◌, ◌<◌, length, drop, length-drop, arith, Ok, Err, ◌∙◌}
-use Rattle.std.proofs.lemmas.List.{drop-drop}
+use Rattle.std.proofs.{Common.{◌≡◌, ◌+◌, ◌<◌, length, drop, length-drop, arith, Ok, Err, ◌∙◌}, lemmas.List.{drop-drop}}
 use Rattle.std.proofs.lemmas.Slice.{between_to_end}
 use Rattle.dimacs_lines.specs.Limits.{most_lines}
-use Rattle.dimacs_records.specs.inside.Plain.{SpellsFirst}
-use Rattle.dimacs_records.specs.Spelling.{texts_in}
-use Rattle.dimacs_records.proofs.HeldLines.{one_more_whole, plain_step}
-use Rattle.dimacs_records.proofs.TakenLines.{one_taken}
+use Rattle.dimacs_records.specs.{inside.Plain.{SpellsFirst}, Spelling.{texts_in}}
+use Rattle.dimacs_records.proofs.{HeldLines.{one_more_whole, plain_step}, TakenLines.{one_taken}}
 use Rattle.dimacs_records.proofs.driver.take_plain.Goals as goal
 
 pub returns-in-Err-clause-takes : goal.returns-in-Err-clause-takes

@@ -1,8 +1,6 @@
 use Rattle.std.proofs.Common.{◌≡◌, ◌+◌, ◌-◌, ◌≤◌, ℕ, List, Option, length, take, drop}
-use Rattle.dimacs_lines.specs.Devices.{before_piece}
-use Rattle.dimacs_lines.specs.Lines.{AreWholeLines}
-use Rattle.dimacs_records.specs.Readings.{HasTaken}
-use Rattle.dimacs_records.specs.inside.Driver.{IsReadSoFar}
+use Rattle.dimacs_lines.specs.{Devices.{before_piece}, Lines.{AreWholeLines}}
+use Rattle.dimacs_records.specs.{Readings.{HasTaken}, inside.Driver.{IsReadSoFar}}
 use Rattle.dimacs_records.proofs.driver.take_plain.Given as goal
 
 -- so many lines and bytes of the buffer were taken

@@ -1,6 +1,5 @@
-use Rattle.std.proofs.Common.{◌≡◌, true, false, rules, w64, SFits}
+use Rattle.std.proofs.{Common.{◌≡◌, true, false, rules, w64, SFits}, lemmas.Int.{to_z-of_z}}
 use Rattle.std.specs.Prelude.{int_lt}
-use Rattle.std.proofs.lemmas.Int.{to_z-of_z}
 use Rattle.dimacs_records.proofs.FieldLemmas.{field_reason-refused, field_reason-low, field_reason-high, refused_within}
 use Rattle.dimacs_records.proofs.field_reader.amount.Goals as goal
 

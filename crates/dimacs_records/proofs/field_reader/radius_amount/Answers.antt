@@ -1,7 +1,5 @@
-use Rattle.std.proofs.Common.{◌≡◌, ◌^◌, true, rules, SFits}
-use Rattle.std.specs.Int.{w128}
-use Rattle.std.specs.Prelude.{int_lt, pos}
-use Rattle.std.proofs.lemmas.Int.{to_z-of_z}
+use Rattle.std.proofs.{Common.{◌≡◌, ◌^◌, true, rules, SFits}, lemmas.Int.{to_z-of_z}}
+use Rattle.std.specs.{Int.{w128}, Prelude.{int_lt, pos}}
 use Rattle.dimacs_records.proofs.FieldLemmas.{field_reason-refused, field_reason-low, refused_radius}
 use Rattle.dimacs_records.proofs.field_reader.radius_amount.Goals as goal
 

@@ -1,8 +1,6 @@
 use Rattle.std.proofs.Common.{◌≡◌, ◌∷◌, map, ap, sym, ◌∙◌, subst}
-use Rattle.dimacs_lines.specs.Fields.{fields_of}
-use Rattle.dimacs_lines.specs.FieldViews.{view_field}
-use Rattle.dimacs_records.specs.Spelling.{texts_in}
-use Rattle.dimacs_records.specs.inside.FieldReader.{text_of_run, texts_left}
+use Rattle.dimacs_lines.specs.{Fields.{fields_of}, FieldViews.{view_field}}
+use Rattle.dimacs_records.specs.{Spelling.{texts_in}, inside.FieldReader.{text_of_run, texts_left}}
 use Rattle.dimacs_records.specs.LineReader.{ReadsLine}
 use Rattle.dimacs_records.proofs.LineLemmas.{reads_line}
 use Rattle.dimacs_records.proofs.lines.record.Goals as goal

@@ -1,7 +1,5 @@
-use Rattle.std.proofs.Common.{[], ◌∷◌, refl, rules, subst, sym, SFits, w64}
-use Rattle.std.proofs.lemmas.Int.{to_z-of_z}
-use Rattle.dimacs_records.specs.Forms.{Id, Whole, form}
-use Rattle.dimacs_records.specs.inside.Plain.{IsPlainLine}
+use Rattle.std.proofs.{Common.{[], ◌∷◌, refl, rules, subst, sym, SFits, w64}, lemmas.Int.{to_z-of_z}}
+use Rattle.dimacs_records.specs.{Forms.{Id, Whole, form}, inside.Plain.{IsPlainLine}}
 use Rattle.dimacs_records.proofs.PlainRecords.{ends_stand, plain_spells}
 use Rattle.dimacs_records.proofs.plain.arc_line.Goals as goal
 

@@ -1,10 +1,7 @@
-use Rattle.std.proofs.Common.{[], ◌∷◌, refl, rules, SFits, w64, lit<}
-use Rattle.std.specs.Prelude.{codes}
-use Rattle.std.specs.Int.{w128}
-use Rattle.std.proofs.lemmas.Int.{to_z-of_z}
-use Rattle.dimacs_records.specs.declared.kinds.TextKind.TheVariants.{Distances}
+use Rattle.std.proofs.{Common.{[], ◌∷◌, refl, rules, SFits, w64, lit<}, lemmas.Int.{to_z-of_z}}
+use Rattle.std.specs.{Prelude.{codes}, Int.{w128}}
+use Rattle.dimacs_records.specs.{declared.kinds.TextKind.TheVariants.{Distances}, Forms.{Id, Wide, form}}
 use Rattle.dimacs_records.specs.declared.records.Record.TheVariants.{DistancesNode}
-use Rattle.dimacs_records.specs.Forms.{Id, Wide, form}
 use Rattle.dimacs_records.proofs.PlainRecords.{plain_spells, value_widened}
 use Rattle.dimacs_records.proofs.plain.distances_line.Goals as goal
 

@@ -1,9 +1,7 @@
-use Rattle.std.proofs.Common.{[], ◌∷◌, refl, rules, SFits, w64, lit<}
+use Rattle.std.proofs.{Common.{[], ◌∷◌, refl, rules, SFits, w64, lit<}, lemmas.Int.{to_z-of_z}}
 use Rattle.std.specs.Prelude.{codes}
-use Rattle.std.proofs.lemmas.Int.{to_z-of_z}
-use Rattle.dimacs_records.specs.declared.kinds.TextKind.TheVariants.{Min}
+use Rattle.dimacs_records.specs.{declared.kinds.TextKind.TheVariants.{Min}, Forms.{Id, Whole, form}}
 use Rattle.dimacs_records.specs.declared.records.Record.TheVariants.{MinNode}
-use Rattle.dimacs_records.specs.Forms.{Id, Whole, form}
 use Rattle.dimacs_records.proofs.PlainRecords.{plain_spells}
 use Rattle.dimacs_records.proofs.plain.min_line.Goals as goal
 

@@ -1,5 +1,4 @@
-use Rattle.std.proofs.Common.{rules, SFits, w64}
-use Rattle.std.proofs.lemmas.Int.{to_z-of_z}
+use Rattle.std.proofs.{Common.{rules, SFits, w64}, lemmas.Int.{to_z-of_z}}
 use Rattle.dimacs_records.proofs.PlainRecords.{value_stands}
 use Rattle.dimacs_records.proofs.plain.node_line.Goals as goal
 

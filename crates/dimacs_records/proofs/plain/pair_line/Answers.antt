@@ -1,8 +1,7 @@
 use Rattle.std.proofs.Common.{[], ◌∷◌, refl, lit<}
 use Rattle.std.specs.Prelude.{codes}
-use Rattle.dimacs_records.specs.declared.kinds.TextKind.TheVariants.{Queries}
+use Rattle.dimacs_records.specs.{declared.kinds.TextKind.TheVariants.{Queries}, Forms.{Id, form}}
 use Rattle.dimacs_records.specs.declared.records.Record.TheVariants.{PairQuery}
-use Rattle.dimacs_records.specs.Forms.{Id, form}
 use Rattle.dimacs_records.proofs.PlainRecords.{pair_stands, plain_spells}
 use Rattle.dimacs_records.proofs.plain.pair_line.Goals as goal
 

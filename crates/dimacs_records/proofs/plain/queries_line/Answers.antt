@@ -1,8 +1,7 @@
 use Rattle.std.proofs.Common.{[], ◌∷◌, refl, lit<}
 use Rattle.std.specs.Prelude.{codes}
-use Rattle.dimacs_records.specs.declared.kinds.TextKind.TheVariants.{Queries}
+use Rattle.dimacs_records.specs.{declared.kinds.TextKind.TheVariants.{Queries}, Forms.{Id, form}}
 use Rattle.dimacs_records.specs.declared.records.Record.TheVariants.{SourceQuery}
-use Rattle.dimacs_records.specs.Forms.{Id, form}
 use Rattle.dimacs_records.proofs.PlainRecords.{plain_spells}
 use Rattle.dimacs_records.proofs.plain.queries_line.Goals as goal
 

@@ -1,7 +1,5 @@
-use Rattle.std.specs.Prelude.{codes}
-use Rattle.std.proofs.lemmas.Slice.Eq.{bytes_eq-Decides}
-use Rattle.std.proofs.Common.{sym, ◌∙◌}
-use Rattle.std.specs.String.{string_bytes}
+use Rattle.std.specs.{Prelude.{codes}, String.{string_bytes}}
+use Rattle.std.proofs.{lemmas.Slice.Eq.{bytes_eq-Decides}, Common.{sym, ◌∙◌}}
 use Rattle.dimacs_runs.proofs.ArgumentLemmas.{limited, two_arguments}
 use Rattle.dimacs_runs.proofs.arguments.limit.Goals as goal
 

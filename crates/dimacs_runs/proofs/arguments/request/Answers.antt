@@ -1,6 +1,5 @@
-use Rattle.std.specs.Prelude.{codes}
+use Rattle.std.specs.{Prelude.{codes}, String.{string_bytes}}
 use Rattle.std.proofs.Common.{◌≡◌, ◌∷◌, List, map, refl, ℕ}
-use Rattle.std.specs.String.{string_bytes}
 use Rattle.dimacs_runs.proofs.arguments.request.Goals as goal
 
 first_word : {A : Type 0} (f : A → List ℕ) (arguments : List A) (first : A) (rest : List A) (word verb : List ℕ) → arguments ≡ first ∷ rest → word ≡ f first → word ≡ verb → map f arguments ≡ verb ∷ map f rest

@@ -1,9 +1,6 @@
-use Rattle.std.proofs.Common.{rules, SFits}
+use Rattle.std.proofs.{Common.{rules, SFits}, lemmas.Int.{to_z-of_z}, lemmas.Result.{err_from_is_err_and}}
 use Rattle.std.specs.Int.{w128}
-use Rattle.std.proofs.lemmas.Int.{to_z-of_z}
-use Rattle.std.proofs.lemmas.Result.{err_from_is_err_and}
-use Rattle.dimacs_decide.specs.declared.least.MinDecision.TheVariants.{Better, Optimal}
-use Rattle.dimacs_decide.specs.CertifiedMin.{CertifiesMin}
+use Rattle.dimacs_decide.specs.{declared.least.MinDecision.TheVariants.{Better, Optimal}, CertifiedMin.{CertifiesMin}}
 use Rattle.dimacs_runs.proofs.CertifyingLemmas.{least_error, potentials_certify}
 use Rattle.dimacs_runs.proofs.certify.answer_least.Goals as goal
 

@@ -1,9 +1,6 @@
-use Rattle.std.proofs.Common.{rules, SFits}
+use Rattle.std.proofs.{Common.{rules, SFits}, lemmas.Int.{to_z-of_z}, lemmas.Result.{err_from_is_err_and}}
 use Rattle.std.specs.Int.{w128}
-use Rattle.std.proofs.lemmas.Int.{to_z-of_z}
-use Rattle.std.proofs.lemmas.Result.{err_from_is_err_and}
-use Rattle.dimacs_decide.specs.declared.maximum.MaxDecision.TheVariants.{Better, Optimal}
-use Rattle.dimacs_decide.specs.CertifiedMax.{CertifiesMax}
+use Rattle.dimacs_decide.specs.{declared.maximum.MaxDecision.TheVariants.{Better, Optimal}, CertifiedMax.{CertifiesMax}}
 use Rattle.dimacs_runs.proofs.CertifyingLemmas.{cut_certifies, maximum_error}
 use Rattle.dimacs_runs.proofs.certify.answer_maximum.Goals as goal
 

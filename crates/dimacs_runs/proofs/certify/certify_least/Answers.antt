@@ -1,12 +1,10 @@
 use Rattle.std.proofs.Common.{inl, inr}
-use Rattle.dimacs_records.specs.declared.kinds.TextKind.TheVariants as kinds
 use Rattle.dimacs_claims.specs.SolutionTexts.{GivesSolution}
 use Rattle.dimacs_instance.specs.MinTexts.{GivesMin}
-use Rattle.dimacs_runs.specs.Certified.{CertifiesLeast}
-use Rattle.dimacs_runs.specs.inside.Outcomes.{outcome_of}
+use Rattle.dimacs_runs.specs.{Certified.{CertifiesLeast}, inside.Outcomes.{outcome_of}, inside.Judgings.{text_of}}
 use Rattle.dimacs_runs.proofs.TextLemmas.{certifying, two_end, two_stop}
+use Rattle.dimacs_records.specs.declared.kinds.TextKind.TheVariants as kinds
 use Rattle.dimacs_runs.proofs.certify.certify_least.Goals as goal
-use Rattle.dimacs_runs.specs.inside.Judgings.{text_of}
 
 -- the texts were read, and the claim was answered
 pub returns-clause-certifies : goal.returns-clause-certifies

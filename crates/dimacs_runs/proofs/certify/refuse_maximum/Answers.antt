@@ -1,5 +1,4 @@
-use Rattle.std.proofs.Common.{arith, refl}
-use Rattle.std.proofs.lemmas.Int.{ints}
+use Rattle.std.proofs.{Common.{arith, refl}, lemmas.Int.{ints}}
 use Rattle.dimacs_claims.specs.SolutionTexts.{canonical_solution, claimed}
 use Rattle.dimacs_runs.specs.Certified.{IsGreaterText}
 use Rattle.dimacs_runs.proofs.CertifyingLemmas.{greater_certifies}

@@ -1,6 +1,5 @@
 use Rattle.std.proofs.Common.{[], ◌∷◌}
-use Rattle.dimacs_runs.specs.Certified.{Certified}
-use Rattle.dimacs_runs.specs.Outputs.{WritesAlike}
+use Rattle.dimacs_runs.specs.{Certified.{Certified}, Outputs.{WritesAlike}}
 use Rattle.dimacs_runs.proofs.WritingLemmas.{unclaimed_written}
 use Rattle.dimacs_runs.proofs.certify.run_certify.Goals as goal
 

@@ -1,9 +1,7 @@
-use Rattle.std.proofs.Common.{ap, length}
-use Rattle.std.proofs.lemmas.Result.{err_from_is_err_and}
+use Rattle.std.proofs.{Common.{ap, length}, lemmas.Result.{err_from_is_err_and}}
 use Rattle.dimacs_claims.specs.LabelTexts.{FitText}
 use Rattle.dimacs_claims.proofs.LabelLaws.{labels_round_trip}
-use Rattle.dimacs_runs.proofs.LabelCounts.{labels_fit}
-use Rattle.dimacs_runs.proofs.CertifyingLemmas.{distances_error, labels_certify}
+use Rattle.dimacs_runs.proofs.{LabelCounts.{labels_fit}, CertifyingLemmas.{distances_error, labels_certify}}
 use Rattle.dimacs_runs.proofs.certify_distances.answer_blocks.Goals as goal
 
 pub returns-clause-certifies : goal.returns-clause-certifies

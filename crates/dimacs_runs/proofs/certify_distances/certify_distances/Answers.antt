@@ -1,13 +1,10 @@
 use Rattle.dimacs_records.specs.declared.kinds.TextKind.TheVariants as kinds
 use Rattle.dimacs_claims.specs.DistanceTexts.{GivesDistances}
 use Rattle.dimacs_instance.specs.Graph.{GivesGraph}
-use Rattle.dimacs_runs.specs.Certified.{CertifiesDistances}
-use Rattle.dimacs_runs.specs.inside.Outcomes.{outcome_of}
-use Rattle.dimacs_runs.proofs.LabelCounts.{distances_fit}
-use Rattle.dimacs_runs.proofs.SolvingLemmas.{counts_none}
+use Rattle.dimacs_runs.specs.{Certified.{CertifiesDistances}, inside.Outcomes.{outcome_of}, inside.Judgings.{text_of}}
+use Rattle.dimacs_runs.proofs.{LabelCounts.{distances_fit}, SolvingLemmas.{counts_none}}
 use Rattle.dimacs_runs.proofs.TextLemmas.{certifying, two_end, two_stop}
 use Rattle.dimacs_runs.proofs.certify_distances.certify_distances.Goals as goal
-use Rattle.dimacs_runs.specs.inside.Judgings.{text_of}
 
 -- the texts were read, and the claim was answered
 pub returns-clause-certifies : goal.returns-clause-certifies

@@ -1,10 +1,8 @@
 use Rattle.dimacs_records.specs.declared.kinds.TextKind.TheVariants as kinds
 use Rattle.dimacs_instance.specs.MinTexts.{GivesMin}
-use Rattle.dimacs_runs.specs.Certified.{CertifiesInfeasible}
-use Rattle.dimacs_runs.specs.inside.Outcomes.{outcome_of}
+use Rattle.dimacs_runs.specs.{Certified.{CertifiesInfeasible}, inside.Outcomes.{outcome_of}, inside.Judgings.{text_of}}
 use Rattle.dimacs_runs.proofs.TextLemmas.{certifying, stop_ends, value_ends}
 use Rattle.dimacs_runs.proofs.certify_infeasible.certify_infeasible.Goals as goal
-use Rattle.dimacs_runs.specs.inside.Judgings.{text_of}
 
 -- the instance was read, and the question was answered
 pub returns-clause-certifies : goal.returns-clause-certifies

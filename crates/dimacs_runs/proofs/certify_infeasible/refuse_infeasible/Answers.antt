@@ -3,8 +3,8 @@ use Rattle.dimacs_claims.specs.SolutionTexts.{claimed}
 use Rattle.dimacs_decide.specs.Entries.{IsMinSolutionOf}
 use Rattle.dimacs_judging.specs.FlowTests.{LeavesCostRange}
 use Rattle.dimacs_runs.proofs.CertifyingLemmas.{feasible_certifies, no_solution_feasible}
-use Rattle.dimacs_runs.proofs.certify_infeasible.refuse_infeasible.Goals as goal
 use Rattle.dimacs_runs.proofs.certify_infeasible.refuse_infeasible.Goals.{in-Some, in-None}
+use Rattle.dimacs_runs.proofs.certify_infeasible.refuse_infeasible.Goals as goal
 
 pub returns-clause-certifies : goal.returns-clause-certifies
 returns-clause-certifies g c =

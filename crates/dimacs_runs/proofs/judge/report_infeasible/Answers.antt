@@ -1,15 +1,12 @@
 use Rattle.std.proofs.Common.{ap}
-use Rattle.dimacs_records.specs.declared.kinds.TextKind.TheVariants as kinds
 use Rattle.dimacs_claims.specs.Cuts.{GivesCut}
 use Rattle.dimacs_instance.specs.MinTexts.{GivesMin}
-use Rattle.dimacs_judging.specs.InfeasibleJudge.{ShowsNoFlow, infeasible_rows}
-use Rattle.dimacs_judging.specs.Optimum.{NoFlow}
-use Rattle.dimacs_runs.specs.Judgings.{VerdictOr}
-use Rattle.dimacs_runs.specs.Verdicts.{infeasible_line, verdict_lines}
-use Rattle.dimacs_runs.proofs.JudgingLemmas.{answer_alone}
-use Rattle.dimacs_runs.proofs.TextLemmas.{reporting_way, two_end, two_stop}
-use Rattle.dimacs_runs.proofs.judge.report_infeasible.Goals as goal
+use Rattle.dimacs_judging.specs.{InfeasibleJudge.{ShowsNoFlow, infeasible_rows}, Optimum.{NoFlow}}
+use Rattle.dimacs_runs.specs.{Judgings.{VerdictOr}, Verdicts.{infeasible_line, verdict_lines}}
 use Rattle.dimacs_runs.specs.inside.Judgings.{text_of}
+use Rattle.dimacs_runs.proofs.{JudgingLemmas.{answer_alone}, TextLemmas.{reporting_way, two_end, two_stop}}
+use Rattle.dimacs_records.specs.declared.kinds.TextKind.TheVariants as kinds
+use Rattle.dimacs_runs.proofs.judge.report_infeasible.Goals as goal
 
 -- the texts were read, and the judge answered
 pub returns-clause-reports : goal.returns-clause-reports

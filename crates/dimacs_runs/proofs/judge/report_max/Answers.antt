@@ -1,17 +1,12 @@
 use Rattle.std.proofs.Common.{ap, inl, inr}
-use Rattle.dimacs_records.specs.declared.kinds.TextKind.TheVariants as kinds
-use Rattle.dimacs_claims.specs.Cuts.{GivesCut}
-use Rattle.dimacs_claims.specs.SolutionTexts.{GivesSolution}
+use Rattle.dimacs_claims.specs.{Cuts.{GivesCut}, SolutionTexts.{GivesSolution}}
 use Rattle.dimacs_instance.specs.MaxTexts.{GivesMax}
-use Rattle.dimacs_judging.specs.Claims.{claimed_flow}
-use Rattle.dimacs_judging.specs.MaxJudge.{ShowsMaximum, max_rows}
-use Rattle.dimacs_judging.specs.Optimum.{Maximum}
-use Rattle.dimacs_runs.specs.Judgings.{VerdictOr}
-use Rattle.dimacs_runs.specs.Verdicts.{max_line, verdict_lines}
+use Rattle.dimacs_judging.specs.{Claims.{claimed_flow}, MaxJudge.{ShowsMaximum, max_rows}, Optimum.{Maximum}}
+use Rattle.dimacs_runs.specs.{Judgings.{VerdictOr}, Verdicts.{max_line, verdict_lines}, inside.Judgings.{text_of}}
 use Rattle.dimacs_runs.proofs.JudgingLemmas.{answer_alone, judge_outcome_counts, maximum_shown}
 use Rattle.dimacs_runs.proofs.TextLemmas.{reporting_way, three_end, three_stop}
+use Rattle.dimacs_records.specs.declared.kinds.TextKind.TheVariants as kinds
 use Rattle.dimacs_runs.proofs.judge.report_max.Goals as goal
-use Rattle.dimacs_runs.specs.inside.Judgings.{text_of}
 
 -- the texts were read, and the judge answered
 pub returns-clause-reports : goal.returns-clause-reports

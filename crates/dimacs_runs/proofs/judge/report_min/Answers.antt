@@ -1,17 +1,12 @@
 use Rattle.std.proofs.Common.{ap, inl, inr}
-use Rattle.dimacs_records.specs.declared.kinds.TextKind.TheVariants as kinds
-use Rattle.dimacs_claims.specs.Potentials.{GivesPotentials}
-use Rattle.dimacs_claims.specs.SolutionTexts.{GivesSolution}
+use Rattle.dimacs_claims.specs.{Potentials.{GivesPotentials}, SolutionTexts.{GivesSolution}}
 use Rattle.dimacs_instance.specs.MinTexts.{GivesMin}
-use Rattle.dimacs_judging.specs.Claims.{claimed_flow}
-use Rattle.dimacs_judging.specs.MinJudge.{ShowsLeast, min_rows}
-use Rattle.dimacs_judging.specs.Optimum.{Least}
-use Rattle.dimacs_runs.specs.Judgings.{VerdictOr}
-use Rattle.dimacs_runs.specs.Verdicts.{min_line, verdict_lines}
+use Rattle.dimacs_judging.specs.{Claims.{claimed_flow}, MinJudge.{ShowsLeast, min_rows}, Optimum.{Least}}
+use Rattle.dimacs_runs.specs.{Judgings.{VerdictOr}, Verdicts.{min_line, verdict_lines}, inside.Judgings.{text_of}}
 use Rattle.dimacs_runs.proofs.JudgingLemmas.{answer_alone, judge_outcome_counts, least_shown}
 use Rattle.dimacs_runs.proofs.TextLemmas.{reporting_way, three_end, three_stop}
+use Rattle.dimacs_records.specs.declared.kinds.TextKind.TheVariants as kinds
 use Rattle.dimacs_runs.proofs.judge.report_min.Goals as goal
-use Rattle.dimacs_runs.specs.inside.Judgings.{text_of}
 
 -- the texts were read, and the judge answered
 pub returns-clause-reports : goal.returns-clause-reports

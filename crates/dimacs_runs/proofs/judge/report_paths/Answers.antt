@@ -1,15 +1,11 @@
 use Rattle.dimacs_records.specs.declared.kinds.TextKind.TheVariants as kinds
 use Rattle.dimacs_claims.specs.LabelTexts.{GivesLabels}
-use Rattle.dimacs_instance.specs.Graph.{GivesGraph}
-use Rattle.dimacs_instance.specs.QueryTexts.{GivesQueries, asked}
-use Rattle.dimacs_judging.specs.PathsJudge.{AnswersAreDistances, ShowsDistances, paths_rows}
-use Rattle.dimacs_runs.specs.Judged.{paths_lines}
-use Rattle.dimacs_judging.specs.Labels.{AreDistances}
-use Rattle.dimacs_runs.specs.Judgings.{VerdictOr}
+use Rattle.dimacs_instance.specs.{Graph.{GivesGraph}, QueryTexts.{GivesQueries, asked}}
+use Rattle.dimacs_judging.specs.{PathsJudge.{AnswersAreDistances, ShowsDistances, paths_rows}, Labels.{AreDistances}}
+use Rattle.dimacs_runs.specs.{Judged.{paths_lines}, Judgings.{VerdictOr}, inside.Judgings.{text_of}}
 use Rattle.dimacs_runs.proofs.JudgingLemmas.{answer_alone, paths_said}
 use Rattle.dimacs_runs.proofs.TextLemmas.{reporting_way, three_end, three_stop}
 use Rattle.dimacs_runs.proofs.judge.report_paths.Goals as goal
-use Rattle.dimacs_runs.specs.inside.Judgings.{text_of}
 
 -- the texts were read, and the judge answered
 pub returns-clause-reports : goal.returns-clause-reports

@@ -1,14 +1,12 @@
 use Rattle.std.proofs.Common.{◌≡◌, ◌∙◌, subst, sym, ap, refl, Option, Some, None}
-use Rattle.dimacs_records.specs.declared.kinds.TextKind.TheVariants as kinds
-use Rattle.dimacs_records.specs.declared.kinds.TextKind.{TextKind}
-use Rattle.dimacs_records.specs.Faults.{Fault}
+use Rattle.dimacs_records.specs.{declared.kinds.TextKind.{TextKind}, Faults.{Fault}}
 use Rattle.dimacs_lines.specs.Lines.{lines}
-use Rattle.dimacs_runs.specs.declared.jobs.JudgeKind.{JudgeKind}
-use Rattle.dimacs_runs.specs.declared.jobs.JudgeKind.TheVariants as judges
-use Rattle.dimacs_runs.specs.Judged.{IsClaim, Judged, claim_kind, instance_kind}
+use Rattle.dimacs_runs.specs.{declared.jobs.JudgeKind.{JudgeKind}, Judged.{IsClaim, Judged, claim_kind, instance_kind}}
 use Rattle.dimacs_runs.proofs.WritingLemmas.{report_written}
-use Rattle.dimacs_runs.proofs.judge.run_judge.Goals as goal
 use Rattle.dimacs_runs.proofs.judge.run_judge.Goals.{in-Max, in-Min, in-Infeasible, in-Paths}
+use Rattle.dimacs_records.specs.declared.kinds.TextKind.TheVariants as kinds
+use Rattle.dimacs_runs.specs.declared.jobs.JudgeKind.TheVariants as judges
+use Rattle.dimacs_runs.proofs.judge.run_judge.Goals as goal
 
 pub returns-clause-reports : goal.returns-clause-reports
 returns-clause-reports g c = λ a b d first second third.

@@ -1,10 +1,7 @@
 use Rattle.std.proofs.Common.{ℕ, ◌∙◌, List, [], ◌∷◌, ap, refl}
-use Rattle.dimacs_runs.specs.Commands.{Contents}
-use Rattle.dimacs_runs.specs.Files.{Read, ReadFile}
-use Rattle.dimacs_runs.specs.inside.Making.{made_for}
+use Rattle.dimacs_runs.specs.{Commands.{Contents}, Files.{Read, ReadFile}, inside.Making.{made_for}}
 use Rattle.dimacs_runs.specs.inside.Outcomes.{IfEnds, unclaimed_texts}
-use Rattle.dimacs_runs.proofs.FileLemmas.{sees_two, two_first}
-use Rattle.dimacs_runs.proofs.MakingLemmas.{answers_files, answers_nothing}
+use Rattle.dimacs_runs.proofs.{FileLemmas.{sees_two, two_first}, MakingLemmas.{answers_files, answers_nothing}}
 use Rattle.dimacs_runs.proofs.PlanLemmas.{each_text, sees_nothing}
 use Rattle.dimacs_runs.proofs.runs_that_make.answer_claim.Goals as goal
 

@@ -1,11 +1,9 @@
 use Rattle.std.proofs.Common.{ℕ, ◌∙◌, List, [], ◌∷◌, refl}
-use Rattle.dimacs_runs.specs.declared.jobs.JudgeKind.TheVariants as judges
-use Rattle.dimacs_runs.specs.Commands.{MakesCertificate}
-use Rattle.dimacs_runs.specs.Files.{Read, ReadFile}
+use Rattle.dimacs_runs.specs.{Commands.{MakesCertificate}, Files.{Read, ReadFile}}
 use Rattle.dimacs_runs.specs.inside.Outcomes.{IfEnds, outcome_of, unclaimed_texts}
-use Rattle.dimacs_runs.proofs.FileLemmas.{one_first}
-use Rattle.dimacs_runs.proofs.MakingLemmas.{answers_files, answers_nothing}
+use Rattle.dimacs_runs.proofs.{FileLemmas.{one_first}, MakingLemmas.{answers_files, answers_nothing}}
 use Rattle.dimacs_runs.proofs.PlanLemmas.{each_text, sees_nothing}
+use Rattle.dimacs_runs.specs.declared.jobs.JudgeKind.TheVariants as judges
 use Rattle.dimacs_runs.proofs.runs_that_make.answer_instance.Goals as goal
 
 pub returns-in_err-instance : goal.returns-in_err-instance

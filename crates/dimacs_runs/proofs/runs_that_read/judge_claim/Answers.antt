@@ -1,8 +1,6 @@
 use Rattle.std.proofs.Common.{ℕ, ◌∙◌, List, [], ◌∷◌, ap, refl}
 use Rattle.dimacs_lines.specs.Devices.{Written}
-use Rattle.dimacs_runs.specs.Commands.{Contents, ReportsJudged}
-use Rattle.dimacs_runs.specs.Files.{Read, ReadFile}
-use Rattle.dimacs_runs.specs.Judged.{Judged}
+use Rattle.dimacs_runs.specs.{Commands.{Contents, ReportsJudged}, Files.{Read, ReadFile}, Judged.{Judged}}
 use Rattle.dimacs_runs.specs.inside.Commands.{named}
 use Rattle.dimacs_runs.proofs.FileLemmas.{sees_three, sees_two, three_first}
 use Rattle.dimacs_runs.proofs.PlanLemmas.{each_text, is_claim, judged_reports, one_of_three, reports_named, sees_nothing, stops_opening, uses_files}

@@ -1,12 +1,10 @@
 use Rattle.std.proofs.Common.{ℕ, ◌∙◌, List, [], ◌∷◌, ap, inl, inr, refl}
 use Rattle.dimacs_lines.specs.Devices.{Written}
-use Rattle.dimacs_runs.specs.declared.jobs.JudgeKind.TheVariants as judges
-use Rattle.dimacs_runs.specs.Commands.{Contents, ReportsJudged}
-use Rattle.dimacs_runs.specs.Files.{Read, ReadFile}
-use Rattle.dimacs_runs.specs.Judged.{Judged}
+use Rattle.dimacs_runs.specs.{Commands.{Contents, ReportsJudged}, Files.{Read, ReadFile}, Judged.{Judged}}
 use Rattle.dimacs_runs.specs.inside.Commands.{named}
 use Rattle.dimacs_runs.proofs.FileLemmas.{sees_two, two_first}
 use Rattle.dimacs_runs.proofs.PlanLemmas.{each_text, one_of, reports_named, sees_nothing, stops_opening, uses_files, without_second}
+use Rattle.dimacs_runs.specs.declared.jobs.JudgeKind.TheVariants as judges
 use Rattle.dimacs_runs.proofs.runs_that_read.judge_set.Goals as goal
 
 pub returns-in_err-instance : goal.returns-in_err-instance

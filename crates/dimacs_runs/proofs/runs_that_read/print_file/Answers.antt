@@ -1,9 +1,6 @@
 use Rattle.std.proofs.Common.{ℕ, ◌∙◌, List, [], ◌∷◌, ap, refl}
 use Rattle.dimacs_lines.specs.Devices.{Written}
-use Rattle.dimacs_runs.specs.Commands.{ReportsOne}
-use Rattle.dimacs_runs.specs.Files.{closed_read}
-use Rattle.dimacs_runs.specs.Runs.{Prints}
-use Rattle.dimacs_runs.specs.inside.Commands.{named}
+use Rattle.dimacs_runs.specs.{Commands.{ReportsOne}, Files.{closed_read}, Runs.{Prints}, inside.Commands.{named}}
 use Rattle.dimacs_runs.proofs.FileLemmas.{one_first}
 use Rattle.dimacs_runs.proofs.PlanLemmas.{each_text, one_of, reports_named, sees_nothing, stops_opening, uses_files}
 use Rattle.dimacs_runs.proofs.runs_that_read.print_file.Goals as goal

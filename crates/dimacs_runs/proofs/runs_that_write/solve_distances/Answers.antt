@@ -1,12 +1,9 @@
 use Rattle.std.proofs.Common.{ℕ, ◌∙◌, List, [], ◌∷◌, None, ap, refl}
-use Rattle.dimacs_runs.specs.declared.jobs.SolveJob.TheVariants as solves
-use Rattle.dimacs_runs.specs.Commands.{Contents, WritesSolved}
-use Rattle.dimacs_runs.specs.Files.{Read, ReadFile, WrittenFile, Wrote}
-use Rattle.dimacs_runs.specs.Outputs.{MayWrite}
-use Rattle.dimacs_runs.specs.Solved.{Solved}
-use Rattle.dimacs_runs.specs.inside.Commands.{named}
+use Rattle.dimacs_runs.specs.{Commands.{Contents, WritesSolved}, Files.{Read, ReadFile, WrittenFile, Wrote}}
+use Rattle.dimacs_runs.specs.{Outputs.{MayWrite}, Solved.{Solved}, inside.Commands.{named}}
 use Rattle.dimacs_runs.proofs.FileLemmas.{sees_three, sees_two, three_first}
 use Rattle.dimacs_runs.proofs.PlanLemmas.{each_text, one_of_two, reports_all_named, sees_nothing, stops_creating, stops_opening, uses_files, without_third}
+use Rattle.dimacs_runs.specs.declared.jobs.SolveJob.TheVariants as solves
 use Rattle.dimacs_runs.proofs.runs_that_write.solve_distances.Goals as goal
 
 pub returns-in_err-graph : goal.returns-in_err-graph

@@ -1,9 +1,6 @@
 use Rattle.std.proofs.Common.{ℕ, ◌∙◌, List, [], ◌∷◌, inl, refl}
-use Rattle.dimacs_runs.specs.Commands.{WritesSolved}
-use Rattle.dimacs_runs.specs.Files.{Read, ReadFile, WrittenFile, Wrote}
-use Rattle.dimacs_runs.specs.Outputs.{MayWrite}
-use Rattle.dimacs_runs.specs.Solved.{Solved}
-use Rattle.dimacs_runs.specs.inside.Commands.{named}
+use Rattle.dimacs_runs.specs.{Commands.{WritesSolved}, Files.{Read, ReadFile, WrittenFile, Wrote}, Outputs.{MayWrite}}
+use Rattle.dimacs_runs.specs.{Solved.{Solved}, inside.Commands.{named}}
 use Rattle.dimacs_runs.proofs.FileLemmas.{sees_three, sees_two, three_first}
 use Rattle.dimacs_runs.proofs.PlanLemmas.{each_text, flow_asks_nothing, flow_writes, one_of, reports_all_named, sees_nothing, stops_creating, stops_opening, uses_files, without_second}
 use Rattle.dimacs_runs.proofs.runs_that_write.solve_flow.Goals as goal

@@ -1,12 +1,8 @@
 use Rattle.dimacs_records.specs.declared.kinds.TextKind.TheVariants as kinds
-use Rattle.dimacs_instance.specs.Graph.{GivesGraph}
-use Rattle.dimacs_instance.specs.QueryTexts.{GivesQueries, asked}
-use Rattle.dimacs_runs.specs.Solved.{FindsPaths}
-use Rattle.dimacs_runs.specs.inside.Outcomes.{outcome_of}
-use Rattle.dimacs_runs.proofs.SolvingLemmas.{counts_none}
-use Rattle.dimacs_runs.proofs.TextLemmas.{solving, two_end, two_stop}
+use Rattle.dimacs_instance.specs.{Graph.{GivesGraph}, QueryTexts.{GivesQueries, asked}}
+use Rattle.dimacs_runs.specs.{Solved.{FindsPaths}, inside.Outcomes.{outcome_of}, inside.Judgings.{text_of}}
+use Rattle.dimacs_runs.proofs.{SolvingLemmas.{counts_none}, TextLemmas.{solving, two_end, two_stop}}
 use Rattle.dimacs_runs.proofs.solve.solve_labels.Goals as goal
-use Rattle.dimacs_runs.specs.inside.Judgings.{text_of}
 
 -- the texts were read, and the solver answered
 pub returns-clause-solves : goal.returns-clause-solves

@@ -1,10 +1,8 @@
 use Rattle.dimacs_records.specs.declared.kinds.TextKind.TheVariants as kinds
 use Rattle.dimacs_instance.specs.MinTexts.{GivesMin}
-use Rattle.dimacs_runs.specs.Solved.{FindsLeast}
-use Rattle.dimacs_runs.proofs.SolvingLemmas.{least_ends}
-use Rattle.dimacs_runs.proofs.TextLemmas.{solving, stop_ends, value_ends}
+use Rattle.dimacs_runs.specs.{Solved.{FindsLeast}, inside.Judgings.{text_of}}
+use Rattle.dimacs_runs.proofs.{SolvingLemmas.{least_ends}, TextLemmas.{solving, stop_ends, value_ends}}
 use Rattle.dimacs_runs.proofs.solve.solve_least.Goals as goal
-use Rattle.dimacs_runs.specs.inside.Judgings.{text_of}
 
 -- the instance was read, and the solver answered
 pub returns-clause-solves : goal.returns-clause-solves

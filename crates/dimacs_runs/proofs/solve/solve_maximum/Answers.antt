@@ -1,10 +1,8 @@
 use Rattle.dimacs_records.specs.declared.kinds.TextKind.TheVariants as kinds
 use Rattle.dimacs_instance.specs.MaxTexts.{GivesMax}
-use Rattle.dimacs_runs.specs.Solved.{FindsMaximum}
-use Rattle.dimacs_runs.proofs.SolvingLemmas.{maximum_ends}
-use Rattle.dimacs_runs.proofs.TextLemmas.{solving, stop_ends, value_ends}
+use Rattle.dimacs_runs.specs.{Solved.{FindsMaximum}, inside.Judgings.{text_of}}
+use Rattle.dimacs_runs.proofs.{SolvingLemmas.{maximum_ends}, TextLemmas.{solving, stop_ends, value_ends}}
 use Rattle.dimacs_runs.proofs.solve.solve_maximum.Goals as goal
-use Rattle.dimacs_runs.specs.inside.Judgings.{text_of}
 
 -- the instance was read, and the solver answered
 pub returns-clause-solves : goal.returns-clause-solves

@@ -1,7 +1,6 @@
-use Rattle.std.proofs.Common.{List, Ok, SFits, refl, rules}
-use Rattle.std.specs.Int.{w128}
-use Rattle.std.proofs.lemmas.Int.{to_z-of_z}
+use Rattle.std.proofs.{Common.{List, Ok, SFits, refl, rules}, lemmas.Int.{to_z-of_z}}
 use Rattle.std.proofs.lemmas.Result.{err_from_is_err_and}
+use Rattle.std.specs.Int.{w128}
 use Rattle.dimacs_claims.specs.SolutionTexts.{SolutionValue}
 use Rattle.dimacs_runs.specs.inside.Outcomes.{DealsOut}
 use Rattle.dimacs_runs.proofs.SpreadLemmas.{refusal_spreads, solution_alike}

@@ -1,6 +1,5 @@
 use Rattle.std.proofs.Common.{[], ◌∷◌}
-use Rattle.dimacs_runs.specs.Outputs.{WritesAlike}
-use Rattle.dimacs_runs.specs.Spread.{Spreads}
+use Rattle.dimacs_runs.specs.{Outputs.{WritesAlike}, Spread.{Spreads}}
 use Rattle.dimacs_runs.proofs.WritingLemmas.{unclaimed_written}
 use Rattle.dimacs_runs.proofs.spread.run_spread.Goals as goal
 

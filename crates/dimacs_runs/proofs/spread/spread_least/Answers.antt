@@ -1,17 +1,13 @@
-use Rattle.std.proofs.Common.{SFits, rules}
+use Rattle.std.proofs.{Common.{SFits, rules}, lemmas.Int.{to_z-of_z}}
 use Rattle.std.specs.Int.{w128}
-use Rattle.std.proofs.lemmas.Int.{to_z-of_z}
-use Rattle.dimacs_records.specs.declared.kinds.TextKind.TheVariants as kinds
 use Rattle.dimacs_claims.specs.SolutionTexts.{GivesSolution, claimed}
 use Rattle.dimacs_instance.specs.MinTexts.{GivesMin}
-use Rattle.dimacs_runs.specs.declared.jobs.SpreadKind.TheVariants.{Min}
-use Rattle.dimacs_runs.specs.Spread.{SpreadsClaim}
-use Rattle.dimacs_runs.specs.inside.Outcomes.{outcome_of}
-use Rattle.dimacs_runs.proofs.SpreadLemmas.{min_deals}
-use Rattle.dimacs_runs.proofs.SolvingLemmas.{counts_none}
+use Rattle.dimacs_runs.specs.{declared.jobs.SpreadKind.TheVariants.{Min}, Spread.{SpreadsClaim}}
+use Rattle.dimacs_runs.specs.{inside.Outcomes.{outcome_of}, inside.Judgings.{text_of}}
+use Rattle.dimacs_runs.proofs.{SpreadLemmas.{min_deals}, SolvingLemmas.{counts_none}}
 use Rattle.dimacs_runs.proofs.TextLemmas.{certifying, two_end, two_stop}
+use Rattle.dimacs_records.specs.declared.kinds.TextKind.TheVariants as kinds
 use Rattle.dimacs_runs.proofs.spread.spread_least.Goals as goal
-use Rattle.dimacs_runs.specs.inside.Judgings.{text_of}
 
 -- the texts were read, and the claim was dealt out
 pub returns-clause-spreads : goal.returns-clause-spreads

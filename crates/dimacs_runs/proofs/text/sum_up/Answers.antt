@@ -1,10 +1,7 @@
-use Rattle.std.proofs.Common.{Err, inr}
-use Rattle.std.proofs.lemmas.Result.{err_from_is_err_and}
-use Rattle.dimacs_runs.specs.declared.status.Status.TheVariants.{Done}
-use Rattle.dimacs_runs.specs.Runs.{IsPrinted}
+use Rattle.std.proofs.{Common.{Err, inr}, lemmas.Result.{err_from_is_err_and}}
+use Rattle.dimacs_runs.specs.{declared.status.Status.TheVariants.{Done}, Runs.{IsPrinted}}
 use Rattle.dimacs_runs.specs.inside.Judgings.{FaultIn, text_spells}
-use Rattle.dimacs_runs.proofs.WritingLemmas.{report_written}
-use Rattle.dimacs_runs.proofs.ReportLemmas.{unread_printed, value_printed}
+use Rattle.dimacs_runs.proofs.{WritingLemmas.{report_written}, ReportLemmas.{unread_printed, value_printed}}
 use Rattle.dimacs_runs.proofs.text.sum_up.Goals as goal
 
 pub returns-in_ok-show-in-Ok-clause-reports : goal.returns-in_ok-show-in-Ok-clause-reports

@@ -1,10 +1,9 @@
 use Rattle.std.proofs.Common.{refl}
-use Rattle.dimacs_records.specs.declared.kinds.TextKind.TheVariants as kinds
-use Rattle.dimacs_claims.specs.SolutionReading.{IsPlaced}
-use Rattle.dimacs_claims.specs.SolutionTexts.{GivesSolution}
+use Rattle.dimacs_claims.specs.{SolutionReading.{IsPlaced}, SolutionTexts.{GivesSolution}}
 use Rattle.dimacs_runs.proofs.JudgingLemmas.{none_placed, one_placed}
-use Rattle.dimacs_runs.proofs.texts_in_turn.place_solution.Goals as goal
 use Rattle.dimacs_runs.specs.inside.Judgings.{text_of}
+use Rattle.dimacs_records.specs.declared.kinds.TextKind.TheVariants as kinds
+use Rattle.dimacs_runs.proofs.texts_in_turn.place_solution.Goals as goal
 
 pub returns-in-Ok-clause-reads : goal.returns-in-Ok-clause-reads
 returns-in-Ok-clause-reads g c = λ a coming.

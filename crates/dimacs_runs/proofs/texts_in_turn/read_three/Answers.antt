@@ -1,5 +1,4 @@
-use Rattle.std.proofs.Common.{inl, inr}
-use Rattle.std.proofs.lemmas.Result.{err_from_is_err_and}
+use Rattle.std.proofs.{Common.{inl, inr}, lemmas.Result.{err_from_is_err_and}}
 use Rattle.dimacs_runs.proofs.texts_in_turn.read_three.Goals as goal
 
 pub returns-in_err-other-clause-reads : goal.returns-in_err-other-clause-reads

@@ -1,5 +1,4 @@
-use Rattle.std.proofs.Common.{inr}
-use Rattle.std.proofs.lemmas.Result.{err_from_is_err_and}
+use Rattle.std.proofs.{Common.{inr}, lemmas.Result.{err_from_is_err_and}}
 use Rattle.dimacs_runs.proofs.texts_in_turn.read_two.Goals as goal
 
 pub returns-in_err-other-clause-reads : goal.returns-in_err-other-clause-reads

@@ -1,5 +1,4 @@
-use Rattle.std.proofs.Common.{rules, w64, SFits}
-use Rattle.std.proofs.lemmas.Int.{to_z-of_z}
+use Rattle.std.proofs.{Common.{rules, w64, SFits}, lemmas.Int.{to_z-of_z}}
 use Rattle.dimacs_runs.proofs.verdict.write_answer.Goals as goal
 
 pub returns-in-None-beyond : goal.returns-in-None-beyond

@@ -1,12 +1,8 @@
 use Rattle.std.proofs.Common.{rules, SFits, w64, ◌≡◌, ℕ, ◌+◌, ◌<◌, ◌≤◌, ◌++◌, ◌∷◌, [], ◌∙◌, inl, inr, sym, ap, arith}
-use Rattle.std.proofs.lemmas.Bool.{cases_lt}
-use Rattle.std.proofs.lemmas.Int.{to_z-of_z}
+use Rattle.std.proofs.{lemmas.Bool.{cases_lt}, lemmas.Int.{to_z-of_z}, lemmas.Option.{get_or_from_slice_get}}
 use Rattle.std.proofs.lemmas.List.{get_or_append_left, get_or_push, length_push}
-use Rattle.std.proofs.lemmas.Option.{get_or_from_slice_get}
-use Rattle.dimacs_network.specs.declared.network.ArcView.{ArcView}
-use Rattle.dimacs_network.specs.Arcs.{arc_at, no_arc}
-use Rattle.dimacs_solve.specs.declared.arcs_by_cost.ArcOfCost.{ArcOfCost}
-use Rattle.dimacs_solve.specs.inside.ArcsByCost.{no_place, place_at}
+use Rattle.dimacs_network.specs.{declared.network.ArcView.{ArcView}, Arcs.{arc_at, no_arc}}
+use Rattle.dimacs_solve.specs.{declared.arcs_by_cost.ArcOfCost.{ArcOfCost}, inside.ArcsByCost.{no_place, place_at}}
 use Rattle.dimacs_solve.proofs.arcs_by_cost.arcs_with_costs.Goals as goal
 
 pub loop-arc-preserved : goal.loop-arc-preserved

@@ -1,5 +1,4 @@
-use Rattle.std.proofs.Common.{arith}
-use Rattle.std.proofs.lemmas.Slice.Zip.{AllZip-long}
+use Rattle.std.proofs.{Common.{arith}, lemmas.Slice.Zip.{AllZip-long}}
 use Rattle.dimacs_solve.proofs.improve.raise.Goals as goal
 
 pub is_better-requires : goal.is_better-requires

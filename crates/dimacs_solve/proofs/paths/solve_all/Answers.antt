@@ -1,10 +1,7 @@
 use Rattle.std.proofs.Common.{◌≡◌, ◌+◌, ◌<◌, ◌++◌, ◌∷◌, [], length, get_or, take, arith, sym, ap, ◌∙◌, true, false}
-use Rattle.std.proofs.lemmas.List.{take_more, length-append}
-use Rattle.std.proofs.lemmas.List.Elements.{All-get_or}
+use Rattle.std.proofs.{lemmas.List.{take_more, length-append}, lemmas.List.Elements.{All-get_or}}
 use Rattle.std.proofs.lemmas.Option.{get_or_from_slice_get}
-use Rattle.std.specs.FinSet.{contains-empty}
-use Rattle.std.specs.List.{list_any}
-use Rattle.std.specs.Ordering.{nat_cmp}
+use Rattle.std.specs.{FinSet.{contains-empty}, List.{list_any}, Ordering.{nat_cmp}}
 use Rattle.dimacs_lines.specs.Limits.{IsNode}
 use Rattle.dimacs_instance.specs.QueryTexts.{asked}
 use Rattle.dimacs_claims.specs.Labels.{LabelsValue, has_source}

@@ -1,10 +1,7 @@
 use Rattle.std.proofs.Common.{◌≤◌, All}
 use Rattle.dimacs_instance.specs.QueryTexts.{asked}
-use Rattle.dimacs_judging.specs.QueryTests.{nodes_asked, query_node_row, sources_asked}
-use Rattle.dimacs_judging.specs.Tests.{Clear}
-use Rattle.dimacs_solve.specs.inside.Adjacency.{IsAdjacencyOf}
-use Rattle.dimacs_solve.specs.inside.Blocks.{AreSolved}
-use Rattle.dimacs_solve.specs.Paths.{HasNoNegativeWeight}
+use Rattle.dimacs_judging.specs.{QueryTests.{nodes_asked, query_node_row, sources_asked}, Tests.{Clear}}
+use Rattle.dimacs_solve.specs.{inside.Adjacency.{IsAdjacencyOf}, inside.Blocks.{AreSolved}, Paths.{HasNoNegativeWeight}}
 use Rattle.dimacs_solve.proofs.BlocksLemmas.{produced, sources_are_nodes}
 use Rattle.dimacs_solve.proofs.paths.solve_paths.Goals.{then-farthest-from+in_ok-labels, else-farthest-from+in_ok-labels-2}
 use Rattle.dimacs_solve.proofs.paths.solve_paths.Goals as goal

@@ -1,7 +1,6 @@
 use Rattle.std.proofs.Common.{List}
 use Rattle.dimacs_claims.specs.declared.solution.Entry.{Entry}
-use Rattle.dimacs_solve.specs.inside.Raised.{AreDealtUpTo}
-use Rattle.dimacs_solve.specs.inside.Rests.{AddUp}
+use Rattle.dimacs_solve.specs.{inside.Raised.{AreDealtUpTo}, inside.Rests.{AddUp}}
 use Rattle.dimacs_solve.proofs.raise.raise_all.Given as goal
 
 -- the arcs so far are raised

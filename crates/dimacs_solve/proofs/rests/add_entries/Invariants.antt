@@ -1,7 +1,6 @@
 use Rattle.std.proofs.Common.{◌+◌, List, [], length, take, ℤ}
 use Rattle.dimacs_judging.specs.Tests.{ClearBelow}
-use Rattle.dimacs_solve.specs.Spread.{unknown_row}
-use Rattle.dimacs_solve.specs.inside.Rests.{AddUp, AreRests}
+use Rattle.dimacs_solve.specs.{Spread.{unknown_row}, inside.Rests.{AddUp, AreRests}}
 use Rattle.dimacs_solve.proofs.rests.add_entries.Given as goal
 
 -- the entries so far have arcs, and are added to the rests

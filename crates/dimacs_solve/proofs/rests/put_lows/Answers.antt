@@ -1,9 +1,7 @@
 use Rattle.std.proofs.Common.{rules, ◌≡◌, ◌<◌, [], length, get_or, pos, ◌-ℤ◌, SFits, w64, sym, ap, ◌∙◌, arith}
+use Rattle.std.proofs.{lemmas.Int.{ints, to_z-of_z}, lemmas.Option.{get_or_from_slice_get}}
 use Rattle.std.specs.Int.{w128}
-use Rattle.std.proofs.lemmas.Int.{ints, to_z-of_z}
-use Rattle.std.proofs.lemmas.Option.{get_or_from_slice_get}
-use Rattle.dimacs_network.specs.declared.network.ArcView.{ArcView}
-use Rattle.dimacs_network.specs.Arcs.{arc_at, no_arc}
+use Rattle.dimacs_network.specs.{declared.network.ArcView.{ArcView}, Arcs.{arc_at, no_arc}}
 use Rattle.dimacs_solve.proofs.EndLemmas.{first_itself}
 use Rattle.dimacs_solve.proofs.RestLemmas.{fits_less, lows_more, lows_none, rests_changed, rests_zero, sums_moved, sums_none}
 use Rattle.dimacs_solve.proofs.rests.put_lows.Goals as goal

@@ -1,8 +1,7 @@
 use Rattle.std.proofs.Common.{rules, ◌≡◌, ◌<◌, inl, inr, length, get_or, pos, ◌+ℤ◌, SFits, w64, refl, ◌∙◌, arith, below_more}
-use Rattle.std.specs.Int.{w128}
-use Rattle.std.proofs.lemmas.Int.{ints, to_z-of_z}
-use Rattle.std.proofs.lemmas.Bool.{cases_eq, cases_lt}
+use Rattle.std.proofs.{lemmas.Int.{ints, to_z-of_z}, lemmas.Bool.{cases_eq, cases_lt}}
 use Rattle.std.proofs.lemmas.List.{get_or_past, get_or-set_other, get_or-set_same}
+use Rattle.std.specs.Int.{w128}
 use Rattle.dimacs_records.specs.Ranges.{IsWhole}
 use Rattle.dimacs_judging.specs.Rows.{amount_at}
 use Rattle.dimacs_solve.specs.inside.Rests.{RestFails, rest_row}

@@ -1,6 +1,5 @@
 use Rattle.std.proofs.Common.{◌≡◌, ℕ, ◌<◌, ◌≤◌, ◌+ℤ◌}
-use Rattle.dimacs_judging.specs.Rows.{amount_at}
-use Rattle.dimacs_judging.specs.Tests.{ClearBelow}
+use Rattle.dimacs_judging.specs.{Rows.{amount_at}, Tests.{ClearBelow}}
 use Rattle.dimacs_solve.specs.inside.Rests.{rest_row}
 use Rattle.dimacs_solve.proofs.rests.put_rests.Given as goal
 

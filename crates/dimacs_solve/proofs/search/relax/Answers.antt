@@ -1,6 +1,5 @@
 use Rattle.std.proofs.Common.{◌≡◌, ◌∙◌, length, arith, refl}
-use Rattle.dimacs_solve.specs.declared.adjacency.WeightedArc.{WeightedArc}
-use Rattle.dimacs_solve.specs.inside.NodeStates.{known}
+use Rattle.dimacs_solve.specs.{declared.adjacency.WeightedArc.{WeightedArc}, inside.NodeStates.{known}}
 use Rattle.dimacs_solve.proofs.SearchLemmas.{out_arc_at, out_arc_within, relaxing_all, relaxing_more, relaxing_none}
 use Rattle.dimacs_solve.proofs.search.relax.Goals as goal
 

@@ -1,8 +1,6 @@
-use Rattle.std.proofs.Common.{◌∙◌, [], None, ap, arith}
-use Rattle.std.proofs.lemmas.List.Sorted.{IsPermutation-sym, length_permutation}
+use Rattle.std.proofs.{Common.{◌∙◌, [], None, ap, arith}, lemmas.List.Sorted.{IsPermutation-sym, length_permutation}}
 use Rattle.dimacs_claims.specs.Labels.{BlockValue, IsBlock}
-use Rattle.dimacs_solve.specs.inside.NodeStates.{Sets, known, settled}
-use Rattle.dimacs_solve.specs.inside.Search.{IsPathSearch, Relaxes}
+use Rattle.dimacs_solve.specs.{inside.NodeStates.{Sets, known, settled}, inside.Search.{IsPathSearch, Relaxes}}
 use Rattle.dimacs_solve.proofs.SearchLemmas.{over_tree, start_ready, start_search}
 use Rattle.dimacs_solve.proofs.search.search.Goals as goal
 

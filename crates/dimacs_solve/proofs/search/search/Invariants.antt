@@ -1,6 +1,5 @@
 use Rattle.std.proofs.Common.{◌≡◌, ◌+◌}
-use Rattle.dimacs_solve.specs.inside.NodeStates.{known}
-use Rattle.dimacs_solve.specs.inside.Search.{IsPathSearch, work}
+use Rattle.dimacs_solve.specs.{inside.NodeStates.{known}, inside.Search.{IsPathSearch, work}}
 use Rattle.dimacs_solve.proofs.search.search.Given as goal
 
 abbrev pub invariant-loop-walk : goal.invariant-loop-walk

@@ -1,10 +1,7 @@
-use Rattle.std.proofs.Common.{◌≡◌, ◌<◌, ◌^◌, true, SFits, ap, sym, subst, arith, rules}
-use Rattle.std.specs.Prelude.{is_some}
-use Rattle.std.specs.Int.{w128}
-use Rattle.std.proofs.lemmas.Int.{to_z-of_z}
+use Rattle.std.proofs.{Common.{◌≡◌, ◌<◌, ◌^◌, true, SFits, ap, sym, subst, arith, rules}, lemmas.Int.{to_z-of_z}}
+use Rattle.std.specs.{Prelude.{is_some}, Int.{w128}}
 use Rattle.dimacs_claims.specs.Labels.{IsBlock, IsWithinRadius, with_label}
-use Rattle.dimacs_solve.specs.inside.Frontiers.{walk_of}
-use Rattle.dimacs_solve.specs.inside.NodeStates.{IsSettled, known}
+use Rattle.dimacs_solve.specs.{inside.Frontiers.{walk_of}, inside.NodeStates.{IsSettled, known}}
 use Rattle.dimacs_solve.proofs.SearchLemmas.{AddsLabel, added, added_few, added_label, added_pred, has_none, marked_ready, popped_again, popped_small, visited, visited_less}
 use Rattle.dimacs_solve.proofs.search.visit.Goals as goal
 

@@ -1,5 +1,4 @@
-use Rattle.std.proofs.Common.{◌≡◌, inl, length, ◌∙◌}
-use Rattle.std.proofs.lemmas.Result.{err_from_is_err_and}
+use Rattle.std.proofs.{Common.{◌≡◌, inl, length, ◌∙◌}, lemmas.Result.{err_from_is_err_and}}
 use Rattle.dimacs_solve.specs.inside.Rests.{AddUp}
 use Rattle.dimacs_solve.proofs.DealtLemmas.{put_cheapest, put_deals, put_fits}
 use Rattle.dimacs_solve.proofs.RefusalLemmas.{all_clear, alone_from, first_alone, ok_from}

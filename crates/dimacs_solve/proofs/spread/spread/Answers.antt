@@ -1,6 +1,4 @@
-use Rattle.std.proofs.Common.{◌≡◌, ◌∙◌}
-use Rattle.std.proofs.lemmas.List.{take_at}
-use Rattle.std.proofs.lemmas.Result.{err_from_is_err_and}
+use Rattle.std.proofs.{Common.{◌≡◌, ◌∙◌}, lemmas.List.{take_at}, lemmas.Result.{err_from_is_err_and}}
 use Rattle.dimacs_solve.specs.Spread.{NoneCheaper}
 use Rattle.dimacs_solve.proofs.spread.spread.Goals as goal
 

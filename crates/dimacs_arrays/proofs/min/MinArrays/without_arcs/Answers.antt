@@ -1,5 +1,4 @@
-use Rattle.std.proofs.Common.{get_or, pos, w64, rules, arith, SFits}
-use Rattle.std.proofs.lemmas.Int.{to_z-of_z}
+use Rattle.std.proofs.{Common.{get_or, pos, w64, rules, arith, SFits}, lemmas.Int.{to_z-of_z}}
 use Rattle.dimacs_arrays.proofs.MinLemmas.{all_supplies, no_supplies, supply_set}
 use Rattle.dimacs_arrays.proofs.min.MinArrays.without_arcs.Goals as goal
 

@@ -1,7 +1,7 @@
 use Rattle.std.proofs.Common.{◌≡◌, ◌+◌, ap, sym, ◌∙◌, arith, false, true}
-use Rattle.std.specs.FinSet as set
 use Rattle.dimacs_lines.specs.Limits.{IsNode}
 use Rattle.dimacs_claims.proofs.CutLemmas.{again_same, few_ids, law_with_node, one_node_more}
+use Rattle.std.specs.FinSet as set
 use Rattle.dimacs_claims.proofs.cut.Cut.add.Goals as goal
 
 pub returns-then-contains-clause-added : goal.returns-then-contains-clause-added

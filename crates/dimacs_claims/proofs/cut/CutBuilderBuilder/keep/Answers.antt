@@ -1,8 +1,6 @@
-use Rattle.std.proofs.Common.{◌≤◌, ◌++◌, ◌∷◌, [], rules, subst, sym}
-use Rattle.std.proofs.lemmas.Result.{on_ok_weaker}
+use Rattle.std.proofs.{Common.{◌≤◌, ◌++◌, ◌∷◌, [], rules, subst, sym}, lemmas.Result.{on_ok_weaker}}
 use Rattle.dimacs_records.specs.declared.records.Record.TheVariants.{CutNode}
-use Rattle.dimacs_claims.specs.CutReading.{IsCutBegunBy}
-use Rattle.dimacs_claims.specs.Cuts.{CutValue}
+use Rattle.dimacs_claims.specs.{CutReading.{IsCutBegunBy}, Cuts.{CutValue}}
 use Rattle.dimacs_claims.proofs.CutLemmas.{more}
 use Rattle.dimacs_claims.proofs.cut.CutBuilderBuilder.keep.Goals as goal
 

@@ -1,7 +1,6 @@
 use Rattle.std.proofs.Common.{◌≡◌, None, ap, ap₂, false, refl, subst, sym, ◌∙◌}
-use Rattle.dimacs_records.specs.declared.order.Context.{Context}
+use Rattle.dimacs_records.specs.{declared.order.Context.{Context}, Tests.{context_after}}
 use Rattle.dimacs_records.specs.declared.records.Record.TheVariants.{DistancesNode, DistancesProblem, LabelsBlock}
-use Rattle.dimacs_records.specs.Tests.{context_after}
 use Rattle.dimacs_claims.specs.LabelsReading.{LabelsBegun, context, bare_context}
 use Rattle.dimacs_claims.proofs.DistanceStates.{bare_by_records}
 use Rattle.dimacs_claims.proofs.distances.DistancesBuilderBuilder.context.Goals as goal

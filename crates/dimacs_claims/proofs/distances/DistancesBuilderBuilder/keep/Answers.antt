@@ -1,8 +1,6 @@
-use Rattle.std.proofs.Common.{SFits, rules, subst, sym}
+use Rattle.std.proofs.{Common.{SFits, rules, subst, sym}, lemmas.Int.{to_z-of_z}}
 use Rattle.std.specs.Int.{w128}
-use Rattle.std.proofs.lemmas.Int.{to_z-of_z}
-use Rattle.dimacs_records.specs.declared.records.Record.{Record}
-use Rattle.dimacs_records.specs.declared.records.Record.TheVariants.{DistancesNode}
+use Rattle.dimacs_records.specs.{declared.records.Record.{Record}, declared.records.Record.TheVariants.{DistancesNode}}
 use Rattle.dimacs_records.specs.Tests.{Passes}
 use Rattle.dimacs_claims.specs.LabelsReading.{LabelsBegun, bare_context}
 use Rattle.dimacs_claims.proofs.DistanceStates.{bare_kept, bare_opened, has_last, label_passes, source_least}

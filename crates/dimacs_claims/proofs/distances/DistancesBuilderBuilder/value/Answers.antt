@@ -1,8 +1,7 @@
 use Rattle.std.proofs.Common.{subst, sym}
 use Rattle.std.specs.Prelude.{◌≡◌, List}
 use Rattle.dimacs_records.specs.Readings.{LineRecord, records_of}
-use Rattle.dimacs_claims.specs.DistanceTexts.{AreBare}
-use Rattle.dimacs_claims.specs.LabelTexts.{GivesLabels}
+use Rattle.dimacs_claims.specs.{DistanceTexts.{AreBare}, LabelTexts.{GivesLabels}}
 use Rattle.dimacs_claims.specs.LabelsReading.{LabelsBegun, labels_begun_records}
 use Rattle.dimacs_claims.proofs.DistanceStates.{gives_distances}
 use Rattle.dimacs_claims.proofs.distances.DistancesBuilderBuilder.value.Goals as goal

@@ -1,13 +1,10 @@
 use Rattle.std.proofs.Common.{Bor, arith, ◌≡◌, ◌≢◌, ◌∙◌, [], subst, ap, sym, IfSome, Some, None}
+use Rattle.std.proofs.{lemmas.Option.{get_or_from_slice_get, slice_get-get_or}, lemmas.Grind.{common_steps}}
 use Rattle.std.specs.Prelude.{slice_get}
-use Rattle.std.proofs.lemmas.Option.{get_or_from_slice_get, slice_get-get_or}
-use Rattle.std.proofs.lemmas.Grind.{common_steps}
 use Rattle.dimacs_records.specs.Ranges.{IsWide}
-use Rattle.dimacs_claims.specs.inside.ById.{labels_at}
-use Rattle.dimacs_claims.specs.Labels.{BlockValue, distance_in, label_at}
-use Rattle.dimacs_claims.proofs.BlockLemmas.{label_at_wide}
+use Rattle.dimacs_claims.specs.{inside.ById.{labels_at}, Labels.{BlockValue, distance_in, label_at}}
 use Rattle.dimacs_claims.specs.declared.by_id.ById.{ById}
-use Rattle.dimacs_claims.proofs.ByIdLemmas.{indexed_at, label_is}
+use Rattle.dimacs_claims.proofs.{BlockLemmas.{label_at_wide}, ByIdLemmas.{indexed_at, label_is}}
 use Rattle.dimacs_claims.proofs.labels.Labels.label.Goals as goal
 
 pub distance_by-requires : goal.distance_by-requires

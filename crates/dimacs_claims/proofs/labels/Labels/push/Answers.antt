@@ -1,9 +1,7 @@
 use Rattle.std.proofs.Common.{◌≡◌, ◌<◌, ◌++◌, ◌∷◌, [], length}
 use Rattle.dimacs_lines.specs.Limits.{most_count}
 use Rattle.dimacs_claims.specs.Labels.{IsBlock, IsNewSource}
-use Rattle.dimacs_claims.proofs.BlockLemmas.{labels_push}
-use Rattle.dimacs_claims.proofs.ByIdLemmas.{indexed_wider}
-use Rattle.dimacs_claims.proofs.LabelRecords.{are_sources_more}
+use Rattle.dimacs_claims.proofs.{BlockLemmas.{labels_push}, ByIdLemmas.{indexed_wider}, LabelRecords.{are_sources_more}}
 use Rattle.dimacs_claims.proofs.labels.Labels.push.Goals as goal
 
 pub invariant_of-self-2 : goal.invariant_of-self-2

@@ -1,7 +1,6 @@
 use Rattle.std.proofs.Common.{ap, sym, ◌∙◌, refl}
 use Rattle.std.specs.List.{list_any}
-use Rattle.dimacs_claims.specs.Labels.{has_source}
-use Rattle.dimacs_claims.specs.LabelsReading.{LabelsBegun}
+use Rattle.dimacs_claims.specs.{Labels.{has_source}, LabelsReading.{LabelsBegun}}
 use Rattle.dimacs_claims.proofs.BuilderLemmas.{source_by_records}
 use Rattle.dimacs_claims.proofs.labels.LabelsBuilder.block_context.Goals as goal
 

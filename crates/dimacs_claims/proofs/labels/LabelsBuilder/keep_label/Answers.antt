@@ -1,6 +1,5 @@
 use Rattle.std.proofs.Common.{ap, ◌∙◌, ◌++◌, ◌∷◌, [], arith}
-use Rattle.dimacs_claims.specs.LabelTexts.{label_line}
-use Rattle.dimacs_claims.specs.LabelsReading.{LabelsBegun, labels_begun_records}
+use Rattle.dimacs_claims.specs.{LabelTexts.{label_line}, LabelsReading.{LabelsBegun, labels_begun_records}}
 use Rattle.dimacs_claims.proofs.BuilderLemmas.{begun_label, fits, labelled_again, labelled_more, passes_of, pushed_label, sources_stay, unlabelled}
 use Rattle.dimacs_claims.proofs.labels.LabelsBuilder.keep_label.Goals as goal
 

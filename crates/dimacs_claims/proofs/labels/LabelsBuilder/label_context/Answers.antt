@@ -1,6 +1,5 @@
-use Rattle.std.proofs.Common.{◌≡◌, ◌++◌, ◌∷◌, [], ap, rules, sym, ◌∙◌, SFits}
+use Rattle.std.proofs.{Common.{◌≡◌, ◌++◌, ◌∷◌, [], ap, rules, sym, ◌∙◌, SFits}, lemmas.Int.{to_z-of_z}}
 use Rattle.std.specs.Int.{w128}
-use Rattle.std.proofs.lemmas.Int.{to_z-of_z}
 use Rattle.dimacs_claims.specs.LabelsReading.{LabelsBegun}
 use Rattle.dimacs_claims.proofs.BuilderLemmas.{label_by_records, last_got}
 use Rattle.dimacs_claims.proofs.labels.LabelsBuilder.label_context.Goals as goal

@@ -1,8 +1,6 @@
 use Rattle.std.proofs.Common.{◌≡◌, ◌++◌, ◌∷◌, [], ap, sym, ◌∙◌}
-use Rattle.dimacs_claims.specs.Labels.{BlockValue}
-use Rattle.dimacs_claims.specs.LabelsReading.{LabelsBegun}
-use Rattle.dimacs_claims.proofs.BuilderLemmas.{last_got}
-use Rattle.dimacs_claims.proofs.LabelRecords.{push_same}
+use Rattle.dimacs_claims.specs.{Labels.{BlockValue}, LabelsReading.{LabelsBegun}}
+use Rattle.dimacs_claims.proofs.{BuilderLemmas.{last_got}, LabelRecords.{push_same}}
 use Rattle.dimacs_claims.proofs.labels.LabelsBuilder.last_source.Goals as goal
 
 pub returns-in-Some-clause-last : goal.returns-in-Some-clause-last

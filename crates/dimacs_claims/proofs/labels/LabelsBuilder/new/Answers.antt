@@ -1,5 +1,4 @@
-use Rattle.std.specs.FinSet.{contains-empty}
-use Rattle.std.specs.Ordering.{nat_cmp}
+use Rattle.std.specs.{FinSet.{contains-empty}, Ordering.{nat_cmp}}
 use Rattle.dimacs_claims.proofs.BuilderLemmas.{labelled_none, nothing_begun}
 use Rattle.dimacs_claims.proofs.labels.LabelsBuilder.new.Goals as goal
 

@@ -1,5 +1,4 @@
-use Rattle.std.proofs.Common.{◌≡◌, length, ap, refl, ◌∙◌, ◌++◌, ◌∷◌, [], arith}
-use Rattle.std.proofs.lemmas.List.{length-append}
+use Rattle.std.proofs.{Common.{◌≡◌, length, ap, refl, ◌∙◌, ◌++◌, ◌∷◌, [], arith}, lemmas.List.{length-append}}
 use Rattle.dimacs_records.specs.declared.records.Record.TheVariants.{LabelsBlock}
 use Rattle.dimacs_claims.specs.LabelsReading.{LabelsBegun, labels_begun_records}
 use Rattle.dimacs_claims.proofs.LabelRecords.{are_sources_more}

@@ -1,6 +1,5 @@
-use Rattle.std.proofs.Common.{refl, SFits, rules}
+use Rattle.std.proofs.{Common.{refl, SFits, rules}, lemmas.Int.{to_z-of_z}}
 use Rattle.std.specs.Int.{w128}
-use Rattle.std.proofs.lemmas.Int.{to_z-of_z}
 use Rattle.dimacs_records.specs.declared.records.Record.TheVariants.{LabelsNode, LabelsProblem}
 use Rattle.dimacs_claims.proofs.BuilderLemmas.{context_by_records}
 use Rattle.dimacs_claims.proofs.labels.LabelsBuilderBuilder.context.Goals as goal

@@ -1,8 +1,6 @@
 use Rattle.std.proofs.Common.{ap, refl}
-use Rattle.dimacs_claims.specs.LabelsReading.{LabelsBegun}
-use Rattle.dimacs_claims.specs.inside.LabelsReading.{AreLabelsBegun}
-use Rattle.dimacs_claims.proofs.BuilderLemmas.{end_context_by_records}
-use Rattle.dimacs_claims.proofs.LabelRecords.{short_by_records}
+use Rattle.dimacs_claims.specs.{LabelsReading.{LabelsBegun}, inside.LabelsReading.{AreLabelsBegun}}
+use Rattle.dimacs_claims.proofs.{BuilderLemmas.{end_context_by_records}, LabelRecords.{short_by_records}}
 use Rattle.dimacs_claims.proofs.labels.LabelsBuilderBuilder.end_context.Goals as goal
 
 pub returns-clause-context : goal.returns-clause-context

@@ -1,12 +1,10 @@
-use Rattle.std.proofs.Common.{◌≡◌, ◌≢◌, ◌-◌, ◌∙◌, sym, ap, arith, of_z, to_z, SFits, rules}
-use Rattle.std.specs.Prelude.{pos}
-use Rattle.std.specs.Int.{w128}
-use Rattle.std.proofs.lemmas.Int.{to_z-of_z}
+use Rattle.std.proofs.{Common.{◌≡◌, ◌≢◌, ◌-◌, ◌∙◌, sym, ap, arith, of_z, to_z, SFits, rules}, lemmas.Int.{to_z-of_z}}
+use Rattle.std.specs.{Prelude.{pos}, Int.{w128}}
 use Rattle.dimacs_claims.specs.Potentials.{potential_of}
 use Rattle.dimacs_claims.proofs.NodeLists.{passing_few}
 use Rattle.dimacs_claims.proofs.PotentialsLemmas.{nonzero_at, count_below_in, count_below_out}
-use Rattle.dimacs_claims.proofs.potentials.Potentials.count_nonzero.Goals as goal
 use Rattle.dimacs_claims.proofs.potentials.Potentials.count_nonzero.Goals.{then-of-ne0, else-of-ne0}
+use Rattle.dimacs_claims.proofs.potentials.Potentials.count_nonzero.Goals as goal
 
 pub overflow_add-count : goal.overflow_add-count
 overflow_add-count c = omega (arith, c.loop-id.invariant.counted, c.loop-id.invariant.least, passing_few (nonzero_at c.args.self.now) (c.loop-id.id - 1), c.loop-id.auto.id)

@@ -1,6 +1,5 @@
 use Rattle.std.proofs.Common.{◌≡◌, ◌≤◌, ◌-◌, length}
-use Rattle.dimacs_claims.proofs.NodeLists.{passing}
-use Rattle.dimacs_claims.proofs.PotentialsLemmas.{nonzero_at}
+use Rattle.dimacs_claims.proofs.{NodeLists.{passing}, PotentialsLemmas.{nonzero_at}}
 use Rattle.dimacs_claims.proofs.potentials.Potentials.count_nonzero.Given as goal
 
 -- those so far were counted

@@ -1,6 +1,5 @@
-use Rattle.std.proofs.Common.{sym, SFits, rules}
+use Rattle.std.proofs.{Common.{sym, SFits, rules}, lemmas.Int.{to_z-of_z}}
 use Rattle.std.specs.Int.{w128}
-use Rattle.std.proofs.lemmas.Int.{to_z-of_z}
 use Rattle.dimacs_records.proofs.NameLemmas.{value-without_zeros}
 use Rattle.dimacs_claims.proofs.ValueLemmas.{potential_wide}
 use Rattle.dimacs_claims.proofs.potentials.Potentials.of.Goals as goal

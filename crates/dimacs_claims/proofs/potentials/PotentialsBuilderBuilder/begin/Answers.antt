@@ -1,8 +1,7 @@
 use Rattle.std.proofs.Common.{◌≤◌, rules}
 use Rattle.dimacs_lines.specs.Limits.{most_nodes}
 use Rattle.dimacs_records.proofs.NameLemmas.{without_zeros-empty}
-use Rattle.dimacs_claims.proofs.PotentialsLemmas.{begins}
-use Rattle.dimacs_claims.proofs.ValueLemmas.{zero_law}
+use Rattle.dimacs_claims.proofs.{PotentialsLemmas.{begins}, ValueLemmas.{zero_law}}
 use Rattle.dimacs_claims.proofs.potentials.PotentialsBuilderBuilder.begin.Goals as goal
 
 pub invariant_of-result : goal.invariant_of-result

@@ -1,9 +1,7 @@
-use Rattle.std.proofs.Common.{◌≤◌, SFits, rules}
+use Rattle.std.proofs.{Common.{◌≤◌, SFits, rules}, lemmas.Int.{to_z-of_z}}
 use Rattle.std.specs.Int.{w128}
-use Rattle.std.proofs.lemmas.Int.{to_z-of_z}
 use Rattle.dimacs_records.specs.Ranges.{IsWide}
-use Rattle.dimacs_claims.proofs.PotentialsLemmas.{adds, node}
-use Rattle.dimacs_claims.proofs.ValueLemmas.{law_after_set}
+use Rattle.dimacs_claims.proofs.{PotentialsLemmas.{adds, node}, ValueLemmas.{law_after_set}}
 use Rattle.dimacs_claims.proofs.potentials.PotentialsBuilderBuilder.keep.Goals as goal
 
 pub invariant_of-self-2 : goal.invariant_of-self-2

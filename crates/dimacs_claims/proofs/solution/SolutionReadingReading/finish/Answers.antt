@@ -1,6 +1,5 @@
 use Rattle.std.proofs.lemmas.Result.{err_from_is_err_and}
-use Rattle.dimacs_records.specs.declared.kinds.TextKind.TheVariants.{Solution}
-use Rattle.dimacs_records.specs.Readings.{records_of}
+use Rattle.dimacs_records.specs.{declared.kinds.TextKind.TheVariants.{Solution}, Readings.{records_of}}
 use Rattle.dimacs_records.proofs.OrderLemmas.{complete_by_records, end_refused_by_records}
 use Rattle.dimacs_claims.proofs.SolutionLemmas.{end_context_by_records}
 use Rattle.dimacs_claims.proofs.solution.SolutionReadingReading.finish.Goals as goal

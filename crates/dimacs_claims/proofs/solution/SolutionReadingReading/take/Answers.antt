@@ -1,12 +1,8 @@
-use Rattle.std.proofs.Common.{w64, SFits, rules}
+use Rattle.std.proofs.{Common.{w64, SFits, rules}, lemmas.Int.{to_z-of_z}, lemmas.Result.{err_from_is_err_and}}
 use Rattle.std.specs.Int.{w128}
-use Rattle.std.proofs.lemmas.Int.{to_z-of_z}
-use Rattle.std.proofs.lemmas.Result.{err_from_is_err_and}
-use Rattle.dimacs_records.specs.declared.records.Record.TheVariants.{SolutionValue}
-use Rattle.dimacs_records.specs.Readings.{records_of}
+use Rattle.dimacs_records.specs.{declared.records.Record.TheVariants.{SolutionValue}, Readings.{records_of}}
 use Rattle.dimacs_records.proofs.OrderLemmas.{refused_by_records}
-use Rattle.dimacs_claims.specs.declared.solution.Entry.{Entry}
-use Rattle.dimacs_claims.specs.inside.SolutionReading.{value_context}
+use Rattle.dimacs_claims.specs.{declared.solution.Entry.{Entry}, inside.SolutionReading.{value_context}}
 use Rattle.dimacs_claims.proofs.SolutionLemmas.{entry_placed, value_placed, value_by_records}
 use Rattle.dimacs_claims.proofs.solution.SolutionReadingReading.take.Goals as goal
 

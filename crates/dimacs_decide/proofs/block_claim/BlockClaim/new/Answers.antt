@@ -1,6 +1,6 @@
 use Rattle.std.proofs.Common.{◌≡◌, ◌<◌, ◌+◌, ◌-◌, ◌∙◌, ℕ, ℤ, Option, Some, SFits, ap, arith, length, get_or, pos, rules, subst}
-use Rattle.std.specs.Int.{w128}
 use Rattle.std.proofs.lemmas.Int.{ints, to_z-of_z}
+use Rattle.std.specs.Int.{w128}
 use Rattle.dimacs_claims.specs.Labels.{label, no_label}
 use Rattle.dimacs_judging.specs.Distances.{Fits}
 use Rattle.dimacs_network.specs.DenseTables.{value_at}

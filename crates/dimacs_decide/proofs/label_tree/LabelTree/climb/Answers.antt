@@ -1,5 +1,4 @@
-use Rattle.std.proofs.Common.{◌≡◌, ◌++◌, ◌∷◌, [], false, IsSome, refl}
-use Rattle.std.proofs.lemmas.List.Elements.{All-push}
+use Rattle.std.proofs.{Common.{◌≡◌, ◌++◌, ◌∷◌, [], false, IsSome, refl}, lemmas.List.Elements.{All-push}}
 use Rattle.dimacs_network.specs.Tables.{value_of}
 use Rattle.dimacs_decide.specs.Predecessors.{pred_by_node}
 use Rattle.dimacs_decide.proofs.PathBackLemmas.{path_more}

@@ -1,7 +1,6 @@
 use Rattle.std.proofs.Common.{◌≡◌, ◌+◌, ◌-◌, length}
 use Rattle.dimacs_network.specs.Tables.{value_of}
-use Rattle.dimacs_decide.specs.Predecessors.{pred_by_node}
-use Rattle.dimacs_decide.specs.inside.LabelTrees.{AreOff, IsPathBack}
+use Rattle.dimacs_decide.specs.{Predecessors.{pred_by_node}, inside.LabelTrees.{AreOff, IsPathBack}}
 use Rattle.dimacs_decide.proofs.label_tree.LabelTree.climb.Given as goal
 
 -- the path so far ends before `at`

@@ -1,8 +1,7 @@
 use Rattle.std.proofs.Common.{◌≡◌, ◌∙◌, ◌∷◌, [], true, false, length, arith, ap, sym, subst}
 use Rattle.std.proofs.lemmas.List.{length-append}
 use Rattle.dimacs_network.specs.Tables.{value_of}
-use Rattle.dimacs_decide.specs.Predecessors.{LeadsBack, pred_by_node}
-use Rattle.dimacs_decide.specs.inside.LabelTrees.{IsLabelTree}
+use Rattle.dimacs_decide.specs.{Predecessors.{LeadsBack, pred_by_node}, inside.LabelTrees.{IsLabelTree}}
 use Rattle.dimacs_decide.proofs.LabelTreeLemmas.{next_label, placed_keeps, source_labelled}
 use Rattle.dimacs_decide.proofs.PathBackLemmas.{comes_first, never_back, none_within, outcome, path_leads, root_apart, root_not_labelled, root_some, start_off, still_not_labelled, taken}
 use Rattle.dimacs_decide.proofs.label_tree.LabelTree.label_from.Goals as goal

@@ -1,6 +1,5 @@
-use Rattle.std.proofs.Common.{rules, ◌≡◌, ◌∙◌, false, SFits, refl, sym, subst, Some}
+use Rattle.std.proofs.{Common.{rules, ◌≡◌, ◌∙◌, false, SFits, refl, sym, subst, Some}, lemmas.Int.{to_z-of_z}}
 use Rattle.std.specs.Int.{w128}
-use Rattle.std.proofs.lemmas.Int.{to_z-of_z}
 use Rattle.dimacs_lines.specs.Limits.{IsNode}
 use Rattle.dimacs_claims.specs.Labels.{IsBlock, IsLabel, IsWithinRadius, with_label}
 use Rattle.dimacs_network.specs.Tables.{value_of}

@@ -1,10 +1,9 @@
 use Rattle.std.proofs.Common.{◌≡◌, ◌≢◌, ◌∙◌, ◌<◌, ◌≤◌, Some, SFits, length, get_or, ap, sym, arith, rules}
-use Rattle.std.specs.Int.{w128}
 use Rattle.std.proofs.lemmas.Int.{to_z-of_z}
+use Rattle.std.specs.Int.{w128}
 use Rattle.dimacs_network.specs.Tables.{value_of}
 use Rattle.dimacs_records.specs.Ranges.{IsWide}
-use Rattle.dimacs_claims.specs.declared.block.Label.{Label}
-use Rattle.dimacs_claims.specs.Labels.{label, no_label}
+use Rattle.dimacs_claims.specs.{declared.block.Label.{Label}, Labels.{label, no_label}}
 use Rattle.dimacs_decide.proofs.FewLemmas.{id_at, label_here, label_none}
 use Rattle.dimacs_decide.proofs.placed_claim.PlacedClaimDistanceClaim.of.Goals as goal
 

@@ -1,5 +1,4 @@
-use Rattle.std.proofs.Common.{◌≡◌, ℕ, ◌<◌, ◌∙◌, ap, arith, inl, inr, ℤ, sym, subst}
-use Rattle.std.proofs.lemmas.Int.{ints}
+use Rattle.std.proofs.{Common.{◌≡◌, ℕ, ◌<◌, ◌∙◌, ap, arith, inl, inr, ℤ, sym, subst}, lemmas.Int.{ints}}
 use Rattle.std.proofs.lemmas.Bool.{cases_order}
 use Rattle.dimacs_network.specs.Tables.{value_of}
 use Rattle.dimacs_decide.specs.inside.Residual.{IsResidualSearch, rank_of}

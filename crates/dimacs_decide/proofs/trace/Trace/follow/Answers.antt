@@ -1,8 +1,7 @@
 use Rattle.std.proofs.Common.{◌≡◌, ◌+◌, ◌<◌, ◌≤◌, ◌∙◌, ap, sym, subst, arith, length, ◌++◌, ◌∷◌, []}
 use Rattle.std.proofs.lemmas.List.{length-append}
 use Rattle.dimacs_network.specs.Tables.{value_of}
-use Rattle.dimacs_decide.specs.inside.Heights.{below_of}
-use Rattle.dimacs_decide.specs.inside.Traces.{IsFollowing}
+use Rattle.dimacs_decide.specs.{inside.Heights.{below_of}, inside.Traces.{IsFollowing}}
 use Rattle.dimacs_decide.proofs.CountLemmas.{one_zero_fewer}
 use Rattle.dimacs_decide.proofs.TraceLemmas.{follow_back, follow_begin, follow_keeps, follow_more, follow_over, some_place}
 use Rattle.dimacs_decide.proofs.trace.Trace.follow.Goals as goal

@@ -1,6 +1,4 @@
-use Rattle.std.proofs.Common.{◌∷◌, [], SFits, w64, arith, rules}
-use Rattle.std.proofs.lemmas.Int.{to_z-of_z}
-use Rattle.std.proofs.lemmas.List.{length-append}
+use Rattle.std.proofs.{Common.{◌∷◌, [], SFits, w64, arith, rules}, lemmas.Int.{to_z-of_z}, lemmas.List.{length-append}}
 use Rattle.dimacs_network.specs.declared.network.ArcView.{ArcView}
 use Rattle.dimacs_fill.proofs.ColumnLemmas.{begins_part}
 use Rattle.dimacs_fill.proofs.arc_reading.ArcReading.put.Goals as goal

@@ -1,7 +1,6 @@
 use Rattle.std.proofs.Common.{◌∙◌, sym}
 use Rattle.dimacs_fill.specs.inside.Columns.{columns}
-use Rattle.dimacs_fill.proofs.ArcReadingLemmas.{no_arc, one_arc}
-use Rattle.dimacs_fill.proofs.ColumnLemmas.{later_twice}
+use Rattle.dimacs_fill.proofs.{ArcReadingLemmas.{no_arc, one_arc}, ColumnLemmas.{later_twice}}
 use Rattle.dimacs_fill.proofs.arc_reading.ArcReadingReading.take.Goals as goal
 
 pub returns-in-Some-clause-taken : goal.returns-in-Some-clause-taken

@@ -1,5 +1,4 @@
-use Rattle.std.proofs.Common.{◌≤◌, w64, SFits, rules, arith}
-use Rattle.std.proofs.lemmas.Int.{to_z-of_z, ints}
+use Rattle.std.proofs.{Common.{◌≤◌, w64, SFits, rules, arith}, lemmas.Int.{to_z-of_z, ints}}
 use Rattle.dimacs_network.specs.declared.network.ArcView.{ArcView}
 use Rattle.dimacs_instance.specs.MinReading.{MinBegun}
 use Rattle.dimacs_instance.proofs.MinLemmas.{arc_bounds, arc_joins, arc_room, law_after_push, law_after_set, names_one, node}

@@ -1,5 +1,4 @@
-use Rattle.std.proofs.Common.{w64, arith}
-use Rattle.std.proofs.lemmas.Int.{to_z-of_z, ints}
+use Rattle.std.proofs.{Common.{w64, arith}, lemmas.Int.{to_z-of_z, ints}}
 use Rattle.dimacs_instance.proofs.SupplyLemmas.{min_after_set, supply_set}
 use Rattle.dimacs_instance.proofs.min.MinInstance+PlainArcs+ArcView.set_supply.Goals as goal
 

@@ -1,5 +1,4 @@
-use Rattle.std.proofs.Common.{sym, w64, SFits, rules}
-use Rattle.std.proofs.lemmas.Int.{to_z-of_z}
+use Rattle.std.proofs.{Common.{sym, w64, SFits, rules}, lemmas.Int.{to_z-of_z}}
 use Rattle.dimacs_records.proofs.NameLemmas.{value-without_zeros}
 use Rattle.dimacs_instance.proofs.min.MinInstance.supply.Goals as goal
 

@@ -1,6 +1,5 @@
-use Rattle.std.proofs.Common.{◌≡◌, ◌≤◌, ◌+◌, refl, sym, ap, ◌∙◌, w64, SFits, rules, arith}
+use Rattle.std.proofs.{Common.{◌≡◌, ◌≤◌, ◌+◌, refl, sym, ap, ◌∙◌, w64, SFits, rules, arith}, lemmas.Int.{to_z-of_z}}
 use Rattle.std.specs.Prelude.{pos}
-use Rattle.std.proofs.lemmas.Int.{to_z-of_z}
 use Rattle.dimacs_lines.specs.Limits.{most_nodes}
 use Rattle.dimacs_instance.specs.MinFlows.{positive_part, negative_part, supply_of}
 use Rattle.dimacs_instance.proofs.MinSupplies.{sum_below, sum_first, sum_more, sum_all, sum_fits, positive_few, negative_few, whole_supply}

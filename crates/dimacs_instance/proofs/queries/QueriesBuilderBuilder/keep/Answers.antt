@@ -1,16 +1,11 @@
-use Rattle.std.proofs.Common.{◌≡◌, ◌<◌, ◌∷◌, [], length, false, refl, arith}
+use Rattle.std.proofs.{Common.{◌≡◌, ◌<◌, ◌∷◌, [], length, false, refl, arith}, lemmas.Bool.Decides.{nat_tests}}
+use Rattle.std.proofs.{lemmas.Grind.{common_steps}, lemmas.Int.{ints}, lemmas.List.Elements.{All-push}}
 use Rattle.std.specs.Prelude.{nat_le}
-use Rattle.std.proofs.lemmas.Bool.Decides.{nat_tests}
-use Rattle.std.proofs.lemmas.Grind.{common_steps}
-use Rattle.std.proofs.lemmas.Int.{ints}
-use Rattle.std.proofs.lemmas.List.Elements.{All-push}
-use Rattle.dimacs_records.specs.declared.kinds.TextKind.TheVariants as kinds
-use Rattle.dimacs_records.specs.declared.records.Record.TheVariants.{PairQuery}
-use Rattle.dimacs_records.specs.Canonical.{FitAll}
-use Rattle.dimacs_records.specs.Forms.{Id}
+use Rattle.dimacs_records.specs.{declared.records.Record.TheVariants.{PairQuery}, Canonical.{FitAll}, Forms.{Id}}
 use Rattle.dimacs_records.specs.Spelling.{parts_of}
 use Rattle.dimacs_records.proofs.FitLaws.{fits_of}
 use Rattle.dimacs_instance.specs.QueryTexts.{AreIds, HaveIds, Pairs, query_lines}
+use Rattle.dimacs_records.specs.declared.kinds.TextKind.TheVariants as kinds
 use Rattle.dimacs_instance.proofs.queries.QueriesBuilderBuilder.keep.Goals as goal
 
 pub invariant_of-self-in-Continue-branch-2 : goal.invariant_of-self-in-Continue-branch-2

@@ -1,8 +1,6 @@
 use Rattle.std.proofs.Common.{◌≡◌, ◌+◌, ◌++◌, ◌∷◌, [], ◌<◌, length, map, set, get_or, arith, ap, sym, subst, ◌∙◌}
-use Rattle.std.proofs.lemmas.Option.{get_or_from_slice_get}
-use Rattle.std.proofs.lemmas.List.{get_or_read, length_push, length-set}
-use Rattle.dimacs_network.specs.AdjacencyLists.{AreLinked}
-use Rattle.dimacs_network.specs.declared.adjacency_lists.Side.TheVariants.{Tail}
+use Rattle.std.proofs.{lemmas.Option.{get_or_from_slice_get}, lemmas.List.{get_or_read, length_push, length-set}}
+use Rattle.dimacs_network.specs.{AdjacencyLists.{AreLinked}, declared.adjacency_lists.Side.TheVariants.{Tail}}
 use Rattle.dimacs_network.specs.Arcs.{arc_at, no_arc}
 use Rattle.dimacs_judging.specs.inside.ArcChains.{chain_of, in_chain}
 use Rattle.dimacs_judging.proofs.ArcChainLemmas.{chained_more}

@@ -1,9 +1,7 @@
-use Rattle.std.proofs.Common.{◌≡◌, ◌-◌, ◌<◌, false, length, arith, ap, sym, subst, ◌∙◌}
-use Rattle.std.specs.Prelude.{slice_index}
+use Rattle.std.proofs.{Common.{◌≡◌, ◌-◌, ◌<◌, false, length, arith, ap, sym, subst, ◌∙◌}, lemmas.List.{get_or_read}}
 use Rattle.std.proofs.lemmas.Option.{get_or_from_slice_get}
-use Rattle.std.proofs.lemmas.List.{get_or_read}
-use Rattle.dimacs_network.specs.declared.adjacency_lists.Side.TheVariants.{Tail}
-use Rattle.dimacs_network.specs.Arcs.{joins, arc_at, no_arc}
+use Rattle.std.specs.Prelude.{slice_index}
+use Rattle.dimacs_network.specs.{declared.adjacency_lists.Side.TheVariants.{Tail}, Arcs.{joins, arc_at, no_arc}}
 use Rattle.dimacs_network.specs.AdjacencyLists.{IsLast, end_at}
 use Rattle.dimacs_judging.specs.inside.ArcChains.{by_chain}
 use Rattle.dimacs_judging.proofs.ArcChainLemmas.{NoneFrom, none_from, none_from_before, first_found}

@@ -1,6 +1,5 @@
 use Rattle.std.proofs.Common.{◌≡◌, ◌<◌, ◌≤◌, ◌-◌, length}
-use Rattle.dimacs_network.specs.declared.adjacency_lists.Side.TheVariants.{Tail}
-use Rattle.dimacs_network.specs.AdjacencyLists.{end_at}
+use Rattle.dimacs_network.specs.{declared.adjacency_lists.Side.TheVariants.{Tail}, AdjacencyLists.{end_at}}
 use Rattle.dimacs_judging.specs.inside.ArcChains.{by_chain}
 use Rattle.dimacs_judging.proofs.ArcChainLemmas.{NoneFrom}
 use Rattle.dimacs_judging.proofs.arc_chains.ArcChains.is_first.Given as goal

@@ -1,5 +1,4 @@
-use Rattle.std.proofs.Common.{rules, ◌^◌, arith, w64, SFits}
-use Rattle.std.proofs.lemmas.Int.{ints, to_z-of_z}
+use Rattle.std.proofs.{Common.{rules, ◌^◌, arith, w64, SFits}, lemmas.Int.{ints, to_z-of_z}}
 use Rattle.dimacs_judging.specs.inside.Ranges.{IsOfSize}
 use Rattle.dimacs_judging.proofs.StepLemmas.{balance_more, balance_none, balance_all}
 use Rattle.dimacs_judging.proofs.balances.Balances.new.Goals as goal

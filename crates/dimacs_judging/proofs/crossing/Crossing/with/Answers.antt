@@ -1,5 +1,4 @@
-use Rattle.std.proofs.Common.{rules, arith, w64, SFits}
-use Rattle.std.proofs.lemmas.Int.{ints}
+use Rattle.std.proofs.{Common.{rules, arith, w64, SFits}, lemmas.Int.{ints}}
 use Rattle.dimacs_judging.proofs.CrossLemmas.{leaving_sum, entering_sum}
 use Rattle.dimacs_judging.specs.Cuts.{members}
 use Rattle.dimacs_judging.proofs.crossing.Crossing.with.Goals as goal

@@ -1,5 +1,4 @@
-use Rattle.std.proofs.Common.{◌≡◌, ◌-ℤ◌, ◌∙◌, rules, w32, w64, SFits}
-use Rattle.std.proofs.lemmas.Int.{to_z-of_z}
+use Rattle.std.proofs.{Common.{◌≡◌, ◌-ℤ◌, ◌∙◌, rules, w32, w64, SFits}, lemmas.Int.{to_z-of_z}}
 use Rattle.dimacs_judging.proofs.DistanceLemmas.{sum_equal}
 use Rattle.dimacs_judging.proofs.distance.I32Distance.sum_is_equal.Goals as goal
 

@@ -1,6 +1,5 @@
-use Rattle.std.proofs.Common.{◌≡◌, ◌-ℤ◌, ◌∙◌, rules, w64, SFits}
+use Rattle.std.proofs.{Common.{◌≡◌, ◌-ℤ◌, ◌∙◌, rules, w64, SFits}, lemmas.Int.{to_z-of_z}}
 use Rattle.std.specs.Int.{w128}
-use Rattle.std.proofs.lemmas.Int.{to_z-of_z}
 use Rattle.dimacs_judging.proofs.DistanceLemmas.{sum_less}
 use Rattle.dimacs_judging.proofs.distance.I64Distance.sum_is_less.Goals as goal
 

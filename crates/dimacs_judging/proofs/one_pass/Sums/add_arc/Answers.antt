@@ -1,6 +1,6 @@
 use Rattle.std.proofs.Common.{rules, ◌≡◌, ◌==◌, ◌∙◌, refl, ◌+ℤ◌, ◌-ℤ◌, pos, arith, w32, w64, SFits}
-use Rattle.std.specs.Int.{w128}
 use Rattle.std.proofs.lemmas.Int.{ints, to_z-of_z}
+use Rattle.std.specs.Int.{w128}
 use Rattle.dimacs_judging.specs.inside.OnePass.{IsSmall}
 use Rattle.dimacs_judging.proofs.StepLemmas.{when_back}
 use Rattle.dimacs_judging.proofs.one_pass.Sums.add_arc.Goals as goal

@@ -1,6 +1,5 @@
 use Rattle.std.proofs.Common.{◌≡◌, ℤ, List, None, ap, sym, ◌∙◌, subst}
-use Rattle.dimacs_judging.specs.Claims.{Carries}
-use Rattle.dimacs_judging.specs.Places.{PlacesValue}
+use Rattle.dimacs_judging.specs.{Claims.{Carries}, Places.{PlacesValue}}
 use Rattle.dimacs_judging.proofs.PlaceLemmas.{placed_carry}
 use Rattle.dimacs_judging.proofs.places.FlowPlaces.into_flow.Goals as goal
 

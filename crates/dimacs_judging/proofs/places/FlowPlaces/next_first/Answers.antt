@@ -1,5 +1,4 @@
-use Rattle.std.proofs.Common.{◌≡◌, ◌<◌, ◌≤◌, true, length, get_or, arith}
-use Rattle.std.proofs.lemmas.List.{get_or_read}
+use Rattle.std.proofs.{Common.{◌≡◌, ◌<◌, ◌≤◌, true, length, get_or, arith}, lemmas.List.{get_or_read}}
 use Rattle.dimacs_judging.specs.inside.ArcChains.{IsFirstBetween}
 use Rattle.dimacs_judging.proofs.PlaceLemmas.{none_placed_between}
 use Rattle.dimacs_judging.proofs.places.FlowPlaces.next_first.Goals as goal

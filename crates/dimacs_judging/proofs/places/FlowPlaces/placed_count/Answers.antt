@@ -1,5 +1,4 @@
-use Rattle.std.proofs.Common.{◌≡◌, ◌<◌, true, length, get_or, refl, arith}
-use Rattle.std.proofs.lemmas.List.{get_or_read}
+use Rattle.std.proofs.{Common.{◌≡◌, ◌<◌, true, length, get_or, refl, arith}, lemmas.List.{get_or_read}}
 use Rattle.dimacs_judging.proofs.PlaceLemmas.{none_below, some_below}
 use Rattle.dimacs_judging.proofs.places.FlowPlaces.placed_count.Goals as goal
 

@@ -1,8 +1,7 @@
 use Rattle.std.proofs.Common.{◌≡◌, false, ap, sym, ◌∙◌}
 use Rattle.std.specs.Prelude.{is_some}
 use Rattle.dimacs_judging.specs.Places.{PlacesValue}
-use Rattle.dimacs_judging.proofs.PlaceLemmas.{no_refusal, refused_still}
-use Rattle.dimacs_judging.proofs.EntryLemmas.{first_new}
+use Rattle.dimacs_judging.proofs.{PlaceLemmas.{no_refusal, refused_still}, EntryLemmas.{first_new}}
 use Rattle.dimacs_judging.proofs.places.FlowPlaces.put.Goals as goal
 
 pub returns-then-is_some-clause-placed : goal.returns-then-is_some-clause-placed

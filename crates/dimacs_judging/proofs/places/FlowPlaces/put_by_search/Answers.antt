@@ -1,5 +1,4 @@
-use Rattle.std.proofs.Common.{◌≡◌, ◌<◌, [], length, true, w64, SFits, rules, arith}
-use Rattle.std.proofs.lemmas.Int.{to_z-of_z}
+use Rattle.std.proofs.{Common.{◌≡◌, ◌<◌, [], length, true, w64, SFits, rules, arith}, lemmas.Int.{to_z-of_z}}
 use Rattle.std.proofs.lemmas.List.Sums.{count_by-le-length}
 use Rattle.dimacs_network.specs.Arcs.{joins}
 use Rattle.dimacs_judging.proofs.PlaceLemmas.{found_among, none_left, found_placed}

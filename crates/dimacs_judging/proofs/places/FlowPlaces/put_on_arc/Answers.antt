@@ -1,5 +1,4 @@
-use Rattle.std.proofs.Common.{refl, w64, SFits, rules, arith}
-use Rattle.std.proofs.lemmas.Int.{to_z-of_z}
+use Rattle.std.proofs.{Common.{refl, w64, SFits, rules, arith}, lemmas.Int.{to_z-of_z}}
 use Rattle.dimacs_judging.proofs.PlaceLemmas.{next_placed}
 use Rattle.dimacs_judging.proofs.places.FlowPlaces.put_on_arc.Goals as goal
 

@@ -1,7 +1,6 @@
 use Rattle.std.proofs.Common.{◌≡◌, ◌<◌, length, true, w64, SFits, rules, arith, ap, sym, subst, ◌∙◌}
 use Rattle.std.proofs.lemmas.Int.{to_z-of_z}
-use Rattle.dimacs_judging.specs.Places.{PlacesValue, HavePlaced}
-use Rattle.dimacs_judging.specs.inside.Places.{left_order}
+use Rattle.dimacs_judging.specs.{Places.{PlacesValue, HavePlaced}, inside.Places.{left_order}}
 use Rattle.dimacs_judging.proofs.PlaceLemmas.{placed_in_any_order, placed_searched, found_placed}
 use Rattle.dimacs_judging.proofs.places.FlowPlaces.put_out_of_order.Goals as goal
 

@@ -1,9 +1,6 @@
-use Rattle.std.proofs.Common.{◌≤◌, ◌++◌, ◌∷◌, [], suc, length, arith, SFits, w64}
-use Rattle.std.specs.Prelude.{ℤ, pos, negsuc}
-use Rattle.std.specs.Fmt.{decimal, signed_decimal}
-use Rattle.std.proofs.lemmas.Fmt.{length-decimal-le}
-use Rattle.std.proofs.lemmas.Int.{to_z-of_z}
-use Rattle.std.proofs.lemmas.List.{length-append}
+use Rattle.std.proofs.{Common.{◌≤◌, ◌++◌, ◌∷◌, [], suc, length, arith, SFits, w64}, lemmas.Fmt.{length-decimal-le}}
+use Rattle.std.proofs.{lemmas.Int.{to_z-of_z}, lemmas.List.{length-append}}
+use Rattle.std.specs.{Prelude.{ℤ, pos, negsuc}, Fmt.{decimal, signed_decimal}}
 use Rattle.dimacs_lines.proofs.output_buffer.OutputBuffer.append_field.Goals as goal
 
 -- a 64-bit number has at most 20 bytes, with its sign

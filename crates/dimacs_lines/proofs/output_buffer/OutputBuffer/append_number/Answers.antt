@@ -1,7 +1,6 @@
-use Rattle.std.proofs.Common.{◌≤◌, length, arith, ◌∷◌, []}
-use Rattle.std.specs.Fmt.{decimal}
-use Rattle.std.proofs.lemmas.Fmt.{length-decimal-le}
+use Rattle.std.proofs.{Common.{◌≤◌, length, arith, ◌∷◌, []}, lemmas.Fmt.{length-decimal-le}}
 use Rattle.std.proofs.lemmas.List.{length-append}
+use Rattle.std.specs.Fmt.{decimal}
 use Rattle.dimacs_lines.proofs.output_buffer.OutputBuffer.append_number.Goals.{then-n-lt0, else-n-lt0}
 use Rattle.dimacs_lines.proofs.output_buffer.OutputBuffer.append_number.Goals as goal
 

@@ -1,7 +1,6 @@
-use Rattle.std.proofs.Common.{◌/◌, ◌≤◌, length, arith, append_assoc}
-use Rattle.std.specs.Fmt.{decimal}
-use Rattle.std.proofs.lemmas.Fmt.{length-decimal-le}
+use Rattle.std.proofs.{Common.{◌/◌, ◌≤◌, length, arith, append_assoc}, lemmas.Fmt.{length-decimal-le}}
 use Rattle.std.proofs.lemmas.List.{length-append}
+use Rattle.std.specs.Fmt.{decimal}
 use Rattle.itoa.proofs.Decimal.{decimal_pair}
 use Rattle.dimacs_lines.proofs.output_buffer.OutputBuffer.append_short.Goals as goal
 

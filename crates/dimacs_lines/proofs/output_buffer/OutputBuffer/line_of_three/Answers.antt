@@ -1,5 +1,4 @@
-use Rattle.std.proofs.Common.{w64}
-use Rattle.std.proofs.lemmas.Int.{to_z-of_z}
+use Rattle.std.proofs.{Common.{w64}, lemmas.Int.{to_z-of_z}}
 use Rattle.dimacs_lines.proofs.PageLemmas.{IsWritten-kept}
 use Rattle.dimacs_lines.proofs.output_buffer.OutputBuffer.line_of_three.Goals as goal
 

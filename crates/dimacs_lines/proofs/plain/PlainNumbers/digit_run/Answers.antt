@@ -1,7 +1,5 @@
-use Rattle.std.proofs.Common.{◌≡◌, ◌+◌, ◌-◌, ◌%◌, ◌≤◌, length, ap, sym, ◌∙◌, arith, bit_and}
-use Rattle.std.specs.Int.Count.{count_trailing_zeros}
-use Rattle.std.specs.List.{slice_index}
-use Rattle.std.proofs.lemmas.Nat.{trailing_le}
+use Rattle.std.proofs.{Common.{◌≡◌, ◌+◌, ◌-◌, ◌%◌, ◌≤◌, length, ap, sym, ◌∙◌, arith, bit_and}, lemmas.Nat.{trailing_le}}
+use Rattle.std.specs.{Int.Count.{count_trailing_zeros}, List.{slice_index}}
 use Rattle.dimacs_lines.specs.inside.Plain.{ends_from}
 use Rattle.dimacs_lines.proofs.EndMarks.{digits_left, end_is, ends_after, left_digits}
 use Rattle.dimacs_lines.proofs.plain.PlainNumbers.digit_run.Goals as goal

@@ -1,6 +1,5 @@
 use Rattle.std.proofs.Common.{◌≡◌, take, drop, ap, ◌∙◌, arith}
-use Rattle.dimacs_lines.specs.Number.{place_sum}
-use Rattle.dimacs_lines.specs.Plain.{NumbersLeft}
+use Rattle.dimacs_lines.specs.{Number.{place_sum}, Plain.{NumbersLeft}}
 use Rattle.dimacs_lines.proofs.PlainLemmas.{digits_stand, few_below}
 use Rattle.dimacs_lines.proofs.plain.PlainNumbers.digits.Goals as goal
 

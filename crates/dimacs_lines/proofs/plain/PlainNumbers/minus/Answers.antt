@@ -1,8 +1,7 @@
 use Rattle.std.proofs.Common.{◌≡◌, ◌+◌, ◌-◌, ◌%◌, ◌<◌, ℕ, inl, inr, bit_and, get_or, refl, ap, sym, ◌∙◌, arith}
 use Rattle.std.proofs.lemmas.Bool.{cases_eq, cases_lt, eq-eqb, le-ltb, lt-ltb, ne_eqb}
 use Rattle.std.specs.Int.Bits.{and_self}
-use Rattle.dimacs_lines.specs.Plain.{NumbersLeft}
-use Rattle.dimacs_lines.specs.inside.Plain.{ends_from}
+use Rattle.dimacs_lines.specs.{Plain.{NumbersLeft}, inside.Plain.{ends_from}}
 use Rattle.dimacs_lines.proofs.EndMarks.{ends_after_minus, ends_fit}
 use Rattle.dimacs_lines.proofs.plain.PlainNumbers.minus.Goals as goal
 

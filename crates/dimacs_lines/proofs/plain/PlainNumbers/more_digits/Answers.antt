@@ -1,9 +1,7 @@
 use Rattle.std.proofs.Common.{◌≡◌, ◌+◌, ◌-◌, ◌*◌, take, drop, ap, ap₂, subst, sym, ◌∙◌, arith, take-take}
-use Rattle.std.specs.Char.{IsAsciiDigit}
-use Rattle.std.specs.List.{All}
 use Rattle.std.proofs.lemmas.List.Elements.{All-drop, All-take}
-use Rattle.dimacs_lines.specs.Number.{place_sum}
-use Rattle.dimacs_lines.specs.Plain.{NumbersLeft}
+use Rattle.std.specs.{Char.{IsAsciiDigit}, List.{All}}
+use Rattle.dimacs_lines.specs.{Number.{place_sum}, Plain.{NumbersLeft}}
 use Rattle.dimacs_lines.proofs.PlainLemmas.{last_eight, few_below, place_sum-split, digits_stand}
 use Rattle.dimacs_lines.proofs.plain.PlainNumbers.more_digits.Goals as goal
 

@@ -1,5 +1,4 @@
-use Rattle.std.proofs.Common.{◌≡◌, ◌+◌, ◌<◌, ◌^◌, ◌-ℤ◌, ℕ, pos, neg_ℤ, to_z, of_z, w64, arith}
-use Rattle.std.proofs.lemmas.Int.{ints}
+use Rattle.std.proofs.{Common.{◌≡◌, ◌+◌, ◌<◌, ◌^◌, ◌-ℤ◌, ℕ, pos, neg_ℤ, to_z, of_z, w64, arith}, lemmas.Int.{ints}}
 use Rattle.dimacs_lines.specs.inside.Plain.{DigitsAt}
 use Rattle.dimacs_lines.proofs.PlainLemmas.{as_signed, stands_digits, stands_minus}
 use Rattle.dimacs_lines.proofs.plain.PlainNumbers.whole.Goals as goal

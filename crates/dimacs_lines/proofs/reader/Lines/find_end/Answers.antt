@@ -1,8 +1,6 @@
 use Rattle.std.proofs.Common.{◌≡◌, ◌≢◌, ◌≤◌, ◌<◌, ◌-◌, ◌++◌, ◌∷◌, [], ℕ, List, Option, None, Some, Ok, ◌∙◌, ap, sym, arith, inl, inr, length, subst, append-nil, length-append}
-use Rattle.std.specs.Prelude.{IfSome}
-use Rattle.std.specs.List.{position_or_len}
-use Rattle.dimacs_lines.specs.Devices.{before_piece}
-use Rattle.dimacs_lines.specs.Lines.{is_end}
+use Rattle.std.specs.{Prelude.{IfSome}, List.{position_or_len}}
+use Rattle.dimacs_lines.specs.{Devices.{before_piece}, Lines.{is_end}}
 use Rattle.dimacs_lines.proofs.ReaderLemmas.{before_piece-before_piece, length_goes_on}
 use Rattle.dimacs_lines.proofs.reader.Lines.find_end.Goals as goal
 

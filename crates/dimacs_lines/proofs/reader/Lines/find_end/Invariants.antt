@@ -1,7 +1,6 @@
 use Rattle.std.proofs.Common.{◌≡◌, ◌-◌, length}
 use Rattle.std.specs.List.{position_or_len}
-use Rattle.dimacs_lines.specs.Lines.{is_end}
-use Rattle.dimacs_lines.specs.Reader.{text_left}
+use Rattle.dimacs_lines.specs.{Lines.{is_end}, Reader.{text_left}}
 use Rattle.dimacs_lines.proofs.reader.Lines.find_end.Given as goal
 
 abbrev pub invariant-loop-length : goal.invariant-loop-length

@@ -1,7 +1,6 @@
 use Rattle.std.proofs.Common.{◌≡◌, ◌≤◌, ◌-◌, ◌+◌, ap, ◌∙◌, arith, refl, length, take, drop}
-use Rattle.std.specs.Prelude.{slice_range}
-use Rattle.std.specs.List.{position_or_len}
 use Rattle.std.proofs.lemmas.List.Edits.{length-between}
+use Rattle.std.specs.{Prelude.{slice_range}, List.{position_or_len}}
 use Rattle.dimacs_lines.specs.Lines.{is_end}
 use Rattle.dimacs_lines.proofs.PieceLemmas.{first_within_slice, before_first_of_slice, after_first_of_slice}
 use Rattle.dimacs_lines.proofs.reader.Lines.give_line.Goals as goal

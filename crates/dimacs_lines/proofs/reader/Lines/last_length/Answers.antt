@@ -1,6 +1,5 @@
 use Rattle.std.proofs.Common.{◌≤◌, ◌-◌, ap, ◌∙◌, length}
-use Rattle.std.specs.Prelude.{slice_range}
-use Rattle.std.specs.List.{position_or_len}
+use Rattle.std.specs.{Prelude.{slice_range}, List.{position_or_len}}
 use Rattle.dimacs_lines.specs.Lines.{is_end}
 use Rattle.dimacs_lines.proofs.PieceLemmas.{last_of_slice}
 use Rattle.dimacs_lines.proofs.reader.Lines.last_length.Goals as goal

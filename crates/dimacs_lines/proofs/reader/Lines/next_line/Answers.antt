@@ -1,5 +1,4 @@
-use Rattle.std.proofs.Common.{rules}
-use Rattle.std.proofs.Common.{◌∙◌}
+use Rattle.std.proofs.Common.{rules, ◌∙◌}
 use Rattle.dimacs_lines.proofs.ReaderLemmas.{answers_left}
 use Rattle.dimacs_lines.proofs.reader.Lines.next_line.Goals as goal
 

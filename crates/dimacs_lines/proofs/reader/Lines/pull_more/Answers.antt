@@ -1,9 +1,7 @@
 use Rattle.std.proofs.Common.{◌≡◌, ◌≤◌, ◌-◌, ◌+◌, ◌∙◌, ℕ, List, ap, arith, length, take, drop, length-take}
+use Rattle.std.proofs.{lemmas.List.{with_items_is}, lemmas.Slice.{between_from_start}}
 use Rattle.std.specs.Prelude.{slice_range}
-use Rattle.std.proofs.lemmas.List.{with_items_is}
-use Rattle.std.proofs.lemmas.Slice.{between_from_start}
-use Rattle.dimacs_lines.specs.inside.Buffer.{IsLaidOut}
-use Rattle.dimacs_lines.specs.Limits.{most_lines, most_held}
+use Rattle.dimacs_lines.specs.{inside.Buffer.{IsLaidOut}, Limits.{most_lines, most_held}}
 use Rattle.dimacs_lines.proofs.PieceLemmas.{held_and_piece, length-piece}
 use Rattle.dimacs_lines.proofs.reader.Lines.pull_more.Goals as goal
 

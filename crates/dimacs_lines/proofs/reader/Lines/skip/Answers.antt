@@ -1,7 +1,6 @@
 use Rattle.std.proofs.Common.{◌≡◌, ◌≤◌, ◌+◌, ◌-◌, ℕ, List, ap, sym, ◌∙◌, arith, length, take, drop}
+use Rattle.std.proofs.{lemmas.List.{drop-take, drop-drop}, lemmas.List.Edits.{length-between}}
 use Rattle.std.specs.Prelude.{slice_range}
-use Rattle.std.proofs.lemmas.List.{drop-take, drop-drop}
-use Rattle.std.proofs.lemmas.List.Edits.{length-between}
 use Rattle.dimacs_lines.proofs.reader.Lines.skip.Goals as goal
 
 -- the rest of a part of a list

@@ -1,11 +1,7 @@
-use Rattle.std.proofs.Common.{◌≡◌, ◌+◌, ◌-◌, ◌<◌, ◌≤◌, ◌∙◌, ◌∷◌, ℕ, refl, arith, length, take, drop, ap, sym, length-drop}
-use Rattle.std.specs.Prelude.{not}
-use Rattle.std.specs.List.{position_or_len}
-use Rattle.std.proofs.Common.{List, subst}
-use Rattle.std.proofs.lemmas.List.{length-take}
-use Rattle.std.proofs.lemmas.List.Sums.{prefix_len-le-length}
-use Rattle.std.proofs.lemmas.Slice.{between_to_end}
-use Rattle.std.proofs.Math.ListN.{drop_of_length-le}
+use Rattle.std.proofs.Common.{◌≡◌, ◌+◌, ◌-◌, ◌<◌, ◌≤◌, ◌∙◌, ◌∷◌, ℕ, refl, arith, length, take, drop, ap, sym, length-drop, List, subst}
+use Rattle.std.proofs.{lemmas.List.{length-take}, lemmas.List.Sums.{prefix_len-le-length}}
+use Rattle.std.proofs.{lemmas.Slice.{between_to_end}, Math.ListN.{drop_of_length-le}}
+use Rattle.std.specs.{Prelude.{not}, List.{position_or_len}}
 use Rattle.dimacs_lines.specs.Fields.{is_blank, runs_from}
 use Rattle.dimacs_lines.proofs.FieldLemmas.{runs_next, runs_none}
 use Rattle.dimacs_lines.proofs.scan.Scan.next_token.Goals as goal

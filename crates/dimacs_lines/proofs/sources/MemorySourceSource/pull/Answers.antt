@@ -1,6 +1,6 @@
 use Rattle.std.proofs.Common.{◌≡◌, ◌≤◌, ◌<◌, ◌++◌, [], ◌∷◌, ℕ, List, Some, ◌∙◌, ap, ap₂, sym, refl, arith, length, take, drop, take_at}
-use Rattle.std.specs.Prelude.{min}
 use Rattle.std.proofs.lemmas.List.{length-take-le, take-append-drop}
+use Rattle.std.specs.Prelude.{min}
 use Rattle.dimacs_lines.proofs.sources.MemorySourceSource.pull.Goals as goal
 
 -- what was copied to the front, and what is left, are the text

@@ -1,8 +1,5 @@
-use Rattle.std.proofs.Common.{◌≡◌, get_or, ap, sym, ◌∙◌}
-use Rattle.std.proofs.lemmas.Option.{get_or_from_slice_get}
-use Rattle.dimacs_network.specs.AdjacencyLists.{end_at, end_of}
-use Rattle.dimacs_network.specs.Arcs.{no_arc}
-use Rattle.dimacs_network.specs.Tables.{value_of}
+use Rattle.std.proofs.{Common.{◌≡◌, get_or, ap, sym, ◌∙◌}, lemmas.Option.{get_or_from_slice_get}}
+use Rattle.dimacs_network.specs.{AdjacencyLists.{end_at, end_of}, Arcs.{no_arc}, Tables.{value_of}}
 use Rattle.dimacs_network.proofs.LinkLemmas.{linked_more}
 use Rattle.dimacs_network.proofs.adjacency_lists.AdjacencyLists.new.Goals as goal
 

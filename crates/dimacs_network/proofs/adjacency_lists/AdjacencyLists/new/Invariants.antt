@@ -1,5 +1,4 @@
-use Rattle.dimacs_network.specs.Tables.{value_of}
-use Rattle.dimacs_network.specs.AdjacencyLists.{AreLinked}
+use Rattle.dimacs_network.specs.{Tables.{value_of}, AdjacencyLists.{AreLinked}}
 use Rattle.dimacs_network.proofs.adjacency_lists.AdjacencyLists.new.Given as goal
 
 abbrev pub invariant-loop-i : goal.invariant-loop-i

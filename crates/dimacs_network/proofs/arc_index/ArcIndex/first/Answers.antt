@@ -1,5 +1,4 @@
-use Rattle.std.proofs.Common.{rules}
-use Rattle.std.proofs.lemmas.List.Sorted.{IsPartitionPoint-from_clause}
+use Rattle.std.proofs.{Common.{rules}, lemmas.List.Sorted.{IsPartitionPoint-from_clause}}
 use Rattle.dimacs_network.specs.inside.ArcOrder.{is_before_ends}
 use Rattle.dimacs_network.proofs.ArcOrderLemmas.{are_parted, first_parted}
 use Rattle.dimacs_network.proofs.arc_index.ArcIndex.first.Goals as goal

@@ -1,5 +1,4 @@
-use Rattle.std.proofs.Common.{refl}
-use Rattle.std.proofs.lemmas.Result.{on_err_weaker}
+use Rattle.std.proofs.{Common.{refl}, lemmas.Result.{on_err_weaker}}
 use Rattle.dimacs_network.proofs.MapLemmas.{HasSlot-value, made_of-same, made_of-set_ok}
 use Rattle.dimacs_network.proofs.node_map.NodeMap.set.Goals as goal
 

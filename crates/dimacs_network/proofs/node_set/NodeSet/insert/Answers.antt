@@ -1,8 +1,7 @@
-use Rattle.std.proofs.Common.{ap, ◌∙◌, ◌/◌}
+use Rattle.std.proofs.{Common.{ap, ◌∙◌, ◌/◌}, lemmas.Bool.{false≢true}}
 use Rattle.dimacs_network.specs.Sets.{byte_at, has_bit}
-use Rattle.std.specs.FinSet as set
-use Rattle.std.proofs.lemmas.Bool.{false≢true}
 use Rattle.dimacs_network.proofs.SetLemmas.{has_byte, nodes_in-insert, nodes_in-same, nodes_in-same_err}
+use Rattle.std.specs.FinSet as set
 use Rattle.dimacs_network.proofs.node_set.NodeSet.insert.Goals as goal
 
 pub returns-in_err-reserve-clause-unchanged : goal.returns-in_err-reserve-clause-unchanged

@@ -1,8 +1,7 @@
 use Rattle.std.proofs.Common.{◌≡◌, ◌≤◌, ◌<◌, ◌+◌, ◌-◌, ◌*◌, ◌/◌, ◌++◌, ◌∙◌, ap, length, replicate, arith, rules, refl}
-use Rattle.std.specs.Vec.{vec_len}
 use Rattle.std.proofs.lemmas.List.{take_all}
-use Rattle.dimacs_network.specs.declared.node_table.TheConstants.{NO_PAGE}
-use Rattle.dimacs_network.specs.Slots.{place_of}
+use Rattle.std.specs.Vec.{vec_len}
+use Rattle.dimacs_network.specs.{declared.node_table.TheConstants.{NO_PAGE}, Slots.{place_of}}
 use Rattle.dimacs_network.proofs.SlotLemmas.{same_directory, place_of-same, slot_value-same, page_values, page_place, replicate_blank}
 use Rattle.dimacs_network.proofs.node_table.NodeTable.allocate_page.Goals as goal
 

@@ -1,5 +1,4 @@
-use Rattle.std.proofs.Common.{◌∙◌}
-use Rattle.std.proofs.lemmas.List.{with_items_is}
+use Rattle.std.proofs.{Common.{◌∙◌}, lemmas.List.{with_items_is}}
 use Rattle.dimacs_network.proofs.SlotLemmas.{slot_value-blank}
 use Rattle.dimacs_network.proofs.node_table.NodeTable.clear.Goals as goal
 

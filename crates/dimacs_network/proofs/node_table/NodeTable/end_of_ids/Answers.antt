@@ -1,6 +1,5 @@
-use Rattle.std.proofs.Common.{◌≡◌, ◌/◌, length, arith, rules}
+use Rattle.std.proofs.{Common.{◌≡◌, ◌/◌, length, arith, rules}, lemmas.List.{get_or_past}}
 use Rattle.std.specs.Vec.{vec_len}
-use Rattle.std.proofs.lemmas.List.{get_or_past}
 use Rattle.dimacs_network.specs.declared.node_table.TheConstants.{NO_PAGE}
 use Rattle.dimacs_network.proofs.SlotLemmas.{slot_value-no_page}
 use Rattle.dimacs_network.proofs.node_table.NodeTable.end_of_ids.Goals as goal

@@ -1,7 +1,6 @@
 use Rattle.std.proofs.Common.{◌≡◌, ◌∙◌, ℕ, None, Some, Bor, arith}
 use Rattle.std.specs.Slice.{IsItemAt}
-use Rattle.dimacs_network.specs.Slots.{place_of}
-use Rattle.dimacs_network.specs.Tables.{HasSlot, blank_of, value_of}
+use Rattle.dimacs_network.specs.{Slots.{place_of}, Tables.{HasSlot, blank_of, value_of}}
 use Rattle.dimacs_network.specs.declared.node_table.NodeTable.{NodeTable}
 use Rattle.dimacs_network.proofs.SlotLemmas.{slot_value-found, slot_value-past}
 use Rattle.dimacs_network.proofs.node_table.NodeTable.get_slot.Goals as goal

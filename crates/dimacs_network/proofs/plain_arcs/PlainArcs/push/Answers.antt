@@ -1,5 +1,4 @@
-use Rattle.std.proofs.Common.{◌≡◌, ◌<◌, ◌+◌, ◌∙◌, length, arith, refl, ap}
-use Rattle.std.proofs.lemmas.List.{length_push}
+use Rattle.std.proofs.{Common.{◌≡◌, ◌<◌, ◌+◌, ◌∙◌, length, arith, refl, ap}, lemmas.List.{length_push}}
 use Rattle.dimacs_lines.specs.Limits.{most_count}
 use Rattle.dimacs_network.proofs.KeptLemmas.{kept_long, kept_push}
 use Rattle.dimacs_network.proofs.plain_arcs.PlainArcs.push.Goals as goal

@@ -1,6 +1,5 @@
-use Rattle.std.proofs.Common.{◌≡◌, SFits, rules, sym, ◌∙◌, ap}
+use Rattle.std.proofs.{Common.{◌≡◌, SFits, rules, sym, ◌∙◌, ap}, lemmas.Int.{to_z-of_z}}
 use Rattle.std.specs.Int.{w128}
-use Rattle.std.proofs.lemmas.Int.{to_z-of_z}
 use Rattle.dimacs_network.specs.Maps.{below_greatest}
 use Rattle.dimacs_network.proofs.MapLemmas.{below_greatest-none, get-made_of}
 use Rattle.dimacs_network.proofs.wide_map.WideMap.get.Goals as goal

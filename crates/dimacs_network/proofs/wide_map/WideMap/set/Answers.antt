@@ -1,6 +1,5 @@
 use Rattle.std.specs.Int.{w128}
-use Rattle.std.proofs.lemmas.Int.{to_z-of_z}
-use Rattle.std.proofs.lemmas.Result.{on_err_weaker}
+use Rattle.std.proofs.{lemmas.Int.{to_z-of_z}, lemmas.Result.{on_err_weaker}}
 use Rattle.dimacs_network.proofs.MapLemmas.{HasSlot-value, below_greatest-none, below_greatest-some, made_of-same, made_of-set_ok}
 use Rattle.dimacs_network.proofs.wide_map.WideMap.set.Goals as goal
 

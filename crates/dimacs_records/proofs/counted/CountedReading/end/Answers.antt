@@ -1,5 +1,4 @@
-use Rattle.std.proofs.Common.{◌≡◌, ◌∙◌, [], refl, sym}
-use Rattle.std.proofs.lemmas.Result.{err_from_is_err_and}
+use Rattle.std.proofs.{Common.{◌≡◌, ◌∙◌, [], refl, sym}, lemmas.Result.{err_from_is_err_and}}
 use Rattle.dimacs_records.specs.Readings.{records_of}
 use Rattle.dimacs_records.proofs.OrderLemmas.{end_refused_by_records, none_at_end}
 use Rattle.dimacs_records.proofs.counted.CountedReading.end.Goals as goal

@@ -1,10 +1,7 @@
-use Rattle.std.proofs.Common.{◌≡◌, ◌++◌, ◌∷◌, [], ◌∙◌, ℕ, List, ap, subst, sym, true}
-use Rattle.std.proofs.lemmas.List.{map-append}
+use Rattle.std.proofs.{Common.{◌≡◌, ◌++◌, ◌∷◌, [], ◌∙◌, ℕ, List, ap, subst, sym, true}, lemmas.List.{map-append}}
 use Rattle.std.proofs.lemmas.Result.{err_from_is_err_and}
-use Rattle.dimacs_records.specs.Conditions.{needs_problem}
-use Rattle.dimacs_records.specs.Readings.{LineRecord, on_line, records_of}
-use Rattle.dimacs_records.specs.declared.records.Record.{Record}
-use Rattle.dimacs_records.specs.Spelling.{kind_of}
+use Rattle.dimacs_records.specs.{Conditions.{needs_problem}, Readings.{LineRecord, on_line, records_of}}
+use Rattle.dimacs_records.specs.{declared.records.Record.{Record}, Spelling.{kind_of}}
 use Rattle.dimacs_records.proofs.OrderLemmas.{allowed_by_records, refused_by_records}
 use Rattle.dimacs_records.proofs.counted.CountedReadingReading.take.Goals as goal
 

@@ -1,8 +1,5 @@
-use Rattle.std.proofs.Common.{◌≡◌, refl, sym, rules, w64, SFits, None}
-use Rattle.std.proofs.lemmas.Int.{to_z-of_z}
-use Rattle.dimacs_records.specs.Forms.{Number}
-use Rattle.dimacs_records.specs.Spelling.{Amount, SpellsField}
-use Rattle.dimacs_records.specs.inside.FieldReader.{field_reason}
+use Rattle.std.proofs.{Common.{◌≡◌, refl, sym, rules, w64, SFits, None}, lemmas.Int.{to_z-of_z}}
+use Rattle.dimacs_records.specs.{Forms.{Number}, Spelling.{Amount, SpellsField}, inside.FieldReader.{field_reason}}
 use Rattle.dimacs_records.proofs.FieldLemmas.{field_reason-said, or_else-none}
 use Rattle.dimacs_records.proofs.field_reader.FieldReader.range.Goals as goal
 

@@ -1,9 +1,6 @@
-use Rattle.std.proofs.Common.{◌≡◌, refl, sym, rules, SFits, None}
+use Rattle.std.proofs.{Common.{◌≡◌, refl, sym, rules, SFits, None}, lemmas.Int.{to_z-of_z}}
 use Rattle.std.specs.Int.{w128}
-use Rattle.std.proofs.lemmas.Int.{to_z-of_z}
-use Rattle.dimacs_records.specs.Forms.{Wide}
-use Rattle.dimacs_records.specs.Spelling.{Amount, SpellsField}
-use Rattle.dimacs_records.specs.inside.FieldReader.{field_reason}
+use Rattle.dimacs_records.specs.{Forms.{Wide}, Spelling.{Amount, SpellsField}, inside.FieldReader.{field_reason}}
 use Rattle.dimacs_records.proofs.FieldLemmas.{field_reason-said, or_else-none}
 use Rattle.dimacs_records.proofs.field_reader.FieldReader.wide.Goals as goal
 

@@ -1,8 +1,7 @@
 use Rattle.std.proofs.Common.{refl, [], ◌∷◌}
 use Rattle.std.specs.Prelude.{codes}
-use Rattle.dimacs_records.specs.declared.kinds.TextKind.TheVariants.{Cut}
+use Rattle.dimacs_records.specs.{declared.kinds.TextKind.TheVariants.{Cut}, Forms.{Id}}
 use Rattle.dimacs_records.specs.declared.records.Record.TheVariants.{CutNode}
-use Rattle.dimacs_records.specs.Forms.{Id}
 use Rattle.dimacs_records.proofs.FormLemmas.{reads_form}
 use Rattle.dimacs_records.proofs.lines.cut.node.Goals as goal
 

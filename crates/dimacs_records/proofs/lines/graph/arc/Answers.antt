@@ -1,10 +1,7 @@
-use Rattle.std.proofs.Common.{◌≡◌, refl, [], ◌∷◌, rules, SFits, w64}
-use Rattle.std.proofs.lemmas.Int.{to_z-of_z}
+use Rattle.std.proofs.{Common.{◌≡◌, refl, [], ◌∷◌, rules, SFits, w64}, lemmas.Int.{to_z-of_z}}
 use Rattle.std.specs.Prelude.{codes}
-use Rattle.dimacs_records.specs.declared.kinds.TextKind.TheVariants.{Graph}
-use Rattle.dimacs_records.specs.declared.records.Record.TheVariants.{GraphArc}
-use Rattle.dimacs_records.specs.Forms.{Id, Whole}
-use Rattle.dimacs_records.specs.inside.FieldReader.{finished}
+use Rattle.dimacs_records.specs.{declared.kinds.TextKind.TheVariants.{Graph}, Forms.{Id, Whole}}
+use Rattle.dimacs_records.specs.{declared.records.Record.TheVariants.{GraphArc}, inside.FieldReader.{finished}}
 use Rattle.dimacs_records.proofs.FormLemmas.{reads_form}
 use Rattle.dimacs_records.proofs.lines.graph.arc.Goals as goal
 

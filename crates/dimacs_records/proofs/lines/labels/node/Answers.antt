@@ -1,11 +1,7 @@
-use Rattle.std.proofs.Common.{◌≡◌, refl, [], ◌∷◌, rules, SFits}
-use Rattle.std.specs.Int.{w128}
-use Rattle.std.proofs.lemmas.Int.{to_z-of_z}
-use Rattle.std.specs.Prelude.{codes}
-use Rattle.dimacs_records.specs.declared.kinds.TextKind.TheVariants.{Labels}
-use Rattle.dimacs_records.specs.declared.records.Record.TheVariants.{LabelsNode}
-use Rattle.dimacs_records.specs.Forms.{Id, Wide}
-use Rattle.dimacs_records.specs.inside.FieldReader.{finished}
+use Rattle.std.proofs.{Common.{◌≡◌, refl, [], ◌∷◌, rules, SFits}, lemmas.Int.{to_z-of_z}}
+use Rattle.std.specs.{Int.{w128}, Prelude.{codes}}
+use Rattle.dimacs_records.specs.{declared.kinds.TextKind.TheVariants.{Labels}, Forms.{Id, Wide}}
+use Rattle.dimacs_records.specs.{declared.records.Record.TheVariants.{LabelsNode}, inside.FieldReader.{finished}}
 use Rattle.dimacs_records.proofs.FormLemmas.{reads_form}
 use Rattle.dimacs_records.proofs.lines.labels.node.Goals as goal
 

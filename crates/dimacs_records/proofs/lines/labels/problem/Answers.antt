@@ -1,8 +1,7 @@
 use Rattle.std.proofs.Common.{refl, [], ◌∷◌}
 use Rattle.std.specs.Prelude.{codes}
-use Rattle.dimacs_records.specs.declared.kinds.TextKind.TheVariants.{Labels}
+use Rattle.dimacs_records.specs.{declared.kinds.TextKind.TheVariants.{Labels}, Forms.{Word, Nodes, Count}}
 use Rattle.dimacs_records.specs.declared.records.Record.TheVariants.{LabelsProblem}
-use Rattle.dimacs_records.specs.Forms.{Word, Nodes, Count}
 use Rattle.dimacs_records.proofs.FormLemmas.{reads_form}
 use Rattle.dimacs_records.proofs.lines.labels.problem.Goals as goal
 

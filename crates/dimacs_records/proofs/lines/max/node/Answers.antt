@@ -1,8 +1,7 @@
 use Rattle.std.proofs.Common.{refl, [], ◌∷◌}
 use Rattle.std.specs.Prelude.{codes}
-use Rattle.dimacs_records.specs.declared.kinds.TextKind.TheVariants.{Max}
+use Rattle.dimacs_records.specs.{declared.kinds.TextKind.TheVariants.{Max}, Forms.{Either, Id}}
 use Rattle.dimacs_records.specs.declared.records.Record.TheVariants.{MaxNode}
-use Rattle.dimacs_records.specs.Forms.{Either, Id}
 use Rattle.dimacs_records.proofs.FormLemmas.{reads_form}
 use Rattle.dimacs_records.proofs.lines.max.node.Goals as goal
 

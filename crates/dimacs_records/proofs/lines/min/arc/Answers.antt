@@ -1,10 +1,7 @@
-use Rattle.std.proofs.Common.{◌≡◌, refl, [], ◌∷◌, rules, SFits, w64}
-use Rattle.std.proofs.lemmas.Int.{to_z-of_z}
+use Rattle.std.proofs.{Common.{◌≡◌, refl, [], ◌∷◌, rules, SFits, w64}, lemmas.Int.{to_z-of_z}}
 use Rattle.std.specs.Prelude.{codes}
-use Rattle.dimacs_records.specs.declared.kinds.TextKind.TheVariants.{Min}
-use Rattle.dimacs_records.specs.declared.records.Record.TheVariants.{MinArc}
-use Rattle.dimacs_records.specs.Forms.{Id, Whole}
-use Rattle.dimacs_records.specs.inside.FieldReader.{finished}
+use Rattle.dimacs_records.specs.{declared.kinds.TextKind.TheVariants.{Min}, Forms.{Id, Whole}}
+use Rattle.dimacs_records.specs.{declared.records.Record.TheVariants.{MinArc}, inside.FieldReader.{finished}}
 use Rattle.dimacs_records.proofs.FormLemmas.{reads_form}
 use Rattle.dimacs_records.proofs.lines.min.arc.Goals as goal
 

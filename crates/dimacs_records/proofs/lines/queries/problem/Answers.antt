@@ -1,8 +1,7 @@
 use Rattle.std.proofs.Common.{refl, [], ◌∷◌}
 use Rattle.std.specs.Prelude.{codes}
-use Rattle.dimacs_records.specs.declared.kinds.TextKind.TheVariants.{Queries}
+use Rattle.dimacs_records.specs.{declared.kinds.TextKind.TheVariants.{Queries}, Forms.{Word, Either, Count}}
 use Rattle.dimacs_records.specs.declared.records.Record.TheVariants.{QueriesProblem}
-use Rattle.dimacs_records.specs.Forms.{Word, Either, Count}
 use Rattle.dimacs_records.proofs.FormLemmas.{reads_form}
 use Rattle.dimacs_records.proofs.lines.queries.problem.Goals as goal
 

@@ -1,5 +1,4 @@
-use Rattle.dimacs_claims.proofs.CutLemmas.{cut_round_trip}
-use Rattle.dimacs_claims.proofs.PotentialsLemmas.{potentials_round_trip}
+use Rattle.dimacs_claims.proofs.{CutLemmas.{cut_round_trip}, PotentialsLemmas.{potentials_round_trip}}
 use Rattle.dimacs_runs.proofs.outcome.OutputText.be_readable.Goals as goal
 
 pub returns-in-Cut : goal.returns-in-Cut

@@ -1,5 +1,4 @@
-use Rattle.std.proofs.Common.{◌≤◌, w64, SFits, rules, arith}
-use Rattle.std.proofs.lemmas.Int.{ints}
+use Rattle.std.proofs.{Common.{◌≤◌, w64, SFits, rules, arith}, lemmas.Int.{ints}}
 use Rattle.dimacs_instance.proofs.SummaryLemmas.{counted_more}
 use Rattle.dimacs_instance.proofs.summaries.graph.CountedGraphBuilder.keep.Goals as goal
 

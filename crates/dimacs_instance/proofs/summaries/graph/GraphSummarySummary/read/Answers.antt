@@ -1,10 +1,7 @@
 use Rattle.dimacs_lines.specs.Lines.{lines}
-use Rattle.dimacs_records.specs.declared.kinds.TextKind.TheVariants.{Graph}
-use Rattle.dimacs_records.specs.Faults.{Fault}
-use Rattle.dimacs_instance.specs.Graph.{GivesGraph}
-use Rattle.dimacs_instance.specs.Summaries.{graph_summary}
-use Rattle.dimacs_instance.proofs.GraphLemmas.{one_graph}
-use Rattle.dimacs_instance.proofs.SummaryLemmas.{reads_summary}
+use Rattle.dimacs_records.specs.{declared.kinds.TextKind.TheVariants.{Graph}, Faults.{Fault}}
+use Rattle.dimacs_instance.specs.{Graph.{GivesGraph}, Summaries.{graph_summary}}
+use Rattle.dimacs_instance.proofs.{GraphLemmas.{one_graph}, SummaryLemmas.{reads_summary}}
 use Rattle.dimacs_instance.proofs.summaries.graph.GraphSummarySummary.read.Goals as goal
 
 pub returns-clause-reads : goal.returns-clause-reads

@@ -1,5 +1,4 @@
-use Rattle.std.proofs.Common.{◌≤◌, w64, SFits, rules, arith}
-use Rattle.std.proofs.lemmas.Int.{ints}
+use Rattle.std.proofs.{Common.{◌≤◌, w64, SFits, rules, arith}, lemmas.Int.{ints}}
 use Rattle.dimacs_instance.proofs.MaxCountLemmas.{one_more_arc, one_more_node}
 use Rattle.dimacs_instance.proofs.summaries.max.CountedMaxBuilder.keep.Goals as goal
 

@@ -1,10 +1,7 @@
 use Rattle.dimacs_lines.specs.Lines.{lines}
-use Rattle.dimacs_records.specs.declared.kinds.TextKind.TheVariants.{Max}
-use Rattle.dimacs_records.specs.Faults.{Fault}
-use Rattle.dimacs_instance.specs.MaxTexts.{GivesMax}
-use Rattle.dimacs_instance.specs.Summaries.{max_summary}
-use Rattle.dimacs_instance.proofs.MaxTextLemmas.{one_max}
-use Rattle.dimacs_instance.proofs.SummaryLemmas.{reads_summary}
+use Rattle.dimacs_records.specs.{declared.kinds.TextKind.TheVariants.{Max}, Faults.{Fault}}
+use Rattle.dimacs_instance.specs.{MaxTexts.{GivesMax}, Summaries.{max_summary}}
+use Rattle.dimacs_instance.proofs.{MaxTextLemmas.{one_max}, SummaryLemmas.{reads_summary}}
 use Rattle.dimacs_instance.proofs.summaries.max.MaxSummarySummary.read.Goals as goal
 
 pub returns-clause-reads : goal.returns-clause-reads

@@ -1,5 +1,4 @@
-use Rattle.std.proofs.Common.{◌≤◌, w64, SFits, rules, arith}
-use Rattle.std.proofs.lemmas.Int.{to_z-of_z, ints}
+use Rattle.std.proofs.{Common.{◌≤◌, w64, SFits, rules, arith}, lemmas.Int.{to_z-of_z, ints}}
 use Rattle.dimacs_network.specs.declared.network.ArcView.{ArcView}
 use Rattle.dimacs_instance.proofs.MinLemmas.{law_after_set}
 use Rattle.dimacs_instance.proofs.MinCountLemmas.{counted_node, one_more_arc, one_more_node}

@@ -1,12 +1,8 @@
-use Rattle.std.proofs.Common.{Err, Ok}
-use Rattle.std.proofs.lemmas.Result.{err_from_is_err_and}
+use Rattle.std.proofs.{Common.{Err, Ok}, lemmas.Result.{err_from_is_err_and}}
 use Rattle.dimacs_lines.specs.Lines.{lines}
-use Rattle.dimacs_records.specs.declared.kinds.TextKind.TheVariants.{Min}
-use Rattle.dimacs_records.specs.Faults.{Fault}
-use Rattle.dimacs_instance.specs.MinTexts.{GivesMin}
-use Rattle.dimacs_instance.specs.Summaries.{min_nodes}
-use Rattle.dimacs_instance.proofs.MinTextLemmas.{one_min}
-use Rattle.dimacs_instance.proofs.SummaryLemmas.{reads_summary}
+use Rattle.dimacs_records.specs.{declared.kinds.TextKind.TheVariants.{Min}, Faults.{Fault}}
+use Rattle.dimacs_instance.specs.{MinTexts.{GivesMin}, Summaries.{min_nodes}}
+use Rattle.dimacs_instance.proofs.{MinTextLemmas.{one_min}, SummaryLemmas.{reads_summary}}
 use Rattle.dimacs_instance.proofs.summaries.min.MinSummarySummary.read.Goals as goal
 
 pub returns-in_err-read_counted-clause-reads : goal.returns-in_err-read_counted-clause-reads
