@@ -343,6 +343,14 @@ OF_BETTER = "the flow is feasible, and a better one has the value 6: it goes to 
 NAMED = "printf 'p sp 1 1\\n' >$'\u00e9\\nv max 6'; '{}' explain convert gr $'\u00e9\\nv max 6'"
 IN_NAME = "\u00e9\\x0av max 6: ends after line 1\n0 arc lines of the 1 that line 1 declares\n"
 
+# A file that is full after the first line.
+FULL = "trap '' XFSZ; ulimit -f 1; head -c 1010 /dev/zero >out; '{}' explain judge-max I S C 2>&1 >>out; echo $?; tail -c +1011 out"
+OF_FULL = """dimacs: device fault
+dimacs: standard output: cannot be written: File too large (os error 27)
+3
+v max 6
+on the"""
+
 # A line of what a pipe gave, which is empty the second time.
 GIVEN = "mkfifo pipe; printf 'p sp 1 1\\ne 1 1 0\\n' >pipe & timeout 20 '{}' explain show gr pipe"
 OF_PIPE = """x instance 2 1 UnknownLine
@@ -362,6 +370,7 @@ def shell_runs(binary):
     yield LONG.format(binary, MOST_KEPT + 6), 1, f"x solution 1 2 NotMaximum\n{LEFT_OUT_LINES}{OF_BETTER}"
     yield GIVEN.format(binary), 1, OF_PIPE
     yield NAMED.format(binary), 1, f"x instance 2 0 TooFew\n{IN_NAME}"
+    yield FULL.format(binary), 0, OF_FULL
 
 
 def shell_fault(commands, status, printed):

@@ -14,8 +14,8 @@ use crate::misuse::{complaint_of, complaint_of_bytes};
 use crate::usage::Command;
 use dimacs_lines::{FileSink, Sink, put_all};
 use dimacs_runs::{
-    CommandError, Failure, NO_RUN, ReportKeeper, Request, RunError, Status, command_status,
-    complaint, exit_status, explain_job, request, run_job, version,
+    CommandError, Failure, NO_RUN, Request, RunError, Status, command_status, complaint,
+    exit_status, explain_job, request, run_job, version,
 };
 use std::alloc::{AllocError, Global};
 use std::fs::File;
@@ -54,7 +54,7 @@ fn run(rt: &HostRuntime, arguments: &[String]) -> u8 {
         Request::Explain(_) => SystemFiles::that_keep(rt),
         _ => SystemFiles::new(rt),
     };
-    let mut output = ReportKeeper::new(FileSink::new(io::writer(rt)));
+    let mut output = FileSink::new(io::writer(rt));
     let ended = match wanted {
         Request::Help => print(usage::of_all(rt.alloc()), &mut output),
         Request::HelpOn(name) => print(help_on(rt.alloc(), name), &mut output),
@@ -67,7 +67,7 @@ fn run(rt: &HostRuntime, arguments: &[String]) -> u8 {
     if let Err(CommandError::Device(failure)) = ended {
         let reason = match failure {
             Failure::File(..) => files.reason(),
-            Failure::Output => output.sink().reason(),
+            Failure::Output => output.reason(),
         };
         print_failure(rt, failure, reason);
     }

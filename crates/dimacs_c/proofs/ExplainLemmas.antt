@@ -1,12 +1,12 @@
 -- The report of a command over texts in memory, and what follows it.
-use Rattle.std.proofs.Common.{◌≡◌, ◌∙◌, ◌++◌, ℕ, Bool, true, false, List, [], ◌∷◌, Option, None, Some, Ok, ap, append-nil, inl, inr, map, refl, subst, sym}
+use Rattle.std.proofs.Common.{◌≡◌, ◌∙◌, ◌++◌, ℕ, Bool, true, false, List, [], ◌∷◌, Option, None, Some, Result, Ok, Err, ap, append-nil, inl, inr, map, refl, subst, sym}
 use Rattle.std.proofs.lemmas.Bool.{false≢true}
 use Rattle.dimacs_lines.specs.Devices.{Written, after_piece}
-use Rattle.dimacs_runs.specs.{declared.jobs.Job.{Job}, declared.status.Status.{Status}, Files.{FilesSeen, WrittenFile}}
+use Rattle.dimacs_runs.specs.{declared.failure.CommandError.{CommandError}, declared.jobs.Job.{Job}, Runs.{Prints}}
 use Rattle.dimacs_runs.specs.declared.jobs.Job.TheVariants.{Convert, Show, Judge, Certify, Spread, Solve}
-use Rattle.dimacs_runs.specs.{declared.text.TextForm.TheVariants.{Canonical, Summary}, Runs.{Prints}}
+use Rattle.dimacs_runs.specs.{declared.status.Status.{Status}, declared.text.TextForm.TheVariants.{Canonical, Summary}}
 use Rattle.dimacs_runs.specs.Commands.{Reporting, ReportsJudged, ReportsOne, RunsFiles, RunsJob, Seen, accepted_after, plan_of, reads, seen_by}
-use Rattle.dimacs_runs.specs.Explained.{MayFollow}
+use Rattle.dimacs_runs.specs.{Files.{FilesSeen, WrittenFile}, Explained.{EndsWith, FollowedBy, is_explained}}
 use Rattle.dimacs_c.specs.Explained.{Reported, ReportsJob, printing}
 use Rattle.dimacs_c.proofs.CallLemmas.{bytes_of}
 
@@ -18,9 +18,28 @@ one_piece : (accepted : Option (List ℕ)) (more bytes : List ℕ) → after_pie
 one_piece None more bytes is = absurd cc
 one_piece (Some report) more bytes is = (report, more, refl, sym (bytes_of is), λ not. absurd (false≢true (sym not)))
 
-pub front_of : (explained : Bool) (output new : Written) (bytes : List ℕ) → MayFollow explained output new → new.accepted ≡ Some bytes → IsFront explained output.accepted bytes
-front_of true output new bytes follows is = one_piece output.accepted follows.0 bytes (sym follows.1 ∙ is)
-front_of false output new bytes same is = (bytes, [], sym (ap (λ (w : Written). w.accepted) same) ∙ is, sym (append-nil bytes), λ not. refl)
+front_of : (explained : Bool) (status : Status) (ended : Result Status CommandError) (output new : Written) (bytes : List ℕ)
+    → EndsWith explained status ended output new → new.accepted ≡ Some bytes → IsFront explained output.accepted bytes
+front_of true status ended output new bytes follows is = one_piece output.accepted follows.more bytes (sym follows.accepted ∙ is)
+front_of false status ended output new bytes same is = (bytes, [], sym (ap (λ (w : Written). w.accepted) same.1) ∙ is, sym (append-nil bytes), λ not. refl)
+
+abbrev status_in : Status → Result Status CommandError → Status
+status_in other (Ok status) = status
+status_in other (Err error) = other
+
+-- an explanation that ends well ends with the run's status
+same_status : (explained : Bool) (status s : Status) (output new : Written) → EndsWith explained status (Ok s) output new → s ≡ status
+same_status true status s output new follows = elim follows.end [ | inl is ↦ ap (status_in s) is | inr never ↦ absurd cc ]
+same_status false status s output new same = ap (status_in s) same.0
+
+-- the run ended so too, and its report comes first
+pub ran_so : (wanted : Job) (ran : Result Status CommandError) (s : Status) (output new : Written) (bytes : List ℕ) → FollowedBy wanted ran (Ok s) output new
+    → new.accepted ≡ Some bytes → (ran ≡ Ok s) × IsFront (is_explained wanted s) output.accepted bytes
+ran_so wanted (Ok status) s output new bytes follows is =
+    let same : status ≡ s = sym (same_status (is_explained wanted status) status s output new follows) in
+    let front = front_of (is_explained wanted status) status (Ok s) output new bytes follows is in
+    (rw same refl, subst (λ (it : Status). IsFront (is_explained wanted it) output.accepted bytes) same front)
+ran_so wanted (Err error) s output new bytes follows is = let never = follows.0 in absurd cc
 
 -- ---- the report is the one of the texts
 only_output : (written : List WrittenFile) (output : Option (List ℕ)) → map (λ (file : WrittenFile). file.name) written ≡ [] → accepted_after written output ≡ output ∷ []

@@ -6,7 +6,7 @@ ghost use Rattle.dimacs_c.specs.{Calls.{handed}, Explained.{AnswersCommand, file
 use crate::answer::{end, misuse};
 use crate::named_texts::NamedTexts;
 use dimacs_lines::{MemorySink, fields};
-use dimacs_runs::{ReportKeeper, RunError, explain_job, job};
+use dimacs_runs::{RunError, explain_job, job};
 use std::alloc::{AllocError, Global};
 
 /// Runs a command over texts, and explains what it answers, as `dimacs explain`. The words of `command` that name files
@@ -52,9 +52,9 @@ fn explain(
     let Some(wanted) = job(arguments) else {
         return misuse(needed);
     };
-    let mut output = ReportKeeper::new(MemorySink::new(alloc));
+    let mut output = MemorySink::new(alloc);
     let ended = explain_job(alloc, wanted, texts, &mut output);
-    let bytes = output.sink().bytes();
+    let bytes = output.bytes();
     match ended {
         Ok(status) => end(Ok(status), bytes, out, needed),
         Err(_) => end(Err(RunError::Memory), bytes, out, needed),

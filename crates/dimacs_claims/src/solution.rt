@@ -97,10 +97,6 @@ impl<P: Place> Reading for SolutionReading<P> {
 
     ghost gives = { λ rs placed. GivesPlaced placed.value placed.value_line (P.stands_for placed.place) rs };
 
-    ghost Fixed = { P.Fixed };
-
-    ghost fixed = { λ reading. P.fixed reading.place };
-
     ghost keeps = { λ reading placed. P.fixed placed.place ≡ P.fixed reading.place };
 
     #[inline(always)]

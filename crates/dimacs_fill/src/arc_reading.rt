@@ -70,8 +70,6 @@ impl<'a, B: Builder> Reading for ArcReading<'a, B> {
 
     ghost gives = { λ rs read. B.gives rs read.value × HoldArcs read.columns (arcs_in (records_of rs)) };
 
-    ghost Fixed = { ℕ × ℕ × ℕ × ℕ × ℕ × ℕ };
-
     ghost fixed = { λ reading. names reading };
 
     ghost keeps = { λ reading read. AreLater (columns reading) read.columns };

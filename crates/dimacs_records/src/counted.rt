@@ -122,10 +122,6 @@ impl<B: Builder> Reading for CountedReading<B> {
 
     ghost gives = { λ rs value. B.gives rs value };
 
-    ghost Fixed = { Unit {0} };
-
-    ghost fixed = { λ reading. tt };
-
     #[inline(always)]
     fn take(&mut self, _line: u64, rec: Record) -> Result<(), TakeError> {
         match &mut self.builder {

@@ -1,6 +1,6 @@
 //! Readings: they collect the records of a text and make a value of them.
 
-ghost use Rattle.std.specs.Prelude.{◌≡◌, ◌↔◌, ◌++◌, ◌∷◌, [], List, IfOk, IfErr, OnOk, OnErr, ⊤};
+ghost use Rattle.std.specs.Prelude.{◌≡◌, ◌↔◌, ◌++◌, ◌∷◌, [], ℕ, List, IfOk, IfErr, OnOk, OnErr, ⊤};
 ghost use Rattle.dimacs_records.specs.declared.kinds.TextKind.{TextKind};
 ghost use Rattle.dimacs_records.specs.Readings.{LineRecord, records_of, on_line, AreBefore, IsOfKind, IsAllowed, RefusesRecord, IsComplete, RefusesEnd};
 
@@ -22,10 +22,8 @@ pub trait Reading: Drop {
     /// Which value the records of a text give.
     ghost gives: { List LineRecord → Self.Value → Type 0 };
 
-    ghost Fixed: { Type 0 };
-
-    /// The part of the state that no record changes.
-    ghost fixed: { Self → Fixed };
+    /// Numbers that no record changes. A reading whose caller needs none of them after it leaves this out.
+    ghost fixed: { Self → List ℕ } = { λ _. [] };
 
     /// How the value depends on the reading before its first record. A reading that starts empty leaves this out.
     ghost keeps: { Self → Self.Value → Type 0 } = { λ _ _. ⊤ };

@@ -1,10 +1,12 @@
 -- What `explain` does beside the run that it explains.
-use Rattle.std.specs.Prelude.{ℕ, ◌≡◌, Bool, true, false, List, Option, Result, Ok, Err}
+use Rattle.std.specs.Prelude.{ℕ, ◌≡◌, ◌⊎◌, Bool, true, false, List, Option, Result, Ok, Err}
 use Rattle.dimacs_lines.specs.Devices.{Written, after_piece}
 use Rattle.dimacs_runs.specs.{declared.failure.CommandError.{CommandError}, declared.jobs.Job.{Job}}
-use Rattle.dimacs_runs.specs.{declared.jobs.Job.TheVariants.{Convert, Show, Spread}, declared.status.Status.{Status}}
+use Rattle.dimacs_runs.specs.{declared.failure.CommandError.TheVariants.{Device}, declared.status.Status.{Status}}
+use Rattle.dimacs_runs.specs.declared.failure.Failure.TheVariants.{Output}
+use Rattle.dimacs_runs.specs.declared.jobs.Job.TheVariants.{Convert, Show, Spread}
 use Rattle.dimacs_runs.specs.declared.status.Status.TheVariants.{Done, GaveUp}
-use Rattle.dimacs_runs.specs.Commands.{Contents, RunsJob, Seen, seen_by}
+use Rattle.dimacs_runs.specs.Commands.{Contents, RunsJob, Seen, output_faults, seen_by}
 
 -- a refusal is explained, and the yes of a job that makes a claim
 abbrev pub is_explained : Job → Status → Bool
@@ -14,17 +16,24 @@ is_explained (Show kind file) Done = false
 is_explained (Spread kind files) Done = false
 is_explained job status = true
 
--- the output may have accepted more bytes; without an explanation it is as it was
-abbrev pub MayFollow : Bool → Written → Written → Type 0
-MayFollow true old new = (more : List ℕ) × (new.accepted ≡ after_piece old.accepted more)
-MayFollow false old new = new ≡ old
+-- an explanation ended like this: the run's status is the end, or a failure of the output, which accepted more bytes
+pub record MayFollow (status : Status) (ended : Result Status CommandError) (old new : Written) : Type 0 where
+  pub end : (ended ≡ Ok status) ⊎ (ended ≡ Err (Device Output))
+  pub faults : new.faults ≡ output_faults ended old.faults
+  pub more : List ℕ
+  pub accepted : new.accepted ≡ after_piece old.accepted more
 
-abbrev pub FollowedBy : Job → Result Status CommandError → Written → Written → Type 0
-FollowedBy job (Ok status) old new = MayFollow (is_explained job status) old new
-FollowedBy job (Err error) old new = new ≡ old
+-- without an explanation the run's status is the end, and the output is as it was
+abbrev pub EndsWith : Bool → Status → Result Status CommandError → Written → Written → Type 0
+EndsWith true status ended old new = MayFollow status ended old new
+EndsWith false status ended old new = (ended ≡ Ok status) × (new ≡ old)
 
--- the job ran and ended like this, and did all that was done with the files to write; its output was followed by an
--- explanation
+-- only a run without an error is explained
+abbrev pub FollowedBy : Job → Result Status CommandError → Result Status CommandError → Written → Written → Type 0
+FollowedBy job (Ok status) ended old new = EndsWith (is_explained job status) status ended old new
+FollowedBy job (Err error) ended old new = (ended ≡ Err error) × (new ≡ old)
+
+-- the job ran, and did all that was done with the files to write; its output was followed by an explanation
 abbrev pub Explains : Job → Contents → Option (List ℕ) → Result Status CommandError → Seen → Seen → Type 0
 Explains job holds empty ended old new =
-    (output : Written) × RunsJob job holds empty ended old (seen_by new.files output) × FollowedBy job ended output new.output
+    (ran : Result Status CommandError) × (output : Written) × RunsJob job holds empty ran old (seen_by new.files output) × FollowedBy job ran ended output new.output

@@ -20,7 +20,7 @@ use crate::discard::Discard;
 use crate::early_end::{EarlyEnd, outcome_of};
 use crate::jobs::JudgeKind;
 use crate::outcome::{Outcome, OutputText, write_outcome};
-use crate::report::{Report, ReportSink};
+use crate::report::Report;
 use crate::status::{RunError, Status};
 use crate::texts_in_turn::{place_solution, read};
 use dimacs_claims::Placed;
@@ -44,7 +44,7 @@ use std::alloc::Global;
 ///
 /// Otherwise it writes only a report: the fault of the first text that has one, or, of the judge's tests that need no
 /// certificate, the first that fails. The claim isn't read after an instance with a fault. `Infeasible` has no claim.
-pub fn run_certify<P: Source, Q: Source, C: Sink, K: ReportSink>(
+pub fn run_certify<P: Source, Q: Source, C: Sink, K: Sink>(
     alloc: Global,
     kind: JudgeKind,
     instance: &mut P,
@@ -67,7 +67,7 @@ pub fn run_certify<P: Source, Q: Source, C: Sink, K: ReportSink>(
     ensures unclaimed { kind ≡ judges.Infeasible → claim.new ≡ claim.old }
 {
     let outcome = certify_claim(alloc, kind, instance, claim);
-    write_outcome(outcome, &mut Discard, certificate_out, report)
+    write_outcome(outcome, &mut Discard, certificate_out, report, &mut None)
 }
 
 /// Certifies a claim, and returns what `run_certify` writes.

@@ -7,12 +7,13 @@ use crate::arguments::job;
 use crate::failure::CommandError;
 use crate::files::Files;
 use crate::jobs::Job;
-use crate::report::ReportSink;
+use crate::outcome::Outcome;
 use crate::runs_that_make::{ClaimJob, certify_files, make_of_claim};
 use crate::runs_that_read::{judge_files, print_file};
 use crate::runs_that_write::solve_files;
 use crate::status::{NO_RUN, RunError, Status, exit_status};
 use crate::text::TextForm;
+use dimacs_lines::Sink;
 use std::alloc::Global;
 
 /// Runs what the arguments, without the program's name, ask for. None if they ask for no run. `output` is the standard
@@ -21,7 +22,7 @@ use std::alloc::Global;
 /// It opens the files to read, then creates those to write, in the order of the arguments. The first that fails ends
 /// the run. To certify and to spread, it creates the file later: after it has closed the others, and only if there is a
 /// text to write.
-pub fn run_command<'a, F: Files, K: ReportSink>(
+pub fn run_command<'a, F: Files, K: Sink>(
     alloc: Global,
     arguments: &'a [String],
     files: &mut F,
@@ -48,7 +49,7 @@ pub fn command_status(ended: &Option<Result<Status, CommandError<'_>>>) -> u8
 }
 
 /// The same for a job that arguments ask for.
-pub fn run_job<'a, F: Files, K: ReportSink>(
+pub fn run_job<'a, F: Files, K: Sink>(
     alloc: Global,
     job: Job<'a>,
     files: &mut F,
@@ -59,16 +60,40 @@ pub fn run_job<'a, F: Files, K: ReportSink>(
         (seen_by (F.seen files.old) (K.seen output.old))
         (seen_by (F.seen files.new) (K.seen output.new)) }
 {
+    run_and_keep(alloc, job, files, output, &mut None)
+}
+
+/// The same, and keeps the outcome.
+pub(crate) fn run_and_keep<'a, F: Files, K: Sink>(
+    alloc: Global,
+    job: Job<'a>,
+    files: &mut F,
+    output: &mut K,
+    kept: &mut Option<Outcome>,
+) -> Result<Status, CommandError<'a>>
+    requires { HasFiles job }
+    ensures runs { RunsJob job.entry (F.holds files.old) F.empty result
+        (seen_by (F.seen files.old) (K.seen output.old))
+        (seen_by (F.seen files.new) (K.seen output.new)) }
+{
     match job {
         Job::Convert(kind, name) => {
-            print_file(alloc, TextForm::Canonical, kind, name, files, output)
+            print_file(alloc, TextForm::Canonical, kind, name, files, output, kept)
         }
-        Job::Show(kind, name) => print_file(alloc, TextForm::Summary, kind, name, files, output),
-        Job::Judge(kind, names) => judge_files(alloc, kind, names, files, output),
-        Job::Certify(kind, names) => certify_files(alloc, kind, names, files, output),
+        Job::Show(kind, name) => print_file(
+            alloc,
+            TextForm::Summary,
+            kind,
+            name,
+            files,
+            output,
+            kept,
+        ),
+        Job::Judge(kind, names) => judge_files(alloc, kind, names, files, output, kept),
+        Job::Certify(kind, names) => certify_files(alloc, kind, names, files, output, kept),
         Job::Spread(kind, names) => {
-            make_of_claim(alloc, ClaimJob::Spread(kind), names, files, output)
+            make_of_claim(alloc, ClaimJob::Spread(kind), names, files, output, kept)
         }
-        Job::Solve(job, names) => solve_files(alloc, job, names, files, output),
+        Job::Solve(job, names) => solve_files(alloc, job, names, files, output, kept),
     }
 }

@@ -5,14 +5,13 @@ ghost use Rattle.dimacs_runs.specs.Commands.{seen_by};
 ghost use Rattle.dimacs_runs.specs.Explained as explained;
 ghost use Rattle.dimacs_runs.specs.{Explained.{Explains, FollowedBy}, Jobs.{HasFiles}};
 
-use crate::certify::run_certify;
-use crate::command::run_job;
+use crate::command::run_and_keep;
 use crate::explained_texts::texts_of;
-use crate::failure::CommandError;
+use crate::failure::{CommandError, Failure};
 use crate::files::Files;
-use crate::jobs::{Job, JudgeKind};
+use crate::jobs::Job;
+use crate::outcome::Outcome;
 use crate::report::Report;
-use crate::report_keeper::ReportKeeper;
 use crate::status::Status;
 use dimacs_explain::Explanation;
 use dimacs_judging::Verdict;
@@ -21,39 +20,42 @@ use dimacs_quote::Reopen;
 use std::alloc::Global;
 
 /// Runs a job, and writes lines that explain its yes or its refusal. For these it reads files again, by `Reopen`. If
-/// memory runs out, no explanation is written; if the output fails, at most a part. The result is the run's all the same.
+/// memory runs out, no explanation is written. If the output fails at it, that is the result; else the run's is.
 pub fn explain_job<'a, F: Files + Reopen, K: Sink>(
     alloc: Global,
     job: Job<'a>,
     files: &mut F,
-    output: &mut ReportKeeper<K>,
+    output: &mut K,
 ) -> Result<Status, CommandError<'a>>
     requires { HasFiles job }
     ensures explains { Explains job.entry (F.holds files.old) F.empty result
-        (seen_by (F.seen files.old) (K.seen output.old.sink)) (seen_by (F.seen files.new) (K.seen output.new.sink)) }
+        (seen_by (F.seen files.old) (K.seen output.old)) (seen_by (F.seen files.new) (K.seen output.new)) }
 {
-    let ended = run_job(alloc, job, files, output);
-    write_explanation(alloc, job, &ended, files, output);
-    ended
+    let mut kept = None;
+    let ended = run_and_keep(alloc, job, files, output, &mut kept);
+    write_explanation(alloc, job, ended, &kept, files, output)
 }
 
-/// Writes the explanation of what a run answered, if it has one.
-fn write_explanation<A: Reopen, K: Sink>(
+/// Writes the explanation of what a run that ended so answered, if it has one.
+fn write_explanation<'a, A: Reopen, K: Sink>(
     alloc: Global,
-    job: Job<'_>,
-    ended: &Result<Status, CommandError<'_>>,
+    job: Job<'a>,
+    ended: Result<Status, CommandError<'a>>,
+    kept: &Option<Outcome>,
     again: &A,
-    output: &mut ReportKeeper<K>,
-)
-    ensures follows { FollowedBy job.entry ended.now (K.seen output.old.sink) (K.seen output.new.sink) }
+    output: &mut K,
+) -> Result<Status, CommandError<'a>>
+    ensures follows { FollowedBy job.entry ended.entry result (K.seen output.old) (K.seen output.new) }
 {
     if let Ok(status) = ended
-        && is_explained(job, *status)
-        && let Some(report) = output.report()
-        && let Ok(text) = explanation(alloc, job, report, output.made(), again)
+        && is_explained(job, status)
+        && let Some(outcome) = kept
+        && let Ok(text) = explanation(alloc, job, outcome, again)
+        && put_all(output, text.as_bytes()).is_err()
     {
-        let _ = put_all(output, text.as_bytes());
+        return Err(CommandError::Device(Failure::Output));
     }
+    ended
 }
 
 /// Whether an end of a job is explained: a yes is, and a refusal.
@@ -67,18 +69,18 @@ fn is_explained(job: Job<'_>, status: Status) -> bool
     }
 }
 
-/// The explanation of a report.
+/// The explanation of an outcome.
 fn explanation<A: Reopen>(
     alloc: Global,
     job: Job<'_>,
-    report: &Report,
-    made: Option<i128>,
+    outcome: &Outcome,
     again: &A,
 ) -> Result<String, Memory> {
+    let made = outcome.certificate.value();
     let mut text = Explanation::new(alloc, again, texts_of(job), made);
-    match report {
-        Report::Yes(verdict) => explain_yes(alloc, job, Some(verdict), again, &mut text),
-        Report::Distances(_) => explain_yes(alloc, job, None, again, &mut text),
+    match &outcome.report {
+        Report::Yes(verdict) => explain_yes(alloc, job, Some(verdict), outcome, again, &mut text),
+        Report::Distances(_) => explain_yes(alloc, job, None, outcome, again, &mut text),
         Report::No(place, reason) => text.explain_failure(*place, *reason),
         Report::Fault(kind, at, reason) => text.explain_fault(*kind, *at, *reason),
         Report::GaveUp | Report::Nothing => (),
@@ -86,35 +88,22 @@ fn explanation<A: Reopen>(
     text.finish()
 }
 
-/// Explains a yes by its certificate, which is made again if a certifier dropped it.
+/// Explains a yes by its certificate, which no file has if a certifier dropped it.
 fn explain_yes<A: Reopen>(
     alloc: Global,
     job: Job<'_>,
     verdict: Option<&Verdict>,
+    outcome: &Outcome,
     again: &A,
     text: &mut Explanation<'_, A>,
 ) {
-    match texts_of(job).certificate() {
-        Ok(written) => text.explain_yes(verdict, again.open(written.file)),
-        Err(_) => {
-            let made = dropped_certificate(alloc, job, again);
-            let certificate = made.as_ref().map(|made| MemorySource::new(made.bytes()));
-            text.explain_yes(verdict, certificate);
-        }
+    if let Ok(written) = texts_of(job).certificate() {
+        return text.explain_yes(verdict, again.open(written.file));
     }
-}
-
-/// The certificate that a certifier dropped.
-fn dropped_certificate<A: Reopen>(alloc: Global, job: Job<'_>, again: &A) -> Option<MemorySink> {
-    let Job::Certify(kind, files) = job else {
-        return None;
+    let mut dropped = MemorySink::new(alloc);
+    let certificate = match outcome.certificate.write(&mut dropped) {
+        Ok(()) => Some(MemorySource::new(dropped.bytes())),
+        Err(_) => None,
     };
-    let claim = if kind == JudgeKind::Infeasible { 0 } else { 1 };
-    let mut instance = again.open(files.first()?.as_str())?;
-    let mut claim = again.open(files.get(claim)?.as_str())?;
-    let (mut text, mut said) = (MemorySink::new(alloc), MemorySink::new(alloc));
-    match run_certify(alloc, kind, &mut instance, &mut claim, &mut text, &mut said) {
-        Ok(Status::Done) => Some(text),
-        _ => None,
-    }
+    text.explain_yes(verdict, certificate);
 }

@@ -15,7 +15,7 @@ use crate::discard::Discard;
 use crate::early_end::{EarlyEnd, outcome_of};
 use crate::jobs::JudgeKind;
 use crate::outcome::{Outcome, write_outcome};
-use crate::report::{Report, ReportSink};
+use crate::report::Report;
 use crate::status::{RunError, Status};
 use crate::texts_in_turn::{read, read_placed, read_three, read_two};
 use dimacs_claims::{Cut, Labels, Potentials};
@@ -24,7 +24,7 @@ use dimacs_judging::{
     FlowPlaces, JudgeError, Verdict, index_for, judge_infeasible, judge_max_placed,
     judge_min_placed, judge_paths,
 };
-use dimacs_lines::Source;
+use dimacs_lines::{Sink, Source};
 use dimacs_network::{ArcView, CapacityArc, PlainArcs, WeightArc};
 use std::alloc::Global;
 
@@ -32,7 +32,7 @@ use std::alloc::Global;
 /// the first fault or of the first test that fails.
 ///
 /// It reads no text after one with a fault. `Infeasible` has no claim.
-pub fn run_judge<P: Source, Q: Source, R: Source, K: ReportSink>(
+pub fn run_judge<P: Source, Q: Source, R: Source, K: Sink>(
     alloc: Global,
     kind: JudgeKind,
     instance: &mut P,
@@ -56,13 +56,42 @@ pub fn run_judge<P: Source, Q: Source, R: Source, K: ReportSink>(
         → Q.coming claim.old ≡ Some b → Fault claimed (lines b) l f r → certificate.new ≡ certificate.old }
     ensures unclaimed { kind ≡ judges.Infeasible → claim.new ≡ claim.old }
 {
+    judge_and_keep(alloc, kind, instance, claim, certificate, sink, &mut None)
+}
+
+/// The same, and keeps the outcome.
+pub(crate) fn judge_and_keep<P: Source, Q: Source, R: Source, K: Sink>(
+    alloc: Global,
+    kind: JudgeKind,
+    instance: &mut P,
+    claim: &mut Q,
+    certificate: &mut R,
+    sink: &mut K,
+    kept: &mut Option<Outcome>,
+) -> Result<Status, RunError>
+    ensures reports { (a b c : List ℕ) → P.coming instance.old ≡ Some a → IsClaim kind (Q.coming claim.old) b
+        → R.coming certificate.old ≡ Some c
+        → Reports (Judged kind a b c) result (K.seen sink.old).accepted (K.seen sink.new).accepted }
+    ensures faults { CountsDevices result
+        (P.faults instance.old ∷ Q.faults claim.old ∷ R.faults certificate.old ∷ (K.seen sink.old).faults ∷ [])
+        (P.faults instance.new ∷ Q.faults claim.new ∷ R.faults certificate.new ∷ (K.seen sink.new).faults ∷ []) }
+    ensures nothing_written { (P.faults instance.new ≢ P.faults instance.old)
+        ⊎ (Q.faults claim.new ≢ Q.faults claim.old) ⊎ (R.faults certificate.new ≢ R.faults certificate.old)
+        → K.seen sink.new ≡ K.seen sink.old }
+    ensures memory { result ≡ Err Memory → K.seen sink.new ≡ K.seen sink.old }
+    ensures stops_at_instance { (a : List ℕ) (l f : ℕ) (r : Reason) → P.coming instance.old ≡ Some a
+        → Fault (instance_kind kind) (lines a) l f r → (claim.new ≡ claim.old) × (certificate.new ≡ certificate.old) }
+    ensures stops_at_claim { (claimed : TextKind) (b : List ℕ) (l f : ℕ) (r : Reason) → claim_kind kind ≡ Some claimed
+        → Q.coming claim.old ≡ Some b → Fault claimed (lines b) l f r → certificate.new ≡ certificate.old }
+    ensures unclaimed { kind ≡ judges.Infeasible → claim.new ≡ claim.old }
+{
     let answer = match kind {
         JudgeKind::Max => report_max(alloc, instance, claim, certificate),
         JudgeKind::Min => report_min(alloc, instance, claim, certificate),
         JudgeKind::Infeasible => report_infeasible(alloc, instance, certificate),
         JudgeKind::Paths => report_paths(alloc, instance, claim, certificate),
     };
-    write_outcome(outcome_of(answer), &mut Discard, &mut Discard, sink)
+    write_outcome(outcome_of(answer), &mut Discard, &mut Discard, sink, kept)
 }
 
 /// The outcome of a judge's answer.

@@ -6,7 +6,7 @@ ghost use Rattle.dimacs_runs.specs.declared.outcome.OutputText.TheVariants.{Noth
 ghost use Rattle.dimacs_runs.specs.inside.Outcomes.{EndsWriting, IsReadable, text_bytes};
 ghost use Rattle.dimacs_runs.specs.inside.Outcomes as outcomes;
 
-use crate::report::{Report, ReportSink};
+use crate::report::Report;
 use crate::status::{RunError, Status};
 use dimacs_claims::{
     Cut, Labels, Potentials, Solution, write_cut, write_labels, write_potentials, write_solution,
@@ -49,14 +49,14 @@ impl OutputText {
     }
 
     /// The value or the cost of a solution.
-    fn value(&self) -> Option<i128> {
+    pub(crate) fn value(&self) -> Option<i128> {
         match self {
             OutputText::Solution(solution) => Some(solution.value),
             _ => None,
         }
     }
 
-    fn write<K: Sink>(&self, sink: &mut K) -> Result<(), DeviceFault>
+    pub(crate) fn write<K: Sink>(&self, sink: &mut K) -> Result<(), DeviceFault>
         ensures puts { Puts result (K.seen sink.old) (text_bytes self.now) (K.seen sink.new) }
         ensures nothing_written { self.now ≡ Nothing → sink.new ≡ sink.old }
     {
@@ -114,13 +114,14 @@ impl Outcome {
     }
 }
 
-/// Writes the claim, the certificate and the report of an outcome, in this order, and hands the report on. If it is an
-/// error, returns that and writes nothing.
-pub(crate) fn write_outcome<C: Sink, D: Sink, K: ReportSink>(
+/// Writes the claim, the certificate and the report of an outcome, in this order, and keeps the outcome. If it is
+/// an error, returns that and writes nothing.
+pub(crate) fn write_outcome<C: Sink, D: Sink, K: Sink>(
     outcome: Result<Outcome, RunError>,
     claim: &mut C,
     certificate: &mut D,
     report: &mut K,
+    kept: &mut Option<Outcome>,
 ) -> Result<Status, RunError>
     ensures ends { EndsWriting outcome result
         (C.seen claim.old ∷ D.seen certificate.old ∷ K.seen report.old ∷ []) (C.seen claim.new ∷ D.seen certificate.new ∷ K.seen report.new ∷ []) }
@@ -131,6 +132,6 @@ pub(crate) fn write_outcome<C: Sink, D: Sink, K: ReportSink>(
     outcome.certificate.write(certificate)?;
     outcome.report.write(report)?;
     let status = outcome.report.status();
-    report.keep(outcome.report, outcome.certificate.value());
+    *kept = Some(outcome);
     Ok(status)
 }

@@ -8,9 +8,8 @@ use crate::refusal::{put_refusal, text_name};
 use crate::status::Status;
 use crate::verdict::{put_distances, put_failure, put_gave_up, put_verdict};
 use dimacs_judging::{Verdict, Where};
-use dimacs_lines::{DeviceFault, FileSink, MemorySink, Sink};
+use dimacs_lines::{DeviceFault, Sink};
 use dimacs_records::{At, Reason, TextKind};
-use std::io::Write;
 
 /// The report of a run.
 #[derive(Drop)]
@@ -54,22 +53,4 @@ impl Report {
             Report::Nothing => Ok(()),
         }
     }
-}
-
-/// An output for the lines of a report, which is also handed the report itself.
-pub trait ReportSink: Sink {
-    /// Takes a report whose lines were written. `made` is the value or the cost of the solution that was made in place of
-    /// a certificate; none without one.
-    fn keep(&mut self, report: Report, made: Option<i128>)
-        ensures { Self.seen self.new ≡ Self.seen self.old };
-}
-
-/// It drops the report.
-impl ReportSink for MemorySink {
-    fn keep(&mut self, _report: Report, _made: Option<i128>) {}
-}
-
-/// It drops the report.
-impl<W: Write> ReportSink for FileSink<W> {
-    fn keep(&mut self, _report: Report, _made: Option<i128>) {}
 }

@@ -15,10 +15,9 @@ use crate::jobs::{JudgeKind, SpreadKind, name_at};
 use crate::open_files::{close_read, open};
 use crate::outcome::Outcome;
 use crate::outcome_file::write_outcome_file;
-use crate::report::ReportSink;
 use crate::spread::spread_claim;
 use crate::status::{RunError, Status};
-use dimacs_lines::Source;
+use dimacs_lines::{Sink, Source};
 use std::alloc::Global;
 
 /// The text to make of an instance and a claim.
@@ -31,12 +30,13 @@ pub(crate) enum ClaimJob {
 }
 
 /// Certifies a claim in the files with these names.
-pub(crate) fn certify_files<'a, F: Files, K: ReportSink>(
+pub(crate) fn certify_files<'a, F: Files, K: Sink>(
     alloc: Global,
     kind: JudgeKind,
     names: &'a [String],
     files: &mut F,
     output: &mut K,
+    kept: &mut Option<Outcome>,
 ) -> Result<Status, CommandError<'a>>
     requires { AreCertifyFiles kind (length names.now) }
     ensures runs { MakesOfFiles (reads_first (certify_reads kind) (map string_bytes names.now)) (F.holds files.old) F.empty (MakesCertificate kind) result
@@ -44,18 +44,19 @@ pub(crate) fn certify_files<'a, F: Files, K: ReportSink>(
         (seen_by (F.seen files.new) (K.seen output.new)) }
 {
     match kind {
-        JudgeKind::Infeasible => certify_instance(alloc, names, files, output),
-        kind => make_of_claim(alloc, ClaimJob::Certify(kind), names, files, output),
+        JudgeKind::Infeasible => certify_instance(alloc, names, files, output, kept),
+        kind => make_of_claim(alloc, ClaimJob::Certify(kind), names, files, output, kept),
     }
 }
 
 /// Makes a text of an instance and a claim in files, and writes it to the third file if one is named.
-pub(crate) fn make_of_claim<'a, F: Files, K: ReportSink>(
+pub(crate) fn make_of_claim<'a, F: Files, K: Sink>(
     alloc: Global,
     job: ClaimJob,
     names: &'a [String],
     files: &mut F,
     output: &mut K,
+    kept: &mut Option<Outcome>,
 ) -> Result<Status, CommandError<'a>>
     requires at_least { 2 ≤ length names.now }
     requires at_most { length names.now ≤ 3 }
@@ -67,16 +68,17 @@ pub(crate) fn make_of_claim<'a, F: Files, K: ReportSink>(
         unreachable!()
     };
     let outcome = answer_claim(alloc, job, instance.as_str(), claim.as_str(), files)?;
-    write_outcome_file(outcome, name_at(names, 2), files, output)
+    write_outcome_file(outcome, name_at(names, 2), files, output, kept)
 }
 
 /// Certifies that an instance in a file has no feasible flow. Writes the set of nodes, or a feasible flow, to the
 /// second file if one is named.
-fn certify_instance<'a, F: Files, K: ReportSink>(
+fn certify_instance<'a, F: Files, K: Sink>(
     alloc: Global,
     names: &'a [String],
     files: &mut F,
     output: &mut K,
+    kept: &mut Option<Outcome>,
 ) -> Result<Status, CommandError<'a>>
     requires at_least { 1 ≤ length names.now }
     requires at_most { length names.now ≤ 2 }
@@ -88,7 +90,7 @@ fn certify_instance<'a, F: Files, K: ReportSink>(
         unreachable!()
     };
     let outcome = answer_instance(alloc, instance.as_str(), files)?;
-    write_outcome_file(outcome, name_at(names, 1), files, output)
+    write_outcome_file(outcome, name_at(names, 1), files, output, kept)
 }
 
 /// Opens the files of the instance and the claim, makes a text of them, and closes the files.

@@ -8,41 +8,43 @@ ghost use Rattle.dimacs_runs.specs.Runs.{Prints};
 use crate::failure::{CommandError, name_failure};
 use crate::files::Files;
 use crate::jobs::JudgeKind;
-use crate::judge::run_judge;
+use crate::judge::judge_and_keep;
 use crate::open_files::{close_read, open};
-use crate::report::ReportSink;
+use crate::outcome::Outcome;
 use crate::status::Status;
 use crate::text::{TextForm, run_text};
-use dimacs_lines::MemorySource;
+use dimacs_lines::{MemorySource, Sink};
 use dimacs_records::TextKind;
 use std::alloc::Global;
 
 /// Prints the text in a file.
-pub(crate) fn print_file<'a, F: Files, K: ReportSink>(
+pub(crate) fn print_file<'a, F: Files, K: Sink>(
     alloc: Global,
     form: TextForm,
     kind: TextKind,
     name: &'a str,
     files: &mut F,
     output: &mut K,
+    kept: &mut Option<Outcome>,
 ) -> Result<Status, CommandError<'a>>
     ensures runs { RunsFiles (reads (name.now ∷ [])) (F.holds files.old) F.empty (ReportsOne (Prints form kind)) result
         (seen_by (F.seen files.old) (K.seen output.old))
         (seen_by (F.seen files.new) (K.seen output.new)) }
 {
     let mut text = open(files, name)?;
-    let ended = run_text(alloc, form, kind, &mut text.device, output);
+    let ended = run_text(alloc, form, kind, &mut text.device, output, kept);
     let failure = close_read(files, text);
     name_failure(ended, failure)
 }
 
 /// Judges a claim in the files with these names.
-pub(crate) fn judge_files<'a, F: Files, K: ReportSink>(
+pub(crate) fn judge_files<'a, F: Files, K: Sink>(
     alloc: Global,
     kind: JudgeKind,
     names: &'a [String],
     files: &mut F,
     output: &mut K,
+    kept: &mut Option<Outcome>,
 ) -> Result<Status, CommandError<'a>>
     requires { length names.now ≡ file_count kind }
     ensures runs { RunsFiles (reads (map string_bytes names.now)) (F.holds files.old) F.empty (ReportsJudged kind) result
@@ -53,7 +55,7 @@ pub(crate) fn judge_files<'a, F: Files, K: ReportSink>(
         let [instance, set] = names else {
             unreachable!()
         };
-        return judge_set(alloc, instance.as_str(), set.as_str(), files, output);
+        return judge_set(alloc, instance.as_str(), set.as_str(), files, output, kept);
     }
     let [instance, claim, certificate] = names else {
         unreachable!()
@@ -66,11 +68,12 @@ pub(crate) fn judge_files<'a, F: Files, K: ReportSink>(
         certificate.as_str(),
         files,
         output,
+        kept,
     )
 }
 
 /// Judges a claim in the files of the instance, the claim and its certificate.
-fn judge_claim<'a, F: Files, K: ReportSink>(
+fn judge_claim<'a, F: Files, K: Sink>(
     alloc: Global,
     kind: JudgeKind,
     instance: &'a str,
@@ -78,6 +81,7 @@ fn judge_claim<'a, F: Files, K: ReportSink>(
     certificate: &'a str,
     files: &mut F,
     output: &mut K,
+    kept: &mut Option<Outcome>,
 ) -> Result<Status, CommandError<'a>>
     ensures runs { RunsFiles (reads (instance.now ∷ claim.now ∷ certificate.now ∷ [])) (F.holds files.old) F.empty (ReportsJudged kind) result
         (seen_by (F.seen files.old) (K.seen output.old))
@@ -86,13 +90,14 @@ fn judge_claim<'a, F: Files, K: ReportSink>(
     let mut instance = open(files, instance)?;
     let mut claim = open(files, claim)?;
     let mut certificate = open(files, certificate)?;
-    let ended = run_judge(
+    let ended = judge_and_keep(
         alloc,
         kind,
         &mut instance.device,
         &mut claim.device,
         &mut certificate.device,
         output,
+        kept,
     );
     let failure = close_read(files, instance)
         .or(close_read(files, claim))
@@ -101,12 +106,13 @@ fn judge_claim<'a, F: Files, K: ReportSink>(
 }
 
 /// Judges that no flow is feasible, in the files of the instance and the set of nodes.
-fn judge_set<'a, F: Files, K: ReportSink>(
+fn judge_set<'a, F: Files, K: Sink>(
     alloc: Global,
     instance: &'a str,
     set: &'a str,
     files: &mut F,
     output: &mut K,
+    kept: &mut Option<Outcome>,
 ) -> Result<Status, CommandError<'a>>
     ensures runs { RunsFiles (reads (instance.now ∷ set.now ∷ [])) (F.holds files.old) F.empty (ReportsJudged judges.Infeasible) result
         (seen_by (F.seen files.old) (K.seen output.old))
@@ -114,13 +120,14 @@ fn judge_set<'a, F: Files, K: ReportSink>(
 {
     let mut instance = open(files, instance)?;
     let mut set = open(files, set)?;
-    let ended = run_judge(
+    let ended = judge_and_keep(
         alloc,
         JudgeKind::Infeasible,
         &mut instance.device,
         &mut MemorySource::new(&[]),
         &mut set.device,
         output,
+        kept,
     );
     let failure = close_read(files, instance).or(close_read(files, set));
     name_failure(ended, failure)

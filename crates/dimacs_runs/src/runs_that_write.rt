@@ -9,19 +9,20 @@ use crate::failure::{CommandError, name_failure};
 use crate::files::Files;
 use crate::jobs::SolveJob;
 use crate::open_files::{close_read, close_written, create, open};
-use crate::report::ReportSink;
-use crate::solve::run_solve;
+use crate::outcome::Outcome;
+use crate::solve::solve_and_keep;
 use crate::status::Status;
-use dimacs_lines::MemorySource;
+use dimacs_lines::{MemorySource, Sink};
 use std::alloc::Global;
 
 /// Solves an instance in the files with these names.
-pub(crate) fn solve_files<'a, F: Files, K: ReportSink>(
+pub(crate) fn solve_files<'a, F: Files, K: Sink>(
     alloc: Global,
     job: SolveJob,
     names: &'a [String],
     files: &mut F,
     output: &mut K,
+    kept: &mut Option<Outcome>,
 ) -> Result<Status, CommandError<'a>>
     requires { length names.now ≡ 3 }
     ensures runs { RunsFiles (reads_first (read_count job) (map string_bytes names.now)) (F.holds files.old) F.empty (WritesSolved job) result
@@ -33,13 +34,13 @@ pub(crate) fn solve_files<'a, F: Files, K: ReportSink>(
     };
     let (first, second, third) = (first.as_str(), second.as_str(), third.as_str());
     match job {
-        SolveJob::Paths => solve_distances(alloc, first, second, third, files, output),
-        flow => solve_flow(alloc, flow, first, second, third, files, output),
+        SolveJob::Paths => solve_distances(alloc, first, second, third, files, output, kept),
+        flow => solve_flow(alloc, flow, first, second, third, files, output, kept),
     }
 }
 
 /// Solves a flow instance. `MemorySource` stands for queries, which aren't read.
-fn solve_flow<'a, F: Files, K: ReportSink>(
+fn solve_flow<'a, F: Files, K: Sink>(
     alloc: Global,
     job: SolveJob,
     instance: &'a str,
@@ -47,6 +48,7 @@ fn solve_flow<'a, F: Files, K: ReportSink>(
     certificate: &'a str,
     files: &mut F,
     output: &mut K,
+    kept: &mut Option<Outcome>,
 ) -> Result<Status, CommandError<'a>>
     requires { job ≢ solves.Paths }
     ensures runs { RunsFiles (reads_first 1 (instance.now ∷ claim.now ∷ certificate.now ∷ [])) (F.holds files.old) F.empty (WritesSolved job) result
@@ -62,7 +64,7 @@ fn solve_flow<'a, F: Files, K: ReportSink>(
             return Err(error);
         }
     };
-    let ended = run_solve(
+    let ended = solve_and_keep(
         alloc,
         job,
         &mut instance.device,
@@ -70,6 +72,7 @@ fn solve_flow<'a, F: Files, K: ReportSink>(
         &mut claim.device,
         &mut certificate.device,
         output,
+        kept,
     );
     let failure = close_read(files, instance)
         .or(close_written(files, claim))
@@ -78,13 +81,14 @@ fn solve_flow<'a, F: Files, K: ReportSink>(
 }
 
 /// Answers queries. `Discard` stands for the claim: the labels are claim and certificate in one.
-fn solve_distances<'a, F: Files, K: ReportSink>(
+fn solve_distances<'a, F: Files, K: Sink>(
     alloc: Global,
     graph: &'a str,
     queries: &'a str,
     labels: &'a str,
     files: &mut F,
     output: &mut K,
+    kept: &mut Option<Outcome>,
 ) -> Result<Status, CommandError<'a>>
     ensures runs { RunsFiles (reads_first 2 (graph.now ∷ queries.now ∷ labels.now ∷ [])) (F.holds files.old) F.empty (WritesSolved solves.Paths) result
         (seen_by (F.seen files.old) (K.seen output.old))
@@ -93,7 +97,7 @@ fn solve_distances<'a, F: Files, K: ReportSink>(
     let mut graph = open(files, graph)?;
     let mut queries = open(files, queries)?;
     let mut labels = create(files, labels)?;
-    let ended = run_solve(
+    let ended = solve_and_keep(
         alloc,
         SolveJob::Paths,
         &mut graph.device,
@@ -101,6 +105,7 @@ fn solve_distances<'a, F: Files, K: ReportSink>(
         &mut Discard,
         &mut labels.device,
         output,
+        kept,
     );
     let failure = close_read(files, graph)
         .or(close_read(files, queries))

@@ -15,7 +15,7 @@ ghost use Rattle.dimacs_runs.specs.Solved.{AreQueries, FindsPaths, Solved, solve
 use crate::early_end::{EarlyEnd, outcome_of};
 use crate::jobs::SolveJob;
 use crate::outcome::{Outcome, OutputText, write_outcome};
-use crate::report::{Report, ReportSink};
+use crate::report::Report;
 use crate::status::{RunError, Status};
 use crate::texts_in_turn::{read, read_two};
 use dimacs_instance::{Graph, MaxInstance, MinInstance, Queries};
@@ -34,7 +34,7 @@ use std::alloc::Global;
 ///   `limit` steps to better flows, or if the least cost is out of range.
 /// - `Paths` also reads queries, unless the graph has a fault, and writes only labels. It refuses a query with an
 ///   unknown node, then a negative weight. It never gives up.
-pub fn run_solve<P: Source, Q: Source, C: Sink, D: Sink, K: ReportSink>(
+pub fn run_solve<P: Source, Q: Source, C: Sink, D: Sink, K: Sink>(
     alloc: Global,
     job: SolveJob,
     instance: &mut P,
@@ -59,12 +59,51 @@ pub fn run_solve<P: Source, Q: Source, C: Sink, D: Sink, K: ReportSink>(
     ensures unqueried { job ≢ jobs.Paths → queries.new ≡ queries.old }
     ensures unclaimed { job ≡ jobs.Paths → claim_out.new ≡ claim_out.old }
 {
+    solve_and_keep(
+        alloc,
+        job,
+        instance,
+        queries,
+        claim_out,
+        certificate_out,
+        report,
+        &mut None,
+    )
+}
+
+/// The same, and keeps the outcome.
+pub(crate) fn solve_and_keep<P: Source, Q: Source, C: Sink, D: Sink, K: Sink>(
+    alloc: Global,
+    job: SolveJob,
+    instance: &mut P,
+    queries: &mut Q,
+    claim_out: &mut C,
+    certificate_out: &mut D,
+    report: &mut K,
+    kept: &mut Option<Outcome>,
+) -> Result<Status, RunError>
+    ensures reports { (a b : List ℕ) → P.coming instance.old ≡ Some a → AreQueries job (Q.coming queries.old) b
+        → ReportsAll (MayWrite (Solved job a b)) result
+        ((C.seen claim_out.old).accepted ∷ (D.seen certificate_out.old).accepted ∷ (K.seen report.old).accepted ∷ [])
+        ((C.seen claim_out.new).accepted ∷ (D.seen certificate_out.new).accepted ∷ (K.seen report.new).accepted ∷ []) }
+    ensures faults { CountsDevices result (P.faults instance.old ∷ Q.faults queries.old ∷ (C.seen claim_out.old).faults ∷
+        (D.seen certificate_out.old).faults ∷ (K.seen report.old).faults ∷ []) (P.faults instance.new ∷ Q.faults queries.new ∷
+        (C.seen claim_out.new).faults ∷ (D.seen certificate_out.new).faults ∷ (K.seen report.new).faults ∷ []) }
+    ensures nothing_written { (P.faults instance.new ≢ P.faults instance.old) ⊎ (Q.faults queries.new ≢ Q.faults queries.old)
+        → (C.seen claim_out.new ≡ C.seen claim_out.old) × (D.seen certificate_out.new ≡ D.seen certificate_out.old) × (K.seen report.new ≡ K.seen report.old) }
+    ensures memory { result ≡ Err Memory
+        → (C.seen claim_out.new ≡ C.seen claim_out.old) × (D.seen certificate_out.new ≡ D.seen certificate_out.old) × (K.seen report.new ≡ K.seen report.old) }
+    ensures stops_at_instance { (a : List ℕ) (l f : ℕ) (r : Reason) → P.coming instance.old ≡ Some a
+        → Fault (solved_kind job) (lines a) l f r → queries.new ≡ queries.old }
+    ensures unqueried { job ≢ jobs.Paths → queries.new ≡ queries.old }
+    ensures unclaimed { job ≡ jobs.Paths → claim_out.new ≡ claim_out.old }
+{
     let answer = match job {
         SolveJob::Max(limit) => solve_maximum(alloc, limit, instance),
         SolveJob::Min(limit) => solve_least(alloc, limit, instance),
         SolveJob::Paths => solve_labels(alloc, instance, queries),
     };
-    write_outcome(outcome_of(answer), claim_out, certificate_out, report)
+    write_outcome(outcome_of(answer), claim_out, certificate_out, report, kept)
 }
 
 fn solve_maximum<P: Source>(

@@ -15,7 +15,7 @@ use crate::discard::Discard;
 use crate::early_end::{EarlyEnd, outcome_of};
 use crate::jobs::SpreadKind;
 use crate::outcome::{Outcome, OutputText, write_outcome};
-use crate::report::{Report, ReportSink};
+use crate::report::Report;
 use crate::status::{RunError, Status};
 use crate::texts_in_turn::read_two;
 use dimacs_claims::Solution;
@@ -34,7 +34,7 @@ use std::alloc::Global;
 /// Otherwise it writes only a report: the fault of the first text that has one, the first entry without an arc, or the
 /// first arc whose amount doesn't fit 64 bits. The claim isn't read after an instance with a fault. It doesn't test
 /// whether the flow is feasible.
-pub fn run_spread<P: Source, Q: Source, C: Sink, K: ReportSink>(
+pub fn run_spread<P: Source, Q: Source, C: Sink, K: Sink>(
     alloc: Global,
     kind: SpreadKind,
     instance: &mut P,
@@ -56,7 +56,7 @@ pub fn run_spread<P: Source, Q: Source, C: Sink, K: ReportSink>(
         → claim.new ≡ claim.old }
 {
     let outcome = spread_claim(alloc, kind, instance, claim);
-    write_outcome(outcome, &mut Discard, solution_out, report)
+    write_outcome(outcome, &mut Discard, solution_out, report, &mut None)
 }
 
 /// Deals out a claimed flow, and returns what `run_spread` writes.

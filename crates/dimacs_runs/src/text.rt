@@ -8,8 +8,7 @@ ghost use Rattle.dimacs_lines.specs.Puts.{Puts};
 
 use crate::discard::Discard;
 use crate::early_end::{EarlyEnd, outcome_of};
-use crate::outcome::write_outcome;
-use crate::report::ReportSink;
+use crate::outcome::{Outcome, write_outcome};
 use crate::status::{RunError, Status};
 use crate::texts_in_turn::{read, read_summary};
 use dimacs_claims::{Cut, Distances, Labels, Potentials, Solution};
@@ -31,7 +30,7 @@ pub enum TextForm {
 }
 
 /// Reads a text of this kind, and prints its canonical form, or the line of its fault.
-pub fn run_convert<S: Source, K: ReportSink>(
+pub fn run_convert<S: Source, K: Sink>(
     alloc: Global,
     kind: TextKind,
     text: &mut S,
@@ -43,11 +42,11 @@ pub fn run_convert<S: Source, K: ReportSink>(
     ensures nothing_written { S.faults text.new ≢ S.faults text.old → K.seen sink.new ≡ K.seen sink.old }
     ensures memory { result ≡ Err Memory → K.seen sink.new ≡ K.seen sink.old }
 {
-    run_text(alloc, TextForm::Canonical, kind, text, sink)
+    run_text(alloc, TextForm::Canonical, kind, text, sink, &mut None)
 }
 
 /// Reads a text of this kind, and prints a line that describes it, or the line of its fault. It keeps no arc in memory.
-pub fn run_show<S: Source, K: ReportSink>(
+pub fn run_show<S: Source, K: Sink>(
     alloc: Global,
     kind: TextKind,
     text: &mut S,
@@ -59,16 +58,17 @@ pub fn run_show<S: Source, K: ReportSink>(
     ensures nothing_written { S.faults text.new ≢ S.faults text.old → K.seen sink.new ≡ K.seen sink.old }
     ensures memory { result ≡ Err Memory → K.seen sink.new ≡ K.seen sink.old }
 {
-    run_text(alloc, TextForm::Summary, kind, text, sink)
+    run_text(alloc, TextForm::Summary, kind, text, sink, &mut None)
 }
 
-/// Reads a text of this kind, and prints it in this form, or the line of its fault.
-pub(crate) fn run_text<S: Source, K: ReportSink>(
+/// Reads a text of this kind, and prints it in this form, or the line of its fault, which it keeps.
+pub(crate) fn run_text<S: Source, K: Sink>(
     alloc: Global,
     form: TextForm,
     kind: TextKind,
     text: &mut S,
     sink: &mut K,
+    kept: &mut Option<Outcome>,
 ) -> Result<Status, RunError>
     ensures reports { (bytes : List ℕ) → S.coming text.old ≡ Some bytes
         → Reports (Prints form kind bytes) result (K.seen sink.old).accepted (K.seen sink.new).accepted }
@@ -77,30 +77,35 @@ pub(crate) fn run_text<S: Source, K: ReportSink>(
     ensures memory { result ≡ Err Memory → K.seen sink.new ≡ K.seen sink.old }
 {
     match (form, kind) {
-        (TextForm::Summary, TextKind::Max) => sum_up::<MaxSummary, S, K>(alloc, text, sink),
-        (TextForm::Summary, TextKind::Min) => sum_up::<MinSummary, S, K>(alloc, text, sink),
-        (TextForm::Summary, TextKind::Graph) => sum_up::<GraphSummary, S, K>(alloc, text, sink),
+        (TextForm::Summary, TextKind::Max) => sum_up::<MaxSummary, S, K>(alloc, text, sink, kept),
+        (TextForm::Summary, TextKind::Min) => sum_up::<MinSummary, S, K>(alloc, text, sink, kept),
+        (TextForm::Summary, TextKind::Graph) => sum_up::<GraphSummary, S, K>(
+            alloc, text, sink, kept,
+        ),
         (_, TextKind::Max) => {
-            print::<MaxInstance<PlainArcs<CapacityArc>>, S, K>(alloc, form, text, sink)
+            print::<MaxInstance<PlainArcs<CapacityArc>>, S, K>(alloc, form, text, sink, kept)
         }
         (_, TextKind::Min) => {
-            print::<MinInstance<PlainArcs<ArcView>>, S, K>(alloc, form, text, sink)
+            print::<MinInstance<PlainArcs<ArcView>>, S, K>(alloc, form, text, sink, kept)
         }
-        (_, TextKind::Graph) => print::<Graph<PlainArcs<WeightArc>>, S, K>(alloc, form, text, sink),
-        (_, TextKind::Queries) => print::<Queries, S, K>(alloc, form, text, sink),
-        (_, TextKind::Solution) => print::<Solution, S, K>(alloc, form, text, sink),
-        (_, TextKind::Cut) => print::<Cut, S, K>(alloc, form, text, sink),
-        (_, TextKind::Potentials) => print::<Potentials, S, K>(alloc, form, text, sink),
-        (_, TextKind::Labels) => print::<Labels, S, K>(alloc, form, text, sink),
-        (_, TextKind::Distances) => print::<Distances, S, K>(alloc, form, text, sink),
+        (_, TextKind::Graph) => print::<Graph<PlainArcs<WeightArc>>, S, K>(
+            alloc, form, text, sink, kept,
+        ),
+        (_, TextKind::Queries) => print::<Queries, S, K>(alloc, form, text, sink, kept),
+        (_, TextKind::Solution) => print::<Solution, S, K>(alloc, form, text, sink, kept),
+        (_, TextKind::Cut) => print::<Cut, S, K>(alloc, form, text, sink, kept),
+        (_, TextKind::Potentials) => print::<Potentials, S, K>(alloc, form, text, sink, kept),
+        (_, TextKind::Labels) => print::<Labels, S, K>(alloc, form, text, sink, kept),
+        (_, TextKind::Distances) => print::<Distances, S, K>(alloc, form, text, sink, kept),
     }
 }
 
-fn print<T: Text, S: Source, K: ReportSink>(
+fn print<T: Text, S: Source, K: Sink>(
     alloc: Global,
     form: TextForm,
     text: &mut S,
     sink: &mut K,
+    kept: &mut Option<Outcome>,
 ) -> Result<Status, RunError>
     ensures reports { (bytes : List ℕ) → S.coming text.old ≡ Some bytes
         → Reports (FaultIn (text_spells T.kind T.spells bytes) (IsPrinted (in_form form T.canonical T.shown))) result
@@ -116,7 +121,7 @@ fn print<T: Text, S: Source, K: ReportSink>(
         }
         Err(unread) => {
             let answer = outcome_of(Err(EarlyEnd::from(unread)));
-            write_outcome(answer, &mut Discard, &mut Discard, sink)
+            write_outcome(answer, &mut Discard, &mut Discard, sink, kept)
         }
     }
 }
@@ -135,10 +140,11 @@ fn write_in_form<T: Text, K: Sink>(
 }
 
 /// As `print` with the form `Summary`, but keeps only a summary in memory.
-fn sum_up<T: Summary, S: Source, K: ReportSink>(
+fn sum_up<T: Summary, S: Source, K: Sink>(
     alloc: Global,
     text: &mut S,
     sink: &mut K,
+    kept: &mut Option<Outcome>,
 ) -> Result<Status, RunError>
     ensures reports { (bytes : List ℕ) → S.coming text.old ≡ Some bytes
         → Reports (FaultIn (text_spells T.kind T.spells bytes) (IsPrinted T.shown)) result (K.seen sink.old).accepted (K.seen sink.new).accepted }
@@ -153,7 +159,7 @@ fn sum_up<T: Summary, S: Source, K: ReportSink>(
         }
         Err(unread) => {
             let answer = outcome_of(Err(EarlyEnd::from(unread)));
-            write_outcome(answer, &mut Discard, &mut Discard, sink)
+            write_outcome(answer, &mut Discard, &mut Discard, sink, kept)
         }
     }
 }

@@ -1,5 +1,5 @@
 -- Inside: the arrays that get the arcs of a text.
-use Rattle.std.specs.{Prelude.{ℕ, ◌≡◌, ◌≤◌, List, length, take, drop}, Borrow.{MutBor}}
+use Rattle.std.specs.{Prelude.{ℕ, ◌≡◌, ◌≤◌, ◌∷◌, [], List, length, take, drop}, Borrow.{MutBor}}
 use Rattle.dimacs_lines.specs.Limits.{most_count}
 use Rattle.dimacs_network.specs.declared.network.ArcView.{ArcView}
 use Rattle.dimacs_fill.specs.declared.arc_reading.ArcColumns.{ArcColumns}
@@ -10,8 +10,8 @@ abbrev pub columns : {R V : Type 0} → ArcReading R V → ArcColumns
 columns reading = record { at = reading.at; tails = reading.tails; heads = reading.heads; lows = reading.lows; caps = reading.caps; costs = reading.costs }
 
 -- what it reads into
-abbrev pub names : {R V : Type 0} → ArcReading R V → ℕ × ℕ × ℕ × ℕ × ℕ × ℕ
-names reading = (reading.counted.ghost_name, reading.tails.ghost_name, reading.heads.ghost_name, reading.lows.ghost_name, reading.caps.ghost_name, reading.costs.ghost_name)
+abbrev pub names : {R V : Type 0} → ArcReading R V → List ℕ
+names reading = reading.counted.ghost_name ∷ reading.tails.ghost_name ∷ reading.heads.ghost_name ∷ reading.lows.ghost_name ∷ reading.caps.ghost_name ∷ reading.costs.ghost_name ∷ []
 
 -- the array begins with these items, as many as fit
 abbrev pub BeginsWith : {X : Type 0} → List X → List X → Type 0

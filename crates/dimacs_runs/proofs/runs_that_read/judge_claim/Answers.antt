@@ -21,26 +21,26 @@ returns-in_err-certificate g c =
 
 pub returns : goal.returns
 returns g c =
-    let ended = c.run_judge-ended.result in
+    let ended = c.judge_and_keep-ended.result in
     let failure = c.or-failure.result in
     let old = (g.K.Sink.seen c.args.output.now).accepted in
-    let new = (g.K.Sink.seen c.run_judge-ended.new.sink).accepted in
-    let instance : ReadFile = record { name = c.in_ok-instance.instance.name.now; faults = g.F.Input.Source.faults c.run_judge-ended.new.instance } in
-    let claim : ReadFile = record { name = c.in_ok-claim.claim.name.now; faults = g.F.Input.Source.faults c.run_judge-ended.new.claim } in
-    let certificate : ReadFile = record { name = c.in_ok-certificate.certificate.name.now; faults = g.F.Input.Source.faults c.run_judge-ended.new.certificate } in
+    let new = (g.K.Sink.seen c.judge_and_keep-ended.new.sink).accepted in
+    let instance : ReadFile = record { name = c.in_ok-instance.instance.name.now; faults = g.F.Input.Source.faults c.judge_and_keep-ended.new.instance } in
+    let claim : ReadFile = record { name = c.in_ok-claim.claim.name.now; faults = g.F.Input.Source.faults c.judge_and_keep-ended.new.claim } in
+    let certificate : ReadFile = record { name = c.in_ok-certificate.certificate.name.now; faults = g.F.Input.Source.faults c.judge_and_keep-ended.new.certificate } in
     let opened = sees_three c.in_ok-instance.ensures.opened c.in_ok-claim.ensures.opened c.in_ok-certificate.ensures.opened in
     let closed = sees_three c.close_read.ensures.seen c.close_read-2.ensures.seen c.close_read-3.ensures.seen in
-    let quiet = rw (c.in_ok-instance.ensures.faultless, c.in_ok-claim.ensures.faultless, c.in_ok-certificate.ensures.faultless) at c.run_judge-ended.ensures.nothing_written in
+    let quiet = rw (c.in_ok-instance.ensures.faultless, c.in_ok-claim.ensures.faultless, c.in_ok-certificate.ensures.faultless) at c.judge_and_keep-ended.ensures.nothing_written in
     record {
       runs = uses_files (instance ∷ claim ∷ certificate ∷ []) [] ended failure
           (rw (c.in_ok-instance.ensures.named, c.in_ok-claim.ensures.named, c.in_ok-certificate.ensures.named) refl) refl opened closed c.name_failure.ensures
           (rw (c.or-failure.ensures, c.or.ensures) (three_first c.close_read.result c.close_read-2.result c.close_read-3.result (Read instance) (Read claim) (Read certificate) c.close_read.ensures.failure c.close_read-2.ensures.failure c.close_read-3.ensures.failure))
-          (rw (c.in_ok-instance.ensures.faultless, c.in_ok-claim.ensures.faultless, c.in_ok-certificate.ensures.faultless) at c.run_judge-ended.ensures.faults)
+          (rw (c.in_ok-instance.ensures.faultless, c.in_ok-claim.ensures.faultless, c.in_ok-certificate.ensures.faultless) at c.judge_and_keep-ended.ensures.faults)
           (each_text (_ ∷ _ ∷ _ ∷ []) (λ (texts : List (List ℕ)). ReportsJudged c.args.kind texts (named ended failure) (old ∷ []) (new ∷ [])) (λ a first b second d third.
-          judged_reports c.args.kind a b d (named ended failure) old new (reports_named (Judged c.args.kind a b d) ended failure old new (c.run_judge-ended.ensures.reports a b d
+          judged_reports c.args.kind a b d (named ended failure) old new (reports_named (Judged c.args.kind a b d) ended failure old new (c.judge_and_keep-ended.ensures.reports a b d
           (c.in_ok-instance.ensures.coming ∙ first)
           (is_claim c.args.kind _ b (c.in_ok-claim.ensures.coming ∙ ap (λ (h : Contents). h c.args.claim.now) c.in_ok-instance.ensures.holds ∙ second))
           (c.in_ok-certificate.ensures.coming ∙ ap (λ (h : Contents). h c.args.certificate.now) (c.in_ok-claim.ensures.holds ∙ c.in_ok-instance.ensures.holds) ∙ third)))))
-          (λ memory. ap (λ (w : Written). w.accepted ∷ []) (c.run_judge-ended.ensures.memory memory))
+          (λ memory. ap (λ (w : Written). w.accepted ∷ []) (c.judge_and_keep-ended.ensures.memory memory))
           (λ unread. ap (λ (w : Written). w.accepted ∷ []) (quiet (one_of_three unread)));
     }

@@ -17,24 +17,24 @@ returns-in_err-set g c =
 
 pub returns : goal.returns
 returns g c =
-    let ended = c.run_judge-ended.result in
+    let ended = c.judge_and_keep-ended.result in
     let failure = c.or-failure.result in
     let old = (g.K.Sink.seen c.args.output.now).accepted in
-    let new = (g.K.Sink.seen c.run_judge-ended.new.sink).accepted in
-    let instance : ReadFile = record { name = c.in_ok-instance.instance.name.now; faults = g.F.Input.Source.faults c.run_judge-ended.new.instance } in
-    let set : ReadFile = record { name = c.in_ok-set.set.name.now; faults = g.F.Input.Source.faults c.run_judge-ended.new.certificate } in
-    let quiet = rw (c.in_ok-instance.ensures.faultless, c.in_ok-set.ensures.faultless) at c.run_judge-ended.ensures.nothing_written in
+    let new = (g.K.Sink.seen c.judge_and_keep-ended.new.sink).accepted in
+    let instance : ReadFile = record { name = c.in_ok-instance.instance.name.now; faults = g.F.Input.Source.faults c.judge_and_keep-ended.new.instance } in
+    let set : ReadFile = record { name = c.in_ok-set.set.name.now; faults = g.F.Input.Source.faults c.judge_and_keep-ended.new.certificate } in
+    let quiet = rw (c.in_ok-instance.ensures.faultless, c.in_ok-set.ensures.faultless) at c.judge_and_keep-ended.ensures.nothing_written in
     record {
       runs = uses_files (instance ∷ set ∷ []) [] ended failure
           (rw (c.in_ok-instance.ensures.named, c.in_ok-set.ensures.named) refl) refl
           (sees_two c.in_ok-instance.ensures.opened c.in_ok-set.ensures.opened)
           (sees_two c.close_read.ensures.seen c.close_read-2.ensures.seen) c.name_failure.ensures
           (rw c.or-failure.ensures (two_first c.close_read.result c.close_read-2.result (Read instance) (Read set) c.close_read.ensures.failure c.close_read-2.ensures.failure))
-          (without_second ended _ _ _ _ (rw (c.in_ok-instance.ensures.faultless, c.in_ok-set.ensures.faultless) at c.run_judge-ended.ensures.faults))
+          (without_second ended _ _ _ _ (rw (c.in_ok-instance.ensures.faultless, c.in_ok-set.ensures.faultless) at c.judge_and_keep-ended.ensures.faults))
           (each_text (_ ∷ _ ∷ []) (λ (texts : List (List ℕ)). ReportsJudged judges.Infeasible texts (named ended failure) (old ∷ []) (new ∷ [])) (λ a first d second.
-          reports_named (Judged judges.Infeasible a [] d) ended failure old new (c.run_judge-ended.ensures.reports a [] d
+          reports_named (Judged judges.Infeasible a [] d) ended failure old new (c.judge_and_keep-ended.ensures.reports a [] d
           (c.in_ok-instance.ensures.coming ∙ first) (λ none. absurd cc)
           (c.in_ok-set.ensures.coming ∙ ap (λ (h : Contents). h c.args.set.now) c.in_ok-instance.ensures.holds ∙ second))))
-          (λ memory. ap (λ (w : Written). w.accepted ∷ []) (c.run_judge-ended.ensures.memory memory))
+          (λ memory. ap (λ (w : Written). w.accepted ∷ []) (c.judge_and_keep-ended.ensures.memory memory))
           (λ unread. ap (λ (w : Written). w.accepted ∷ []) (quiet (elim unread [ inl it ↦ inl it | inr last ↦ inr (inr (one_of last)) ])));
     }

@@ -21,26 +21,26 @@ returns-in_err-labels g c =
 
 pub returns : goal.returns
 returns g c =
-    let ended = c.run_solve-ended.result in
+    let ended = c.solve_and_keep-ended.result in
     let failure = c.or-failure.result in
     let old = (g.K.Sink.seen c.args.output.now).accepted in
-    let new = (g.K.Sink.seen c.run_solve-ended.new.report).accepted in
-    let written = g.F.Output.Sink.seen c.run_solve-ended.new.certificate_out in
-    let graph : ReadFile = record { name = c.in_ok-graph.graph.name.now; faults = g.F.Input.Source.faults c.run_solve-ended.new.instance } in
-    let queries : ReadFile = record { name = c.in_ok-queries.queries.name.now; faults = g.F.Input.Source.faults c.run_solve-ended.new.queries } in
+    let new = (g.K.Sink.seen c.solve_and_keep-ended.new.report).accepted in
+    let written = g.F.Output.Sink.seen c.solve_and_keep-ended.new.certificate_out in
+    let graph : ReadFile = record { name = c.in_ok-graph.graph.name.now; faults = g.F.Input.Source.faults c.solve_and_keep-ended.new.instance } in
+    let queries : ReadFile = record { name = c.in_ok-queries.queries.name.now; faults = g.F.Input.Source.faults c.solve_and_keep-ended.new.queries } in
     let labels : WrittenFile = record { name = c.in_ok-labels.labels.name.now; seen = written } in
     let opened = sees_three c.in_ok-graph.ensures.opened c.in_ok-queries.ensures.opened c.in_ok-labels.ensures.created in
     let closed = sees_three c.close_read.ensures.seen c.close_read-2.ensures.seen c.close_written.ensures.seen in
-    let quiet = rw (c.in_ok-graph.ensures.faultless, c.in_ok-queries.ensures.faultless) at c.run_solve-ended.ensures.nothing_written in
+    let quiet = rw (c.in_ok-graph.ensures.faultless, c.in_ok-queries.ensures.faultless) at c.solve_and_keep-ended.ensures.nothing_written in
     record {
       runs = uses_files (graph ∷ queries ∷ []) (labels ∷ []) ended failure
           (rw (c.in_ok-graph.ensures.named, c.in_ok-queries.ensures.named) refl) (rw c.in_ok-labels.ensures.named refl) opened closed c.name_failure.ensures
           (rw (c.or-failure.ensures, c.or.ensures) (three_first c.close_read.result c.close_read-2.result c.close_written.result (Read graph) (Read queries) (Wrote labels) c.close_read.ensures.failure c.close_read-2.ensures.failure c.close_written.ensures.failure))
-          (without_third ended _ _ _ _ _ _ (rw (c.in_ok-graph.ensures.faultless, c.in_ok-queries.ensures.faultless, c.in_ok-labels.ensures.empty) at c.run_solve-ended.ensures.faults))
+          (without_third ended _ _ _ _ _ _ (rw (c.in_ok-graph.ensures.faultless, c.in_ok-queries.ensures.faultless, c.in_ok-labels.ensures.empty) at c.solve_and_keep-ended.ensures.faults))
           (each_text (_ ∷ _ ∷ []) (λ (texts : List (List ℕ)). WritesSolved solves.Paths texts (named ended failure) (g.F.Files.empty ∷ old ∷ []) (written.accepted ∷ new ∷ [])) (λ a first b second.
-          reports_all_named (MayWrite (Solved solves.Paths a b)) ended failure (None ∷ g.F.Files.empty ∷ old ∷ []) (None ∷ written.accepted ∷ new ∷ []) (rw c.in_ok-labels.ensures.empty at (c.run_solve-ended.ensures.reports a b
+          reports_all_named (MayWrite (Solved solves.Paths a b)) ended failure (None ∷ g.F.Files.empty ∷ old ∷ []) (None ∷ written.accepted ∷ new ∷ []) (rw c.in_ok-labels.ensures.empty at (c.solve_and_keep-ended.ensures.reports a b
           (c.in_ok-graph.ensures.coming ∙ first)
           (c.in_ok-queries.ensures.coming ∙ ap (λ (h : Contents). h c.args.queries.now) c.in_ok-graph.ensures.holds ∙ second)))))
-          (λ memory. let same = c.run_solve-ended.ensures.memory memory in rw (same.1, same.2, c.in_ok-labels.ensures.empty) refl)
+          (λ memory. let same = c.solve_and_keep-ended.ensures.memory memory in rw (same.1, same.2, c.in_ok-labels.ensures.empty) refl)
           (λ unread. let same = quiet (one_of_two unread) in rw (same.1, same.2, c.in_ok-labels.ensures.empty) refl);
     }

@@ -22,27 +22,27 @@ returns-in-Err g c =
 
 pub returns : goal.returns
 returns g c =
-    let ended = c.run_solve-ended.result in
+    let ended = c.solve_and_keep-ended.result in
     let failure = c.or-failure.result in
     let old = (g.K.Sink.seen c.args.output.now).accepted in
-    let new = (g.K.Sink.seen c.run_solve-ended.new.report).accepted in
-    let claimed = g.F.Output.Sink.seen c.run_solve-ended.new.claim_out in
-    let certified = g.F.Output.Sink.seen c.run_solve-ended.new.certificate_out in
-    let instance : ReadFile = record { name = c.in_ok-instance.instance.name.now; faults = g.F.Input.Source.faults c.run_solve-ended.new.instance } in
+    let new = (g.K.Sink.seen c.solve_and_keep-ended.new.report).accepted in
+    let claimed = g.F.Output.Sink.seen c.solve_and_keep-ended.new.claim_out in
+    let certified = g.F.Output.Sink.seen c.solve_and_keep-ended.new.certificate_out in
+    let instance : ReadFile = record { name = c.in_ok-instance.instance.name.now; faults = g.F.Input.Source.faults c.solve_and_keep-ended.new.instance } in
     let claim : WrittenFile = record { name = c.in_ok-claim.claim.name.now; seen = claimed } in
     let certificate : WrittenFile = record { name = c.in-Ok.certificate.name.now; seen = certified } in
     let opened = sees_three c.in_ok-instance.ensures.opened c.in_ok-claim.ensures.created c.in-Ok.ensures.created in
     let closed = sees_three c.close_read.ensures.seen c.close_written-2.ensures.seen c.close_written-3.ensures.seen in
-    let quiet = rw c.in_ok-instance.ensures.faultless at c.run_solve-ended.ensures.nothing_written in
+    let quiet = rw c.in_ok-instance.ensures.faultless at c.solve_and_keep-ended.ensures.nothing_written in
     record {
       runs = uses_files (instance ∷ []) (claim ∷ certificate ∷ []) ended failure
           (rw c.in_ok-instance.ensures.named refl) (rw (c.in_ok-claim.ensures.named, c.in-Ok.ensures.named) refl) opened closed c.name_failure.ensures
           (rw (c.or-failure.ensures, c.or.ensures) (three_first c.close_read.result c.close_written-2.result c.close_written-3.result (Read instance) (Wrote claim) (Wrote certificate) c.close_read.ensures.failure c.close_written-2.ensures.failure c.close_written-3.ensures.failure))
-          (without_second ended _ _ _ _ (rw (c.in_ok-instance.ensures.faultless, c.in_ok-claim.ensures.empty, c.in-Ok.ensures.empty) at c.run_solve-ended.ensures.faults))
+          (without_second ended _ _ _ _ (rw (c.in_ok-instance.ensures.faultless, c.in_ok-claim.ensures.empty, c.in-Ok.ensures.empty) at c.solve_and_keep-ended.ensures.faults))
           (each_text (_ ∷ []) (λ (texts : List (List ℕ)). WritesSolved c.args.job texts (named ended failure) (g.F.Files.empty ∷ g.F.Files.empty ∷ old ∷ []) (claimed.accepted ∷ certified.accepted ∷ new ∷ [])) (λ a first.
           flow_writes c.args.job a [] (named ended failure) (g.F.Files.empty ∷ g.F.Files.empty ∷ old ∷ []) (claimed.accepted ∷ certified.accepted ∷ new ∷ []) c.requires
           (reports_all_named (MayWrite (Solved c.args.job a [])) ended failure (g.F.Files.empty ∷ g.F.Files.empty ∷ old ∷ []) (claimed.accepted ∷ certified.accepted ∷ new ∷ [])
-          (rw (c.in_ok-claim.ensures.empty, c.in-Ok.ensures.empty) at (c.run_solve-ended.ensures.reports a [] (c.in_ok-instance.ensures.coming ∙ first) (flow_asks_nothing c.args.job _ [] c.requires))))))
-          (λ memory. let same = c.run_solve-ended.ensures.memory memory in rw (same.0, same.1, same.2, c.in_ok-claim.ensures.empty, c.in-Ok.ensures.empty) refl)
+          (rw (c.in_ok-claim.ensures.empty, c.in-Ok.ensures.empty) at (c.solve_and_keep-ended.ensures.reports a [] (c.in_ok-instance.ensures.coming ∙ first) (flow_asks_nothing c.args.job _ [] c.requires))))))
+          (λ memory. let same = c.solve_and_keep-ended.ensures.memory memory in rw (same.0, same.1, same.2, c.in_ok-claim.ensures.empty, c.in-Ok.ensures.empty) refl)
           (λ unread. let same = quiet (inl (one_of unread)) in rw (same.0, same.1, same.2, c.in_ok-claim.ensures.empty, c.in-Ok.ensures.empty) refl);
     }

@@ -1,4 +1,4 @@
-use Rattle.dimacs_runs.proofs.command.run_job.Goals as goal
+use Rattle.dimacs_runs.proofs.command.run_and_keep.Goals as goal
 
 pub returns-in-Convert : goal.returns-in-Convert
 returns-in-Convert g c = record { runs = rw c.in-Convert.is c.print_file.ensures.runs }

@@ -3,8 +3,8 @@ use Rattle.dimacs_lines.specs.Lines.{lines}
 use Rattle.dimacs_records.specs.Faults.{Fault}
 use Rattle.dimacs_runs.specs.{declared.jobs.SolveJob.{SolveJob}, Outputs.{MayWrite}}
 use Rattle.dimacs_runs.specs.Solved.{AreQueries, Solved, solved_kind}
-use Rattle.dimacs_runs.proofs.{WritingLemmas.{all_written}, solve.run_solve.Goals.{in-Max, in-Min, in-Paths}}
-use Rattle.dimacs_runs.proofs.solve.run_solve.Goals as goal
+use Rattle.dimacs_runs.proofs.{WritingLemmas.{all_written}, solve.solve_and_keep.Goals.{in-Max, in-Min, in-Paths}}
+use Rattle.dimacs_runs.proofs.solve.solve_and_keep.Goals as goal
 
 pub returns-clause-reports : goal.returns-clause-reports
 returns-clause-reports g c = λ a b first second.

@@ -3,10 +3,10 @@ use Rattle.dimacs_records.specs.{declared.kinds.TextKind.{TextKind}, Faults.{Fau
 use Rattle.dimacs_lines.specs.Lines.{lines}
 use Rattle.dimacs_runs.specs.{declared.jobs.JudgeKind.{JudgeKind}, Judged.{IsClaim, Judged, claim_kind, instance_kind}}
 use Rattle.dimacs_runs.proofs.WritingLemmas.{report_written}
-use Rattle.dimacs_runs.proofs.judge.run_judge.Goals.{in-Max, in-Min, in-Infeasible, in-Paths}
+use Rattle.dimacs_runs.proofs.judge.judge_and_keep.Goals.{in-Max, in-Min, in-Infeasible, in-Paths}
 use Rattle.dimacs_records.specs.declared.kinds.TextKind.TheVariants as kinds
 use Rattle.dimacs_runs.specs.declared.jobs.JudgeKind.TheVariants as judges
-use Rattle.dimacs_runs.proofs.judge.run_judge.Goals as goal
+use Rattle.dimacs_runs.proofs.judge.judge_and_keep.Goals as goal
 
 pub returns-clause-reports : goal.returns-clause-reports
 returns-clause-reports g c = λ a b d first second third.
