@@ -57,8 +57,8 @@ pub(crate) fn block_by_predecessors<N: Network, C: DistanceClaim>(
     }
 }
 
-/// For each node the tail of a tight arc of positive weight to it, or 0: that of an arc from its wanted predecessor, if
-/// predecessors are wanted. What becomes 0, and when the answer is none, isn't specified: a caller tests what it needs.
+/// For each node the tail of a tight arc of positive weight to it, or 0. Which of several tails, what becomes 0, and when
+/// the answer is none, isn't specified: `wanted` has the tails that the caller hopes for, and it tests what it needs.
 #[inline(never)]
 pub fn tails_of_tight_arcs<N: Network, C: DistanceClaim>(
     alloc: Global,

@@ -3,8 +3,8 @@ use Rattle.std.specs.Prelude.{ℕ, ◌≡◌, ◌<◌, ◌++◌, List, length, t
 use Rattle.dimacs_lines.specs.Lines.{lines}
 use Rattle.dimacs_network.specs.declared.network.ArcView.{ArcView}
 use Rattle.dimacs_records.specs.{declared.faults.ReadError.{ReadError}, declared.kinds.TextKind.{TextKind}}
-use Rattle.dimacs_records.specs.{Faults.{Fault}, Texts.{Reads}}
-use Rattle.dimacs_fill.specs.{declared.error.FillError.{FillError}, declared.error.FillError.TheVariants.{Unread}}
+use Rattle.dimacs_records.specs.{Faults.{Fault}, Readings.{CountsRead}, Texts.{Reads}}
+use Rattle.dimacs_fill.specs.{declared.error.FillError.{FillError}, declared.error.FillError.TheVariants.{Node, Unread}}
 
 -- as many of the items as fit, then the rest of the array as it was
 abbrev pub filled : {X : Type 0} → List X → List X → List X
@@ -70,3 +70,9 @@ caps_of arcs = map (λ (a : ArcView). a.cap) arcs
 
 abbrev pub costs_of : List ArcView → List ℤ
 costs_of arcs = map (λ (a : ArcView). a.cost) arcs
+
+-- the source's faults after a text was read into arrays: one more after an I/O error, otherwise the same
+abbrev pub CountsFilled : {V : Type 0} → Result V FillError → ℕ → ℕ → Type 0
+CountsFilled (Ok v) old new = new ≡ old
+CountsFilled {V} (Err (Unread error)) old new = CountsRead (Err {V} error) old new
+CountsFilled (Err (Node id reason)) old new = new ≡ old

@@ -1,7 +1,7 @@
 //! Reading distances into arrays.
 
 ghost use Rattle.std.specs.Prelude.{◌≡◌, ℕ, List, Some, IfErr};
-ghost use Rattle.dimacs_fill.specs.{BlockFilled.{FillsDistances, ReadsDistancesInto}, Filling.{IsKept}};
+ghost use Rattle.dimacs_fill.specs.{BlockFilled.{FillsDistances, ReadsDistancesInto}, Filling.{CountsFilled, IsKept}};
 
 use crate::block::{fill_distances, fitting_block};
 use crate::error::FillError;
@@ -17,7 +17,8 @@ pub fn read_distances_into<S: Source>(
     source: u32,
     distances: &mut [i64],
 ) -> Result<u32, FillError>
-    ensures { (bytes : List ℕ) → S.coming text.old ≡ Some bytes → ReadsDistancesInto bytes source (distances.old, distances.new) result }
+    ensures reads { (bytes : List ℕ) → S.coming text.old ≡ Some bytes → ReadsDistancesInto bytes source (distances.old, distances.new) result }
+    ensures faults { CountsFilled result (S.faults text.old) (S.faults text.new) }
 {
     let claimed = read_distances(alloc, text)?;
     fill_claimed(claimed.labels(), source, distances)

@@ -1,7 +1,7 @@
 //! Reading labels into arrays.
 
 ghost use Rattle.std.specs.Prelude.{◌≡◌, ℕ, List, Some, IfErr};
-ghost use Rattle.dimacs_fill.specs.{BlockFilled.{FillsLabels, ReadsLabelsInto}, Filling.{IsKept}};
+ghost use Rattle.dimacs_fill.specs.{BlockFilled.{FillsLabels, ReadsLabelsInto}, Filling.{CountsFilled, IsKept}};
 
 use crate::block::{fill_distances, fill_predecessors, fitting_block, radius_item};
 use crate::error::FillError;
@@ -26,8 +26,9 @@ pub fn read_labels_into<S: Source>(
     distances: &mut [i64],
     predecessors: &mut [u32],
 ) -> Result<LabelSizes, FillError>
-    ensures { (bytes : List ℕ) → S.coming text.old ≡ Some bytes
+    ensures reads { (bytes : List ℕ) → S.coming text.old ≡ Some bytes
         → ReadsLabelsInto bytes source (distances.old, distances.new) (predecessors.old, predecessors.new) result }
+    ensures faults { CountsFilled result (S.faults text.old) (S.faults text.new) }
 {
     let labels = read_plain_labels(alloc, text)?;
     fill_labels(&labels, source, distances, predecessors)

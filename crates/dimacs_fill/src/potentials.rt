@@ -3,7 +3,7 @@
 ghost use Rattle.std.specs.Prelude.{◌≡◌, ◌+◌, ◌<◌, ◌^◌, ℕ, List, Some, IfErr, IfNone, IfSome, IsTrue, ◌↔◌};
 ghost use Rattle.dimacs_claims.specs.Potentials.{potential_of};
 ghost use Rattle.dimacs_records.specs.Ranges.{IsWhole};
-ghost use Rattle.dimacs_fill.specs.Filling.{IsKept, filled};
+ghost use Rattle.dimacs_fill.specs.Filling.{CountsFilled, IsKept, filled};
 ghost use Rattle.dimacs_fill.specs.PotentialsFilled.{AllFit, FillsPotentials, IsFirstPast, ReadsPotentialsInto, numbers_of};
 
 use crate::error::FillError;
@@ -19,7 +19,8 @@ pub fn read_potentials_into<S: Source>(
     text: &mut S,
     numbers: &mut [i64],
 ) -> Result<u32, FillError>
-    ensures { (bytes : List ℕ) → S.coming text.old ≡ Some bytes → ReadsPotentialsInto bytes (numbers.old, numbers.new) result }
+    ensures reads { (bytes : List ℕ) → S.coming text.old ≡ Some bytes → ReadsPotentialsInto bytes (numbers.old, numbers.new) result }
+    ensures faults { CountsFilled result (S.faults text.old) (S.faults text.new) }
 {
     let potentials = read_potentials(alloc, text)?;
     fill_potentials(&potentials, numbers)

@@ -10,7 +10,7 @@ pub returns-in-Err : goal.returns-in-Err
 returns-in-Err c =
     let text = c.args.text.now in
     let a : Array ℤ = (c.args.distances.now, c.read_distances_into.new.distances) in
-    let reads = c.in-Err.ensures text (ap Some c.new.ensures) in
+    let reads = c.in-Err.ensures.reads text (ap Some c.new.ensures) in
     unfilled (ReadsDistancesInto text c.args.source a) (SetsLength 0) (codes "distances") c.in-Err.error reads
     (fill_memory kinds.Distances text (SpellsDistances text) (FillsDistances a c.args.source) (IsKept a) c.in-Err.error reads) refl refl
     c.end_unfilled.result (handed c.args.out.now c.end_unfilled.new.out c.end_unfilled.new.needed) c.end_unfilled.ensures

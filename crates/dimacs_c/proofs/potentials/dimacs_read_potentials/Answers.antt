@@ -10,7 +10,7 @@ pub returns-in-Err : goal.returns-in-Err
 returns-in-Err c =
     let text = c.args.text.now in
     let a : Array ℤ = (c.args.potentials.now, c.read_potentials_into.new.numbers) in
-    let reads = c.in-Err.ensures text (ap Some c.new.ensures) in
+    let reads = c.in-Err.ensures.reads text (ap Some c.new.ensures) in
     unfilled (ReadsPotentialsInto text a) (SetsLength 0) (codes "certificate") c.in-Err.error reads
     (fill_memory kinds.Potentials text (SpellsPotentials text) (FillsPotentials a) (IsKept a) c.in-Err.error reads) refl refl
     c.end_unfilled.result (handed c.args.out.now c.end_unfilled.new.out c.end_unfilled.new.needed) c.end_unfilled.ensures
