@@ -87,21 +87,22 @@ echo 'pub mod One' | tee "$one/crates/dimacs_c/specs/Lib.antt" >"$one/crates/dim
 
 # edit NAME LINES: adds an edit that shows nothing to those of the crate.
 edit() {
-    printf "name: $1\nfile: src/lib.rt\n$2\n" >>"$one/crates/dimacs/wrong-bodies"
+    printf "## $1\n$2\n" >>"$one/crates/dimacs/wrong-bodies"
 }
 
-edit same 'old:     1\nnew:     1'
-edit comment 'old: // one\nnew: // 2'
-edit broken 'old:     1 \nnew:     1; ) '
-edit twice 'old: one\nnew: two'
-edit absent 'old: three\nnew: two'
-edit half 'old: 1'
-edit other_half 'new: 2'
-edit longer 'old: 1\nnew: 2\nand more'
+echo '# src/lib.rt' >"$one/crates/dimacs/wrong-bodies"
+edit same '-     1\n+     1'
+edit comment '- // one\n+ // 2'
+edit broken '-     1 \n+     1; ) '
+edit twice '- one\n+ two'
+edit absent '- three\n+ two'
+edit half '- 1'
+edit other_half '+ 2'
+edit older 'name: older\nold: 1\nnew: 2'
 prints "edits: 8, showing nothing: 8" "$one/tools/try_bodies.py" --apply dimacs
 for it in "same: it changes no code" "comment: it changes no code" "broken: it doesn't parse" \
-    "twice: 'one' stands 2 times" "absent: 'three' stands 0 times" "half: it has no line new" \
-    "other_half: the line 'new: 2'" "longer: the line 'and more'"; do
+    "twice: 'one' stands 2 times" "absent: 'three' stands 0 times" "half: '- 1' and '' aren't a line" \
+    "other_half: '+ 2' and '' aren't a line" "older: 'name: older' and 'old: 1' aren't a line"; do
     if grep -q "^dimacs: $it" "$room/printed"; then
         passed=$((passed + 1))
     else

@@ -1,9 +1,10 @@
 #!/usr/bin/env python3
 """Reads wrong bodies, which are mistakes made on purpose, for tools/try_bodies.py.
 
-A file of them has for each a line `name: NAME`, a line `file: PATH`, and lines `old: TEXT` and `new: TEXT`, each TEXT one
-line. Further pairs apply to what the earlier ones made; a line `file` may stand before each.
+A file of them has a line `# PATH` for each file of the crate, and under it for each wrong body a line `## NAME`, then
+`- OLD` and `+ NEW`, each a text of one line. Further pairs apply to what the earlier ones made.
 """
+import itertools
 import os
 import re
 import subprocess
@@ -17,84 +18,63 @@ class Fault(Exception):
 
 
 class Edit:
-    """A wrong body of a crate: the pairs of texts by which it changes files."""
+    """A wrong body of a crate: the lines that state how it changes a file."""
 
-    def __init__(self, crate, name, lines):
-        self.crate, self.name, self.pairs, self.fault = crate, name, [], None
-        try:
-            self.read(lines)
-        except Fault as fault:
-            self.fault = str(fault)
+    def __init__(self, crate, name, file, lines):
+        self.crate, self.name, self.file, self.lines = crate, name, file, lines
+        self.path = f"{TOP}/crates/{crate}/{file}"
 
-    def read(self, lines):
-        file = old = None
-        for line in lines:
-            word, is_line, text = line.partition(": ")
-            if word == "file" and is_line:
-                file = text
-            elif word == "old" and is_line and file and old is None:
-                old = text
-            elif word == "new" and is_line and old:
-                self.pairs.append((file, old, text))
-                old = None
-            else:
-                raise Fault(f"the line {line!r} can't be read")
-        if not self.pairs or old:
-            raise Fault("it has no line new")
-
-    def path(self, file):
-        return f"{TOP}/crates/{self.crate}/{file}"
+    def pairs(self):
+        """Each old text with its new one."""
+        for old, new in itertools.zip_longest(self.lines[::2] or [""], self.lines[1::2], fillvalue=""):
+            if not old.startswith("- ") or not new.startswith("+ "):
+                raise Fault(f"{old!r} and {new!r} aren't a line '- OLD' and a line '+ NEW'")
+            yield old[2:], new[2:]
 
     def applied(self):
-        """The texts that it makes of files of its crate, by their paths."""
-        if self.fault:
-            raise Fault(self.fault)
-        texts = {}
-        for file, old, new in self.pairs:
-            if file not in texts:
-                texts[file] = self.text_of(file)
-            count = texts[file].count(old)
-            if count != 1:
-                raise Fault(f"{old!r} stands {count} times in {file}")
-            texts[file] = texts[file].replace(old, new)
-        return texts
-
-    def text_of(self, file):
+        """The text that it makes of its file."""
         try:
-            return read(self.path(file))
+            text = read(self.path)
         except OSError as error:
-            raise Fault(f"{file}: {error.strerror}") from None
+            raise Fault(f"{self.file}: {error.strerror}") from None
+        for old, new in self.pairs():
+            count = text.count(old)
+            if count != 1:
+                raise Fault(f"{old!r} stands {count} times in {self.file}")
+            text = text.replace(old, new)
+        return text
 
 
 def edits_of(crate):
     """The wrong bodies of a crate; none if it has no file of them."""
-    path = f"{TOP}/crates/{crate}/wrong-bodies"
-    if not os.path.exists(path):
-        return []
-    stray, *named = [it.splitlines() for it in re.split(r"^name: ", read(path), flags=re.M)]
-    named = [(lines[0], list(filter(None, lines[1:]))) for lines in ([["", *stray]] if any(stray) else []) + named]
-    return [Edit(crate, name, lines) for name, lines in named]
+    path, file, named = f"{TOP}/crates/{crate}/wrong-bodies", None, [("", None, [])]
+    for line in filter(None, read(path).splitlines() if os.path.exists(path) else []):
+        mark, _, text = line.partition(" ")
+        if mark == "#":
+            file = text
+        elif mark == "##":
+            named.append((text, file, []))
+        else:
+            named[-1][2].append(line)
+    return [Edit(crate, *it) for it in named if it[0] or it[2]]
 
 
 def showing_nothing(kit, edits):
     """Yields each edit that shows nothing, and why: it can't be applied, its code doesn't parse, or is as it was."""
     with tempfile.TemporaryDirectory() as room:
-        made, originals = {}, {}
+        made = {}
         for edit in edits:
             try:
-                for file, text in edit.applied().items():
-                    made[edit, file] = f"{room}/{len(made)}.rt"
-                    write(made[edit, file], text)
-                    originals[edit, file] = edit.path(file)
+                text = edit.applied()
+                made[edit] = f"{room}/{len(made)}.rt"
+                write(made[edit], text)
             except Fault as fault:
                 yield edit, str(fault)
-        unparsed, code = unparsed_of(kit, made.values()), code_of(kit, {*made.values(), *originals.values()})
-        for edit in dict.fromkeys(edit for edit, _ in made):
-            files = [file for its, file in made if its is edit]
-            why = [unparsed[made[edit, file]] for file in files if made[edit, file] in unparsed]
-            if why:
-                yield edit, f"it doesn't parse {why[0]}"
-            elif all(code[made[edit, file]] == code[originals[edit, file]] for file in files):
+        unparsed, code = unparsed_of(kit, made.values()), code_of(kit, {*made.values(), *(it.path for it in made)})
+        for edit, file in made.items():
+            if file in unparsed:
+                yield edit, f"it doesn't parse {unparsed[file]}"
+            elif code[file] == code[edit.path]:
                 yield edit, "it changes no code"
 
 

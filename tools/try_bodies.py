@@ -77,13 +77,13 @@ class Place(collections.namedtuple("Place", "file function")):
 
 
 class Edit:
-    """A wrong body: what it makes of the crate's files, and the functions that it changes, if it changes nothing else."""
+    """A wrong body: what it makes of a file, and the functions that it changes, if it changes nothing else."""
 
     def __init__(self, body):
-        self.crate, self.name = body.crate, body.name
+        self.crate, self.name, self.file = body.crate, body.name, body.file
         self.functions, self.result, self.why = [], None, None
         try:
-            self.texts = body.applied()
+            self.text = body.applied()
             self.find_functions()
         except bodies.Fault as fault:
             self.settle(BAD, str(fault))
@@ -95,19 +95,17 @@ class Edit:
         """A new file for the output of a check."""
         return f"{TOP}/crates/{self.crate}/out/wrong-bodies/{self.name}.{os.urandom(2).hex()}.txt"
 
-    def lines_of(self, file):
-        """The lines of a file as they are, and as the edit makes them: as many, since each of its texts is one line."""
-        return read(f"{TOP}/crates/{self.crate}/{file}").split("\n"), self.texts[file].split("\n")
+    def lines(self):
+        """The lines of its file as it makes them: as many as there are, since each of its texts is one line."""
+        return self.text.split("\n")
 
     def find_functions(self):
-        found = set()
-        for file in self.texts:
-            was, now = self.lines_of(file)
-            every = list(functions_in(was))
-            for number, line in enumerate(was):
-                if line != now[number]:
-                    around = [Place(file, it) for it in every if it.first <= number <= it.last]
-                    found.add(around[-1] if around else None)
+        found, was = set(), read(f"{TOP}/crates/{self.crate}/{self.file}").split("\n")
+        every = list(functions_in(was))
+        for number, line in enumerate(self.lines()):
+            if line != was[number]:
+                around = [Place(self.file, it) for it in every if it.first <= number <= it.last]
+                found.add(around[-1] if around else None)
         if None not in found:
             self.functions = sorted(found)
 
@@ -122,9 +120,8 @@ class Unedited:
     def __init__(self, edit):
         self.crate, self.functions = edit.crate, edit.functions
 
-    def lines_of(self, file):
-        lines = read(f"{TOP}/crates/{self.crate}/{file}").split("\n")
-        return lines, lines
+    def lines(self):
+        return read(f"{TOP}/crates/{self.crate}/{self.functions[0].file}").split("\n")
 
 
 class Trial:
@@ -140,8 +137,7 @@ class Trial:
                 shutil.copytree(f"{self.folder}/{part}", f"{room}/{part}")
 
     def put_whole(self, edit):
-        for file, text in edit.texts.items():
-            write(f"{self.room}/{file}", text)
+        write(f"{self.room}/{edit.file}", edit.text)
 
     def path(self, place, name):
         """The path of a function, under this name, as a check prints it; the end of it, if that isn't known."""
@@ -170,7 +166,7 @@ class Trial:
 
     def put_in_place(self, edit):
         for file, own in edit.functions:
-            lines, edited = read(f"{self.room}/{file}").split("\n"), edit.lines_of(file)[1]
+            lines, edited = read(f"{self.room}/{file}").split("\n"), edit.lines()
             lines[own.first : own.last] = edited[own.first : own.last]
             write(f"{self.room}/{file}", "\n".join(lines))
         self.paths[edit] = [self.path(it, it.function.name) for it in edit.functions]
@@ -234,8 +230,7 @@ class Trial:
 
 def twin_of(edit, name):
     """The lines of the edited function under another name, with the attributes above it."""
-    file, own = edit.functions[0]
-    _, lines = edit.lines_of(file)
+    own, lines = edit.functions[0].function, edit.lines()
     above = own.head
     while lines[above - 1].strip().startswith("#["):
         above -= 1
