@@ -197,9 +197,11 @@ class Trial:
         for folder in glob.glob(f"{proofs}/**/{end}", recursive=True):
             own = os.path.relpath(folder, proofs)
             twin = f"{os.path.dirname(own)}/{name}"
-            modules = [f".proofs.{it.replace('/', '.')}." for it in (own, twin)]
+            # a module of the function's, imported by itself or with others of its folder
+            was, now = (it.replace("/", ".") for it in (own, twin))
+            module = re.compile(rf"(?<=\.proofs\.){re.escape(was)}(?=\.)|(?<=[{{ ]){re.escape(was)}(?=\.\w+\.\{{)")
             for file in glob.glob(f"{folder}/**/*.antt", recursive=True):
-                write(f"{self.room}/proofs/{twin}/{os.path.relpath(file, folder)}", read(file).replace(*modules))
+                write(f"{self.room}/proofs/{twin}/{os.path.relpath(file, folder)}", module.sub(now, read(file)))
 
     def edits_at(self, file, line):
         """The edits that an error there may be of: a twin, or what is edited in place in that file."""
