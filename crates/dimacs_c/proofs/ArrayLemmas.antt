@@ -4,7 +4,7 @@ use Rattle.std.specs.Prelude.{IfOk, IfSome}
 use Rattle.dimacs_lines.specs.{declared.device.DeviceFault.{DeviceFault}, Puts.{Accepts}}
 use Rattle.dimacs_judging.specs.declared.verdict.Verdict.{Verdict}
 use Rattle.dimacs_arrays.specs.{declared.error.ArrayError.{ArrayError}, declared.error.ArrayError.TheVariants.{Memory}}
-use Rattle.dimacs_c.specs.Arrays.{AnswersItems, AnswersLine, Buffers, HandsOutAll, Printed, printed, verdict_printed}
+use Rattle.dimacs_c.specs.Arrays.{AnswersItems, AnswersLine, Buffers, HandsOutAll, Printed, buffers, printed, verdict_printed}
 use Rattle.dimacs_c.specs.{Calls.{Handed, HandsNothing, HandsOut, handed}, inside.Arrays.{EndsLine}}
 use Rattle.dimacs_c.specs.inside.Calls.{EndsPrinted}
 use Rattle.dimacs_c.proofs.CallLemmas.{bytes_of}
@@ -22,6 +22,12 @@ pub line_answered : (judges : Result Verdict ArrayError → Type 0) → judges (
     → EndsLine (printed verdict_printed r) exit_status h → AnswersLine judges exit_status h
 line_answered judges memory r holds exit_status h (inl ends) = (r, holds, ends.0, ends.1)
 line_answered judges memory r holds exit_status h (inr ends) = (Err Memory, memory, ends.0, none_by h ends.1)
+
+-- the text was handed out, or memory ran out
+pub text_answered : {X : Type 0} (prints : X → Printed) (gives : Result X ArrayError → Type 0) → gives (Err Memory) → (r : Result X ArrayError) → gives r → (exit_status : ℕ) (h : Handed ℕ)
+    → EndsLine (printed prints r) exit_status h → AnswersItems prints gives exit_status (buffers h None None None)
+text_answered prints gives memory r holds exit_status h (inl ends) = (r, holds, ends.0, record { line = ends.1; marks = tt; numbers = tt; amounts = tt })
+text_answered prints gives memory r holds exit_status h (inr ends) = (Err Memory, memory, ends.0, record { line = none_by h ends.1; marks = tt; numbers = tt; amounts = tt })
 
 -- ---- items, for the buffers that a call may have
 module _ {I : Type 0} (items : List I) where

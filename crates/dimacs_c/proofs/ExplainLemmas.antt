@@ -29,7 +29,7 @@ status_in other (Err error) = other
 
 -- an explanation that ends well ends with the run's status
 same_status : (explained : Bool) (status s : Status) (output new : Written) → EndsWith explained status (Ok s) output new → s ≡ status
-same_status true status s output new follows = elim follows.end [ | inl is ↦ ap (status_in s) is | inr never ↦ absurd cc ]
+same_status true status s output new follows = elim follows.end [ inl is ↦ ap (status_in s) is | inr never ↦ absurd cc ]
 same_status false status s output new same = ap (status_in s) same.0
 
 -- the run ended so too, and its report comes first

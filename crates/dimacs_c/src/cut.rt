@@ -1,22 +1,17 @@
 //! Reading sets of nodes into arrays, and writing them.
 
-ghost use Rattle.std.specs.Prelude.{◌≡◌, None, IfOk, codes};
-ghost use Rattle.dimacs_lines.specs.Puts.{Puts};
+ghost use Rattle.std.specs.Prelude.{◌≡◌, None, codes};
 ghost use Rattle.dimacs_fill.specs.CutFilled.{ReadsCutInto};
 ghost use Rattle.dimacs_arrays.specs.Spelled.{SpellsCutArray};
-ghost use Rattle.dimacs_c.specs.{ArrayTexts.{cut_text}, Arrays.{AnswersItems, buffers, printed}, Calls.{handed}};
+ghost use Rattle.dimacs_c.specs.{ArrayTexts.{cut_text}, Arrays.{AnswersItems, buffers}, Calls.{handed}};
 ghost use Rattle.dimacs_c.specs.Reading.{AnswersRead, SetsLength};
 
-use crate::answer::hand_printed;
-use crate::lines::put_error;
 use crate::reading::{end_read, end_unread};
-use dimacs_arrays::{ArrayError, cut_over};
-use dimacs_claims::{Cut, write_cut};
+use crate::written::hand_text;
+use dimacs_arrays::cut_over;
 use dimacs_fill::read_cut_into;
-use dimacs_lines::{DeviceFault, MemorySink, MemorySource, Sink};
+use dimacs_lines::MemorySource;
 use std::alloc::Global;
-
-const DONE: u32 = 0;
 
 /// Reads a cut or a set. `inside` gets a byte for each node.
 #[unsafe(no_mangle)]
@@ -54,20 +49,5 @@ pub extern "C" fn dimacs_write_cut(
     ensures { AnswersItems cut_text (SpellsCutArray inside.now) result (buffers (handed out.old out.new needed.new) None None None) }
 {
     let answer = cut_over(alloc, inside);
-    let mut text = MemorySink::new(alloc);
-    let status = put_cut(&mut text, &answer);
-    hand_printed(status, text.bytes(), out, needed)
-}
-
-fn put_cut<K: Sink>(sink: &mut K, answer: &Result<Cut, ArrayError>) -> Result<u32, DeviceFault>
-    ensures status { IfOk result (λ status. status ≡ (printed cut_text answer.now).status) }
-    ensures text { Puts result (K.seen sink.old) (printed cut_text answer.now).line (K.seen sink.new) }
-{
-    match answer {
-        Ok(cut) => {
-            write_cut(cut, sink)?;
-            Ok(DONE)
-        }
-        Err(error) => put_error(sink, *error),
-    }
+    hand_text(alloc, &answer, out, needed)
 }

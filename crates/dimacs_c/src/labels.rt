@@ -1,22 +1,17 @@
 //! Reading labels into arrays, and writing them.
 
-ghost use Rattle.std.specs.Prelude.{◌≡◌, None, IfOk, codes};
-ghost use Rattle.dimacs_lines.specs.Puts.{Puts};
+ghost use Rattle.std.specs.Prelude.{◌≡◌, None, codes};
 ghost use Rattle.dimacs_fill.specs.BlockFilled.{ReadsLabelsInto};
 ghost use Rattle.dimacs_arrays.specs.PathsSpelled.{SpellsLabelArrays};
-ghost use Rattle.dimacs_c.specs.{ArrayTexts.{labels_text}, Arrays.{AnswersItems, buffers, printed}, Calls.{handed}};
+ghost use Rattle.dimacs_c.specs.{ArrayTexts.{labels_text}, Arrays.{AnswersItems, buffers}, Calls.{handed}};
 ghost use Rattle.dimacs_c.specs.Reading.{AnswersFilled, SetsLabels};
 
-use crate::answer::hand_printed;
-use crate::lines::put_error;
 use crate::reading::{end_read, end_unfilled};
-use dimacs_arrays::{ArrayError, labels_over};
-use dimacs_claims::{Labels, write_labels};
+use crate::written::hand_text;
+use dimacs_arrays::labels_over;
 use dimacs_fill::read_labels_into;
-use dimacs_lines::{DeviceFault, MemorySink, MemorySource, Sink};
+use dimacs_lines::MemorySource;
 use std::alloc::Global;
-
-const DONE: u32 = 0;
 
 /// Reads the block of this source, as `read_labels_into`. The arrays get a distance and a predecessor for each node.
 #[unsafe(no_mangle)]
@@ -66,23 +61,5 @@ pub extern "C" fn dimacs_write_labels(
         (buffers (handed out.old out.new needed.new) None None None) }
 {
     let answer = labels_over(alloc, source, distances, predecessors);
-    let mut text = MemorySink::new(alloc);
-    let status = put_labels(&mut text, &answer);
-    hand_printed(status, text.bytes(), out, needed)
-}
-
-fn put_labels<K: Sink>(
-    sink: &mut K,
-    answer: &Result<Labels, ArrayError>,
-) -> Result<u32, DeviceFault>
-    ensures status { IfOk result (λ status. status ≡ (printed labels_text answer.now).status) }
-    ensures text { Puts result (K.seen sink.old) (printed labels_text answer.now).line (K.seen sink.new) }
-{
-    match answer {
-        Ok(labels) => {
-            write_labels(labels, sink)?;
-            Ok(DONE)
-        }
-        Err(error) => put_error(sink, *error),
-    }
+    hand_text(alloc, &answer, out, needed)
 }

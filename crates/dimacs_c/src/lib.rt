@@ -29,3 +29,4 @@ mod spread;
 mod texts;
 mod version;
 mod write_instance;
+mod written;

@@ -1,22 +1,17 @@
 //! Reading queries into arrays, and writing them.
 
-ghost use Rattle.std.specs.Prelude.{◌≡◌, nat_lt, None, IfOk, codes};
-ghost use Rattle.dimacs_lines.specs.Puts.{Puts};
+ghost use Rattle.std.specs.Prelude.{◌≡◌, nat_lt, None, codes};
 ghost use Rattle.dimacs_fill.specs.QueriesFilled.{ReadsQueriesInto};
 ghost use Rattle.dimacs_arrays.specs.PathsSpelled.{SpellsQueryArrays};
-ghost use Rattle.dimacs_c.specs.{ArrayTexts.{queries_text}, Arrays.{AnswersItems, buffers, printed}, Calls.{handed}};
+ghost use Rattle.dimacs_c.specs.{ArrayTexts.{queries_text}, Arrays.{AnswersItems, buffers}, Calls.{handed}};
 ghost use Rattle.dimacs_c.specs.Reading.{AnswersRead, SetsQueries};
 
-use crate::answer::hand_printed;
-use crate::lines::put_error;
 use crate::reading::{end_read, end_unread};
-use dimacs_arrays::{ArrayError, queries_over};
+use crate::written::hand_text;
+use dimacs_arrays::queries_over;
 use dimacs_fill::read_queries_into;
-use dimacs_instance::{Queries, write_queries};
-use dimacs_lines::{DeviceFault, MemorySink, MemorySource, Sink};
+use dimacs_lines::MemorySource;
 use std::alloc::Global;
-
-const DONE: u32 = 0;
 
 /// Reads queries. `pairs` gets 1 if they ask for pairs, otherwise 0.
 #[unsafe(no_mangle)]
@@ -61,23 +56,5 @@ pub extern "C" fn dimacs_write_queries(
         (buffers (handed out.old out.new needed.new) None None None) }
 {
     let answer = queries_over(alloc, pairs > 0, froms, tos);
-    let mut text = MemorySink::new(alloc);
-    let status = put_queries(&mut text, &answer);
-    hand_printed(status, text.bytes(), out, needed)
-}
-
-fn put_queries<K: Sink>(
-    sink: &mut K,
-    answer: &Result<Queries, ArrayError>,
-) -> Result<u32, DeviceFault>
-    ensures status { IfOk result (λ status. status ≡ (printed queries_text answer.now).status) }
-    ensures text { Puts result (K.seen sink.old) (printed queries_text answer.now).line (K.seen sink.new) }
-{
-    match answer {
-        Ok(queries) => {
-            write_queries(queries, sink)?;
-            Ok(DONE)
-        }
-        Err(error) => put_error(sink, *error),
-    }
+    hand_text(alloc, &answer, out, needed)
 }

@@ -8,8 +8,8 @@ ghost use Rattle.dimacs_c.specs.{Arrays.{AnswersItems, buffers, printed}, inside
 
 use crate::answer::hand_printed;
 use crate::lines::put_error;
+use crate::written::hand_text;
 use dimacs_arrays::{ArrayError, ClaimedFlow, EndArrays, read_solution_arrays, solution_of_arrays};
-use dimacs_claims::{Solution, write_solution};
 use dimacs_lines::{DeviceFault, MemorySink, Sink};
 use std::alloc::Global;
 
@@ -99,23 +99,5 @@ pub extern "C" fn dimacs_write_solution(
         heads,
     };
     let answer = solution_of_arrays(alloc, value, &arcs, flows);
-    let mut text = MemorySink::new(alloc);
-    let status = put_solution(&mut text, &answer);
-    hand_printed(status, text.bytes(), out, needed)
-}
-
-fn put_solution<K: Sink>(
-    sink: &mut K,
-    answer: &Result<Solution, ArrayError>,
-) -> Result<u32, DeviceFault>
-    ensures status { IfOk result (λ status. status ≡ (printed solution_text answer.now).status) }
-    ensures text { Puts result (K.seen sink.old) (printed solution_text answer.now).line (K.seen sink.new) }
-{
-    match answer {
-        Ok(solution) => {
-            write_solution(solution, sink)?;
-            Ok(DONE)
-        }
-        Err(error) => put_error(sink, *error),
-    }
+    hand_text(alloc, &answer, out, needed)
 }

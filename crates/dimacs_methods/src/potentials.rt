@@ -83,7 +83,7 @@ fn tie_and_link<N: Network, V: Number>(
 ) -> Result<Guess, Memory> {
     let mut groups: Groups<V> = Groups::apart(alloc, claim.numbers.count())?;
     let tied = groups.tie_all(claim);
-    let places = groups.places(alloc)?;
+    let places = groups.into_places(alloc)?;
     if !tied {
         return cycle_within(alloc, claim, &places);
     }

@@ -12,7 +12,7 @@ use std::marker::Model;
 /// How many IDs share a byte.
 const BITS: u32 = 8;
 
-/// A set of node IDs, with a bit for each up to the greatest that it had: at most 17 MB.
+/// A set of node IDs, with a bit for each up to the greatest that it had: at most 17 MB for IDs up to 2^27.
 #[derive(Drop)]
 pub struct NodeSet {
     bytes: Vec<u8>,

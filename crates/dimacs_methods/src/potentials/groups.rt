@@ -128,7 +128,7 @@ impl<V: Number> Groups<V> {
         true
     }
 
-    pub(crate) fn places(mut self, alloc: Global) -> Result<GroupPlaces<V>, Memory> {
+    pub(crate) fn into_places(mut self, alloc: Global) -> Result<GroupPlaces<V>, Memory> {
         let nodes = count_of(&self.parents);
         let mut places = vec![in alloc; place_at(0); nodes as usize]?;
         let groups = self.number_roots(&mut places);

@@ -43,7 +43,7 @@ pub(crate) fn joints<V: Number>(
     if joining.joined < groups / 8 {
         return Ok(None);
     }
-    let places = joining.groups.places(alloc)?;
+    let places = joining.groups.into_places(alloc)?;
     Ok(Some(places))
 }
 
