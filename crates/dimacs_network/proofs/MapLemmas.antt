@@ -6,8 +6,8 @@ use Rattle.std.specs.{Ordering.{nat_cmp}, Cmp.{nat_cmp_total}}
 use Rattle.std.specs.FinMap.{FinMap, empty, insert, get, same_map, nat_cmp-IsAntisymmetric}
 use Rattle.dimacs_network.specs.{declared.node_table.NodeTable.{NodeTable}, declared.node_table.TheConstants.{NO_PAGE}}
 use Rattle.dimacs_network.specs.{Maps.{below_greatest, greatest, made_of, values_below, with_option}, Slots.{place_of}}
-use Rattle.dimacs_network.specs.Tables.{HasSlot, SameValues, blank_of, reach_of, value_of}
-use Rattle.dimacs_network.proofs.Nodes.{get-empty, get-insert_same, get-insert_other}
+use Rattle.dimacs_network.specs.{Skips.{Skips}, Tables.{HasSlot, SameValues, blank_of, reach_of, value_of}}
+use Rattle.dimacs_network.proofs.{Nodes.{get-empty, get-insert_same, get-insert_other}, SkipLemmas.{Skips-weaker}}
 use Rattle.dimacs_network.proofs.SlotLemmas.{slot_value-no_page, slot_value-past}
 
 module _ {T : Type 0} where
@@ -63,6 +63,10 @@ module _ {A T : Type 0} (make : A → Option T) where
         | inl same ↦ rw same (get-made_of new id (ap make still ∙ blank) ∙ ap make is ∙ makes ∙ sym (get-insert_same (made_of make old) id value))
         | inr apart ↦ get-made_of new other (ap make still ∙ blank) ∙ ap make (others other apart) ∙ sym (get-made_of old other blank) ∙ sym (get-insert_other (made_of make old) id other value apart)
       ])
+
+  -- the IDs that were not set are not in the map
+  pub made_of-skips : (table : NodeTable A) (from end to : ℕ) → make (blank_of table) ≡ None → Skips (λ id. value_of table id ≡ blank_of table) from end to → Skips (λ id. get (made_of make table) id ≡ None) from end to
+  made_of-skips table from end to blank is = Skips-weaker _ _ from end to (λ id same. get-made_of table id blank ∙ ap make same ∙ blank) is
 
   -- a node with a value has a slot
   pub HasSlot-value : (table : NodeTable A) (id : ℕ) → make (blank_of table) ≡ None → IsSome (get (made_of make table) id) → HasSlot table id

@@ -1,6 +1,7 @@
 pub mod Lists
 pub mod Maps
 pub mod Sets
+pub mod Skips
 pub mod Slots
 pub mod Tables
 pub mod DenseTables

@@ -1,7 +1,8 @@
 //! Values by node.
 
-ghost use Rattle.std.specs.Prelude.{◌≡◌, IsSome, IsOk, OnOk, OnErr};
+ghost use Rattle.std.specs.Prelude.{◌≡◌, ◌≤◌, None, IsSome, IsOk, OnOk, OnErr};
 ghost use Rattle.std.specs.FinMap as map;
+ghost use Rattle.dimacs_network.specs.Skips.{Skips};
 
 use crate::node_table::NodeTable;
 use dimacs_lines::Memory;
@@ -47,6 +48,15 @@ impl<T: Copy> NodeMap<T> {
         ensures { result ≡ map.get self.now id }
     {
         self.values.get(id)
+    }
+
+    /// The first node from `from` on that may have a value; `end` if there is none before it.
+    #[inline]
+    pub fn next(&self, from: u32, end: u32) -> u32
+        requires { from ≤ end }
+        ensures { Skips (λ id. map.get self.now id ≡ None) from end result }
+    {
+        self.values.next(from, end)
     }
 
     /// Sets the value of a node. Only its first value may allocate; to replace one never fails.

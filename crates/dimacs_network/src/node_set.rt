@@ -2,7 +2,7 @@
 
 ghost use Rattle.std.specs.Prelude.{◌≡◌, ◌≢◌, ◌<◌, ◌≤◌, ◌/◌, ◌%◌, ℕ, IsTrue, IsOk, OnOk, OnErr, false, length, true};
 ghost use Rattle.std.specs.FinSet as set;
-ghost use Rattle.dimacs_network.specs.{Sets.{byte_at, has_bit}, inside.Sets.{SameBytes}};
+ghost use Rattle.dimacs_network.specs.{Sets.{byte_at, has_bit, has_node}, Skips.{Skips}, inside.Sets.{SameBytes}};
 
 use crate::node_table::fill;
 use dimacs_lines::Memory;
@@ -47,6 +47,18 @@ impl NodeSet {
         ensures { result ≡ set.contains self.now id }
     {
         has_bit(byte_at(&self.bytes, id), id)
+    }
+
+    /// The first node from `from` on that may be in the set; `end` if there is none before it.
+    #[inline]
+    pub fn next(&self, from: u32, end: u32) -> u32
+        requires { from ≤ end }
+        ensures { Skips (λ id. set.contains self.now id ≡ false) from end result }
+    {
+        if byte_at(&self.bytes, from) != 0 {
+            return from;
+        }
+        next_byte(&self.bytes, from, end)
     }
 
     /// Adds a node. To repeat one allocates nothing, and can't fail.
@@ -97,6 +109,21 @@ fn byte_at(bytes: &[u8], id: u32) -> u8
         Some(byte) => *byte,
         None => 0,
     }
+}
+
+/// The first node from `from` on whose byte has a node; `end` if there is none before it.
+#[inline(never)]
+fn next_byte(bytes: &[u8], from: u32, end: u32) -> u32
+    requires { from ≤ end }
+    ensures { Skips (λ id. has_node bytes.now id ≡ false) from end result }
+{
+    let places = bytes.len().min((end / BITS) as usize + 1);
+    for place in (from / BITS) as usize..places {
+        if bytes[place] != 0 {
+            return from.max(place as u32 * BITS);
+        }
+    }
+    end
 }
 
 /// Makes room up to a place, for bytes without nodes.

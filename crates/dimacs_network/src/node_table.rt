@@ -1,7 +1,7 @@
 //! A value for each node, blank until it is set.
 
-ghost use Rattle.std.specs.Prelude.{◌≡◌, ◌≢◌, ◌<◌, ◌≤◌, ◌+◌, ◌/◌, ℕ, length, max, slice_index_or, IfOk, IsOk, MatchOption, OnOk, OnErr};
-ghost use Rattle.dimacs_network.specs.{Slots.{place_of}, inside.Slots.{IsDirectory, SameNumbers}};
+ghost use Rattle.std.specs.Prelude.{◌≡◌, ◌≢◌, ◌<◌, ◌≤◌, ◌+◌, ◌/◌, ℕ, length, max, pos, slice_index_or, IfOk, IsOk, MatchOption, OnOk, OnErr};
+ghost use Rattle.dimacs_network.specs.{Skips.{Skips}, Slots.{place_of}, inside.Slots.{IsDirectory, SameNumbers}};
 
 use dimacs_lines::Memory;
 use std::alloc::Global;
@@ -157,6 +157,39 @@ impl<T: Copy> NodeTable<T> {
         }
     }
 
+    /// The first ID from `from` on whose page is allocated; `end` if there is none before it.
+    #[inline]
+    pub fn next(&self, from: u32, end: u32) -> u32
+        requires { from ≤ end }
+        ensures { Skips (λ id. value_of self.now id ≡ blank_of self.now) from end result }
+    {
+        if self.skip_blank(from) == from as usize {
+            return from;
+        }
+        self.next_page(from, end)
+    }
+
+    #[inline(never)]
+    fn next_page(&self, from: u32, end: u32) -> u32
+        requires { from ≤ end }
+        ensures { Skips (λ id. value_of self.now id ≡ blank_of self.now) from end result }
+    {
+        let pages = self.directory.len().min(end as usize / PAGE + 1);
+        for page in from as usize / PAGE..pages {
+            if self.directory[page] != NO_PAGE {
+                return from.max((page * PAGE) as u32);
+            }
+        }
+        end
+    }
+
+    /// The value of each ID that was not set.
+    pub fn blank(&self) -> T
+        ensures { result ≡ blank_of self.now }
+    {
+        self.blank
+    }
+
     /// Allocates the page of an ID that has none.
     #[cold]
     #[inline(never)]
@@ -175,6 +208,23 @@ impl<T: Copy> NodeTable<T> {
         self.slots.resize((number + 1) * PAGE, self.blank)?;
         self.directory[id as usize / PAGE] = number as u32;
         Ok(slot_index(&self.directory, id))
+    }
+}
+
+impl NodeTable<i128> {
+    ghost use Rattle.dimacs_network.specs.Tables.{value_of};
+
+    /// The first ID from `from` on whose number may not be 0; `end` if there is none before it.
+    #[inline]
+    pub fn next_nonzero(&self, from: u32, end: u32) -> u32
+        requires { from ≤ end }
+        ensures { Skips (λ id. value_of self.now id ≡ pos 0) from end result }
+    {
+        if self.blank() == 0 {
+            self.next(from, end)
+        } else {
+            from
+        }
     }
 }
 

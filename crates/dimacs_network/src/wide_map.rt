@@ -1,8 +1,8 @@
 //! 128-bit numbers by node.
 
-ghost use Rattle.std.specs.Prelude.{◌≡◌, ◌<ℤ◌, IsSome, IsOk, OnOk, OnErr};
+ghost use Rattle.std.specs.Prelude.{◌≡◌, ◌≤◌, ◌<ℤ◌, None, IsSome, IsOk, OnOk, OnErr};
 ghost use Rattle.std.specs.FinMap as map;
-ghost use Rattle.dimacs_network.specs.Maps.{greatest};
+ghost use Rattle.dimacs_network.specs.{Maps.{greatest}, Skips.{Skips}};
 
 use crate::node_table::NodeTable;
 use dimacs_lines::Memory;
@@ -52,6 +52,15 @@ impl WideMap {
     {
         let number = self.numbers.get(id);
         (number < NONE).then_some(number)
+    }
+
+    /// The first node from `from` on that may have a number; `end` if there is none before it.
+    #[inline]
+    pub fn next(&self, from: u32, end: u32) -> u32
+        requires { from ≤ end }
+        ensures { Skips (λ id. map.get self.now id ≡ None) from end result }
+    {
+        self.numbers.next(from, end)
     }
 
     /// Sets the number of a node, below the greatest. Only its first number may allocate; to replace one never fails.
