@@ -29,6 +29,10 @@ pub record AreLines (spells : ℕ → Option Record → Type 0) (count : ℕ) (b
   pub none : below 0 ≡ []
   pub more : (i : ℕ) (rec : Option Record) → i < count → spells i rec → below (i + 1) ≡ below i ++ records_of_line rec
 
+-- no number has a record from one up to where this leads
+abbrev pub SkipsNone : (ℕ → ℕ → Type 0) → (ℕ → List Record) → Type 0
+SkipsNone leads below = (i j : ℕ) → leads i j → below j ≡ below i
+
 -- a field of this type can have this content
 abbrev pub Fits : FieldType → Part → Type 0
 Fits (Word w) (Text word) = word ≡ w

@@ -1,9 +1,9 @@
 //! Writing records in the canonical form: one blank between fields, numbers in decimal, a line end.
 
-ghost use Rattle.std.specs.Prelude.{◌≡◌, ◌<◌, ℕ, List, [], ◌∷◌, ◌++◌, length, slice_get, pos, codes};
+ghost use Rattle.std.specs.Prelude.{◌≡◌, ◌<◌, ◌≤◌, ℕ, List, [], ◌∷◌, ◌++◌, length, slice_get, pos, codes};
 ghost use Rattle.dimacs_lines.specs.{Puts.{Puts}, OutputBuffers.{Appends}};
 ghost use Rattle.dimacs_records.specs.{declared.printed.Part.TheVariants.{Number}, declared.records.Record.{Record}};
-ghost use Rattle.dimacs_records.specs.Canonical.{AreLines, canonical_line, canonical_text, line_of, records_of_line};
+ghost use Rattle.dimacs_records.specs.Canonical.{AreLines, SkipsNone, canonical_line, canonical_text, line_of, records_of_line};
 ghost use Rattle.dimacs_records.specs.Spelling.{Text, Amount};
 
 use crate::printed::{Part, write_line};
@@ -33,6 +33,26 @@ pub fn put_text<S: Sink, F: Fn(usize) -> Option<Record>>(
     let mut output = OutputBuffer::new();
     write_all(&mut output, sink, first);
     write_lines(&mut output, sink, count, line);
+    output.finish(sink)
+}
+
+/// The same where few numbers have a line: `next` leads from a number to the first from there on that may have one.
+pub fn put_sparse_text<S: Sink, N: Fn(usize) -> usize, F: Fn(usize) -> Option<Record>>(
+    sink: &mut S,
+    first: &[Record],
+    count: usize,
+    next: N,
+    line: F,
+) -> Result<(), DeviceFault>
+    requires lines { (i : ℕ) → i < count → F.pre line i }
+    requires numbers { (i : ℕ) → i ≤ count → N.pre next i }
+    requires onward { (i j : ℕ) → N.post next i j → (i ≤ j) × (j ≤ count) }
+    ensures { (below : ℕ → List Record) → AreLines (F.post line) count below → SkipsNone (N.post next) below
+        → Puts result (S.seen sink.old) (canonical_text (first.now ++ below count)) (S.seen sink.new) }
+{
+    let mut output = OutputBuffer::new();
+    write_all(&mut output, sink, first);
+    write_sparse_lines(&mut output, sink, count, next, line);
     output.finish(sink)
 }
 
@@ -66,6 +86,28 @@ pub fn write_lines<S: Sink, F: Fn(usize) -> Option<Record>>(
 {
     for i in 0..count {
         write_if_any(output, sink, line(i));
+    }
+}
+
+/// The same where few numbers have a line: `next` leads from a number to the first from there on that may have one.
+#[inline(always)]
+pub fn write_sparse_lines<S: Sink, N: Fn(usize) -> usize, F: Fn(usize) -> Option<Record>>(
+    output: &mut OutputBuffer,
+    sink: &mut S,
+    count: usize,
+    next: N,
+    line: F,
+)
+    requires lines { (i : ℕ) → i < count → F.pre line i }
+    requires numbers { (i : ℕ) → i ≤ count → N.pre next i }
+    requires onward { (i j : ℕ) → N.post next i j → (i ≤ j) × (j ≤ count) }
+    ensures { (below : ℕ → List Record) → AreLines (F.post line) count below → SkipsNone (N.post next) below
+        → Appends (canonical_text (below count)) (S.seen sink.old) output.old (S.seen sink.new) output.new }
+{
+    let mut i = 0;
+    while i < count {
+        write_if_any(output, sink, line(i));
+        i = next(i + 1);
     }
 }
 

@@ -21,7 +21,9 @@ mod reasons;
 mod records;
 mod text;
 
-pub use canonical::{put_record, put_text, write_lines, write_record};
+pub use canonical::{
+    put_record, put_sparse_text, put_text, write_lines, write_record, write_sparse_lines,
+};
 pub use counted::{Builder, CountedReading, read_counted};
 pub use driver::{end_text, read_records, read_text};
 pub use faults::{At, LineFault, ReadError, TakeError};
