@@ -1,9 +1,11 @@
 -- Supplies by node: lines and sums.
 use Rattle.std.proofs.Common.{◌≡◌, ℕ, zero, suc, ◌≤◌, ◌∷◌, ◌++◌, [], List, Option, Some, None, map, ◌+◌, ◌*◌, ◌^◌, cond, refl, ap, ap₂, sym, ◌∙◌, add-one, arith, ◌<◌, Bool, true, false}
-use Rattle.std.proofs.{lemmas.Int.{ints}, lemmas.List.{map-append}, lemmas.List.Sums.{sum_by-append, sum_by-cons}}
+use Rattle.std.proofs.{lemmas.Int.{ints}, lemmas.List.{append-nil, map-append}, lemmas.List.Sums.{sum_by-append, sum_by-cons}}
 use Rattle.std.specs.{Prelude.{ℤ, pos, negsuc, ◌≤ℤ◌, ◌<ℤ◌, ◌+ℤ◌, sum_by, unwrap_or}, List.{filter}}
 use Rattle.std.specs.FinMap.{get, entries, values}
 use Rattle.dimacs_lines.specs.Limits.{most_nodes}
+use Rattle.dimacs_network.specs.Skips.{Skips}
+use Rattle.dimacs_network.proofs.SkipLemmas.{skipped}
 use Rattle.dimacs_network.proofs.Entries.{entry_of, entries_below, entries_below-none, entries_below-next, entries_are, All-get}
 use Rattle.dimacs_records.specs.{declared.records.Record.TheVariants.{MinNode}, Canonical.{AreLines, records_of_line}}
 use Rattle.dimacs_records.specs.{Ranges.{IsWhole}, NodeValues.{has_value, is_nonzero}, declared.records.Record.{Record}}
@@ -25,6 +27,11 @@ module _ (m : MinValue) (law : IsMin m) where
 
   pub next_supplies : (id : ℕ) → supplies_below m (id + 1) ≡ supplies_below m id ++ filter has_value ((id, supply_of m id) ∷ [])
   next_supplies id = entries_below-next (get m.supplies) id ∙ ap (λ es. supplies_below m id ++ es) (entry_is id (get m.supplies id) refl)
+
+  pub skipped_supplies : (from end to : ℕ) → Skips (λ id. supply_of m id ≡ pos 0) from end to → supplies_below m to ≡ supplies_below m from
+  skipped_supplies from end to is =
+      skipped _ (λ n. supplies_below m n ≡ supplies_below m from) from end to is
+      (λ id least below none h. next_supplies id ∙ ap (λ s. supplies_below m id ++ filter has_value ((id, s) ∷ [])) none ∙ append-nil (supplies_below m id) ∙ h) refl
 
   pub all_supplies : supplies_below m (m.nodes + 1) ≡ entries m.supplies
   all_supplies = sym (entries_are m.supplies (m.nodes + 1) (no_supply_past m law))
@@ -60,6 +67,9 @@ module _ (part : ℤ → ℕ) (nothing : part (pos 0) ≡ 0) (m : MinValue) wher
   sum_bound few (suc n) =
       let next : sum_below part m (suc n) ≡ sum_below part m n + part (supply_of m n) = ap (sum_below part m) (sym (add-one n)) ∙ sum_next n in
       omega (arith, next, sum_bound few n, few n)
+
+  pub sum_skip : (from end to : ℕ) → Skips (λ id. supply_of m id ≡ pos 0) from end to → sum_below part m to ≡ sum_below part m from
+  sum_skip from end to is = skipped _ (λ n. sum_below part m n ≡ sum_below part m from) from end to is (λ id least below none h. omega (arith, sum_next id, ap part none, nothing, h)) refl
 
   --   one more supply was added
   pub sum_more : (id : ℕ) (old new s : ℤ) → old ≡ pos (sum_below part m id) → s ≡ supply_of m id → new ≡ old +ℤ pos (part s) → new ≡ pos (sum_below part m (id + 1))

@@ -6,7 +6,7 @@ ghost use Rattle.dimacs_lines.specs.{Limits.{most_nodes, most_count, IsNode}, Li
 ghost use Rattle.dimacs_records.specs.declared.kinds.TextKind.TheVariants as kinds;
 ghost use Rattle.dimacs_records.specs.{declared.records.Record.TheVariants.{MinNode}, Readings.{CountsRead}};
 ghost use Rattle.dimacs_records.specs.{Faults.{Fault}, Texts.{Reads}, NodeValues.{is_nonzero}};
-ghost use Rattle.dimacs_network.specs.Arcs.{JoinsNodes};
+ghost use Rattle.dimacs_network.specs.{Arcs.{JoinsNodes}, Skips.{Skips}};
 ghost use Rattle.dimacs_instance.specs.MinFlows.{MinValue, IsMin, supply_of, positive_part, negative_part, supply_sum, demand_sum, HasBounds, with_supply};
 ghost use Rattle.dimacs_instance.specs.MinTexts.{GivesMin, SpellsMin, canonical_min, min_arc};
 ghost use Rattle.dimacs_instance.specs.MinReading.{IsMinBegunBy, plain_context, context, count_of};
@@ -15,7 +15,7 @@ use dimacs_lines::{DeviceFault, Memory, OutputBuffer, Sink, Source};
 use dimacs_network::{ArcView, ForwardStar, Network, NodeMap, OfCostArcs, PlainArcs, StoredArc};
 use dimacs_records::{
     Builder, Context, CountedReading, Declared, ReadError, Record, TextKind, read_counted,
-    write_lines, write_record,
+    write_lines, write_record, write_sparse_lines,
 };
 use std::alloc::Global;
 use std::marker::{Model, PhantomData};
@@ -140,7 +140,16 @@ impl<N: Network> MinInstance<N> {
         self.supplies.get(id).unwrap_or(0)
     }
 
-    /// The sums of the supplies. Takes time in proportion to the number of nodes.
+    /// The first node from `from` on that may have a supply; `end` if there is none before it.
+    #[inline]
+    pub fn next_supply(&self, from: u32, end: u32) -> u32
+        requires { from ≤ end }
+        ensures { Skips (λ id. supply_of self.now id ≡ pos 0) from end result }
+    {
+        self.supplies.next(from, end)
+    }
+
+    /// The sums of the supplies.
     pub fn supply_sums(&self) -> SupplySums
         ensures supplied { result.supplied ≡ pos (supply_sum self.now) }
         ensures demanded { result.demanded ≡ pos (demand_sum self.now) }
@@ -149,8 +158,11 @@ impl<N: Network> MinInstance<N> {
             supplied: 0,
             demanded: 0,
         };
-        for id in 1..self.network().nodes() + 1 {
+        let end = self.network().nodes() + 1;
+        let mut id = 1;
+        while id < end {
             sums = sums.with(self.supply(id));
+            id = self.next_supply(id + 1, end);
         }
         sums
     }
@@ -333,10 +345,14 @@ pub fn write_min<N: Network, S: Sink>(
     let arcs = network.arcs();
     let mut output = OutputBuffer::new();
     write_record(&mut output, sink, &Record::MinProblem { nodes, arcs });
-    write_lines(
+    write_sparse_lines(
         &mut output,
         sink,
         nodes as usize,
+        |i|
+            requires { i ≤ nodes × nodes ≤ most_nodes }
+            ensures { Skips (λ id. supply_of instance.entry.now id ≡ pos 0) (i + 1) (nodes + 1) (result + 1) }
+        { instance.next_supply(i as u32 + 1, nodes + 1) as usize - 1 },
         |i|
             requires { i < most_nodes }
             ensures { let supply = supply_of instance.entry.now (i + 1) in

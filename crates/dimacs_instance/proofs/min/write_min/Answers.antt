@@ -4,14 +4,20 @@ use Rattle.dimacs_records.proofs.ReadLaws.{spells_one_value}
 use Rattle.dimacs_records.proofs.WrittenLemmas.{all_items, line_after, lines_after, lines_of_items}
 use Rattle.dimacs_instance.specs.MinTexts.{canonical_min, min_arc, min_node}
 use Rattle.dimacs_instance.proofs.MinTextLemmas.{min_round_trip, one_min}
-use Rattle.dimacs_instance.proofs.MinSupplies.{all_supplies, supplies_below, supply_lines}
+use Rattle.dimacs_instance.proofs.MinSupplies.{all_supplies, skipped_supplies, supplies_below, supply_lines}
 use Rattle.dimacs_instance.proofs.min.write_min.Goals as goal
 
-pub write_lines-requires : goal.write_lines-requires
-write_lines-requires g c = λ i within. omega (arith, within, c.nodes-nodes.ensures, c.network-network.ensures.nodes, c.network-network.ensures.lawful.nodes_few)
+pub write_sparse_lines-requires-clause-lines : goal.write_sparse_lines-requires-clause-lines
+write_sparse_lines-requires-clause-lines g c = λ i within. omega (arith, within, c.nodes-nodes.ensures, c.network-network.ensures.nodes, c.network-network.ensures.lawful.nodes_few)
 
-pub write_lines-requires-2 : goal.write_lines-requires-2
-write_lines-requires-2 g c = λ i within. search (rules, within)
+pub write_sparse_lines-requires-clause-numbers : goal.write_sparse_lines-requires-clause-numbers
+write_sparse_lines-requires-clause-numbers g c = λ i within. (within, omega (arith, c.nodes-nodes.ensures, c.network-network.ensures.nodes, c.network-network.ensures.lawful.nodes_few))
+
+pub write_sparse_lines-requires-clause-onward : goal.write_sparse_lines-requires-clause-onward
+write_sparse_lines-requires-clause-onward g c = λ i j is. (omega (arith, is.onward), omega (arith, is.within))
+
+pub write_lines-requires : goal.write_lines-requires
+write_lines-requires g c = λ i within. search (rules, within)
 
 pub returns-clause-puts : goal.returns-clause-puts
 returns-clause-puts g c =
@@ -25,9 +31,9 @@ returns-clause-puts g c =
     let problem = MinProblem nodes n in
     let supplies = map min_node (supplies_below m (nodes + 1)) in
     let first = line_after start _ _ [] problem (c.write_record.ensures start [] (c.new-output.ensures.written start)) in
-    let second = lines_after start _ _ [] (problem ∷ []) supplies _ refl (c.write_lines.ensures (λ i. map min_node (supplies_below m (i + 1))) (supply_lines m law _ nodes (λ i rec within e. e)) start _ first) in
+    let second = lines_after start _ _ [] (problem ∷ []) supplies _ refl (c.write_sparse_lines.ensures (λ i. map min_node (supplies_below m (i + 1))) (supply_lines m law _ nodes (λ i rec within e. e)) (λ i j is. ap (map min_node) (skipped_supplies m law _ _ _ is)) start _ first) in
     let third = lines_after start _ _ [] (problem ∷ supplies) (take n (map min_arc m.arcs)) _ refl
-    (c.write_lines-2.ensures (λ i. take i (map min_arc m.arcs)) (lines_of_items min_arc _ n m.arcs (omega (arith, all_arcs)) (λ i rec within e. rw c.network-network.ensures.arcs at e)) start _ second) in
+    (c.write_lines.ensures (λ i. take i (map min_arc m.arcs)) (lines_of_items min_arc _ n m.arcs (omega (arith, all_arcs)) (λ i rec within e. rw c.network-network.ensures.arcs at e)) start _ second) in
     rw (all_items min_arc n m.arcs all_arcs, all_nodes, all_arcs, all_supplies m law) at (c.finish.ensures start _ third)
 
 pub returns-clause-round_trip : goal.returns-clause-round_trip
