@@ -1,10 +1,12 @@
 -- Lists of IDs, and the IDs from 1 on that pass a test.
 use Rattle.std.proofs.Common.{◌≡◌, inl, inr, ℕ, zero, suc, ◌<◌, ◌≤◌, ◌+◌, ◌-◌, ◌==◌, ◌||◌, ◌&&◌, List, [], ◌∷◌, ◌++◌, length, map, Option, Some, None, Bool, true, false, cond, refl, sym, ◌∙◌, ap, arith, rules}
-use Rattle.std.proofs.{lemmas.Bool.{eqb-true, cases_lt}, lemmas.Bool.Decides.{nat_tests}, lemmas.List.{map-append}}
+use Rattle.std.proofs.{lemmas.Bool.{eqb-true, cases_lt}, lemmas.Bool.Decides.{nat_tests}, lemmas.List.{append-nil, map-append}}
 use Rattle.std.proofs.lemmas.List.Elements.{filter-append, All-nil, All-cons}
 use Rattle.std.specs.{Prelude.{count_by}, List.{All, filter, list_any, range_with_len}}
 use Rattle.dimacs_records.specs.{declared.records.Record.{Record}, Canonical.{AreLines, records_of_line}}
 use Rattle.dimacs_claims.specs.Cuts.{is_id}
+use Rattle.dimacs_network.specs.Skips.{Skips}
+use Rattle.dimacs_network.proofs.SkipLemmas.{skipped}
 use Rattle.dimacs_records.proofs.CountLemmas.{count_by-cons, count_yes, count_no, none_counted}
 
 -- each ID from a on is listed once
@@ -66,6 +68,19 @@ passing_below p id least =
     let this : 1 + (id - 1) ≡ id = omega (arith, least) in
     ap (passing p) after ∙ ap (filter p) (range_next 1 (id - 1)) ∙ filter-append p (range_with_len 1 (id - 1)) ((1 + (id - 1)) ∷ [])
     ∙ ap (λ n. passing p (id - 1) ++ filter p (n ∷ [])) this
+
+-- no ID passes from one up to another
+pub skipped_passing : (p : ℕ → Bool) (from end to : ℕ) → 1 ≤ from → Skips (λ id. p id ≡ false) from end to → passing p (to - 1) ≡ passing p (from - 1)
+skipped_passing p from end to least is =
+    skipped _ (λ n. passing p (n - 1) ≡ passing p (from - 1)) from end to is
+    (λ id more below none h. passing_below p id (omega (arith, least, more)) ∙ ap (λ b. passing p (id - 1) ++ cond b (id ∷ []) []) none ∙ append-nil (passing p (id - 1)) ∙ h) refl
+
+-- the same, if IDs are given from 0
+pub skipped_lines : (p : ℕ → Bool) (i end j : ℕ) → Skips (λ id. p id ≡ false) (i + 1) end (j + 1) → passing p j ≡ passing p i
+skipped_lines p i end j is =
+    let from : i + 1 - 1 ≡ i = omega arith in
+    let to : j + 1 - 1 ≡ j = omega arith in
+    sym (ap (passing p) to) ∙ skipped_passing p (i + 1) end (j + 1) (omega arith) is ∙ ap (passing p) from
 
 -- a line for each ID that passes
 pub lines_of_passing : (p : ℕ → Bool) (line : ℕ → Record) (spells : ℕ → Option Record → Type 0) (n : ℕ)

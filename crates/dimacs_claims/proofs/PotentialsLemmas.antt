@@ -8,6 +8,8 @@ use Rattle.std.specs.{List.{All, filter, list_any, range_with_len}, Cmp.{nat_cmp
 use Rattle.std.specs.FinMap.{FinMap, empty, get, insert, from_entries, same_map, get-from_entries, nat_cmp-IsAntisymmetric}
 use Rattle.std.specs.FinMap.Entries.{find}
 use Rattle.dimacs_lines.specs.Limits.{most_count, most_nodes, IsNode}
+use Rattle.dimacs_network.specs.Skips.{Skips}
+use Rattle.dimacs_network.proofs.SkipLemmas.{Skips-weaker}
 use Rattle.dimacs_records.specs.{declared.records.Record.{Record}, declared.order.Context.{Context}, Ranges.{IsWide}}
 use Rattle.dimacs_records.specs.declared.records.Record.TheVariants.{PotentialsProblem, PotentialsNode}
 use Rattle.dimacs_records.specs.{Earlier.{names, counted_in}, Canonical.{CanBeSpelled, AreLines, records_of_line}}
@@ -255,6 +257,10 @@ potential_lines p spells n each =
       more = λ i rec within e.
           map-map node_line value (passing (nonzero_at p) (i + 1)) ∙ h.more i rec within e ∙ ap (λ rs. rs ++ records_of_line rec) (sym (map-map node_line value (passing (nonzero_at p) i)));
     }
+
+-- nodes of potential 0
+pub skips_nonzero : (p : PotentialsValue) (from end to : ℕ) → Skips (λ id. potential_of p id ≡ pos 0) from end to → Skips (λ id. nonzero_at p id ≡ false) from end to
+skips_nonzero p from end to is = Skips-weaker _ _ from end to (λ id none. ap is_nonzero none) is
 
 -- the number of nodes below this ID with a potential other than 0
 pub count_below_in : (p : PotentialsValue) (id : ℕ) → 1 ≤ id → potential_of p id ≢ pos 0 → length (passing (nonzero_at p) (id - 1)) + 1 ≡ length (passing (nonzero_at p) (id + 1 - 1))

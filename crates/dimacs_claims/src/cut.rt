@@ -1,8 +1,9 @@
 //! Sets of nodes: the source's side of a cut, or a set whose supply can't be met.
 
-ghost use Rattle.std.specs.Prelude.{◌≡◌, ◌≤◌, ◌<◌, ◌+◌, ℕ, List, None, Some, OnOk, OnErr, if◌then◌else◌, length, refl};
+ghost use Rattle.std.specs.Prelude.{◌≡◌, ◌≤◌, ◌<◌, ◌+◌, ℕ, List, None, Some, OnOk, OnErr, false, if◌then◌else◌, length, refl};
 ghost use Rattle.std.specs.FinSet as set;
 ghost use Rattle.dimacs_lines.specs.{Limits.{most_nodes, IsNode}, Lines.{lines}, Puts.{Puts}};
+ghost use Rattle.dimacs_network.specs.Skips.{Skips};
 ghost use Rattle.dimacs_records.specs.declared.kinds.TextKind.TheVariants as kinds;
 ghost use Rattle.dimacs_records.specs.{declared.records.Record.TheVariants.{CutNode}, Faults.{Fault}, Texts.{Reads}};
 ghost use Rattle.dimacs_records.specs.Readings.{CountsRead};
@@ -12,7 +13,8 @@ ghost use Rattle.dimacs_claims.specs.CutReading.{IsCutBegunBy, plain_context, co
 use dimacs_lines::{DeviceFault, Memory, Sink, Source};
 use dimacs_network::NodeSet;
 use dimacs_records::{
-    Builder, Context, CountedReading, Declared, ReadError, Record, TextKind, put_text, read_counted,
+    Builder, Context, CountedReading, Declared, ReadError, Record, TextKind, put_sparse_text,
+    read_counted,
 };
 use std::alloc::Global;
 use std::marker::Model;
@@ -75,6 +77,15 @@ impl Cut {
         ensures { result ≡ set.contains self.now.ids id }
     {
         self.ids.contains(id)
+    }
+
+    /// The first node from `from` on that may be in the set; `end` if there is none before it.
+    #[inline]
+    pub fn next(&self, from: u32, end: u32) -> u32
+        requires { from ≤ end }
+        ensures { Skips (λ id. set.contains self.now.ids id ≡ false) from end result }
+    {
+        self.ids.next(from, end)
     }
 
     /// Adds a node, which may be in the set already.
@@ -190,10 +201,14 @@ pub fn write_cut<S: Sink>(cut: &Cut, sink: &mut S) -> Result<(), DeviceFault>
 {
     let nodes = cut.nodes();
     let count = cut.len();
-    put_text(
+    put_sparse_text(
         sink,
         &[Record::CutProblem { nodes, count }],
         nodes as usize,
+        |i|
+            requires { i ≤ nodes × nodes ≤ most_nodes }
+            ensures { Skips (λ id. set.contains cut.entry.now.ids id ≡ false) (i + 1) (nodes + 1) (result + 1) }
+        { cut.next(i as u32 + 1, nodes + 1) as usize - 1 },
         |i|
             requires { i < most_nodes }
             ensures { result ≡ (if set.contains cut.entry.now.ids (i + 1) then Some (CutNode (i + 1)) else None) }

@@ -1,7 +1,8 @@
 //! Node potentials.
 
-ghost use Rattle.std.specs.Prelude.{◌≡◌, ◌≤◌, ◌<◌, ◌+◌, ℕ, List, None, Some, OnOk, OnErr, if◌then◌else◌, length, refl};
+ghost use Rattle.std.specs.Prelude.{◌≡◌, ◌≤◌, ◌<◌, ◌+◌, ℕ, List, None, Some, OnOk, OnErr, if◌then◌else◌, length, pos, refl};
 ghost use Rattle.dimacs_lines.specs.{Limits.{most_nodes, IsNode}, Lines.{lines}, Puts.{Puts}};
+ghost use Rattle.dimacs_network.specs.Skips.{Skips};
 ghost use Rattle.dimacs_records.specs.declared.kinds.TextKind.TheVariants as kinds;
 ghost use Rattle.dimacs_records.specs.{declared.records.Record.TheVariants.{PotentialsNode}, Faults.{Fault}};
 ghost use Rattle.dimacs_records.specs.{Readings.{CountsRead}, Texts.{Reads}, Ranges.{IsWide}, NodeValues.{is_nonzero}};
@@ -11,7 +12,8 @@ ghost use Rattle.dimacs_claims.specs.PotentialsReading.{ArePotentialsBegunBy, pl
 use dimacs_lines::{DeviceFault, Memory, Sink, Source};
 use dimacs_network::WideMap;
 use dimacs_records::{
-    Builder, Context, CountedReading, Declared, ReadError, Record, TextKind, put_text, read_counted,
+    Builder, Context, CountedReading, Declared, ReadError, Record, TextKind, put_sparse_text,
+    read_counted,
 };
 use std::alloc::Global;
 use std::marker::Model;
@@ -68,6 +70,15 @@ impl Potentials {
         self.values.get(id).unwrap_or(0)
     }
 
+    /// The first node from `from` on whose potential may not be 0; `end` if there is none before it.
+    #[inline]
+    pub fn next(&self, from: u32, end: u32) -> u32
+        requires { from ≤ end }
+        ensures { Skips (λ id. potential_of self.now id ≡ pos 0) from end result }
+    {
+        self.values.next(from, end)
+    }
+
     /// Sets the potential of a node.
     pub fn set(&mut self, id: u32, value: i128) -> Result<(), Memory>
         requires node { IsNode self.old.nodes id }
@@ -82,11 +93,14 @@ impl Potentials {
     pub fn count_nonzero(&self) -> u32
         ensures { result ≡ length (nonzero_ids self.now) }
     {
+        let end = self.nodes() + 1;
         let mut count = 0;
-        for id in 1..self.nodes() + 1 {
+        let mut id = 1;
+        while id < end {
             if self.of(id) != 0 {
                 count += 1;
             }
+            id = self.next(id + 1, end);
         }
         count
     }
@@ -210,10 +224,14 @@ pub fn write_potentials<S: Sink>(potentials: &Potentials, sink: &mut S) -> Resul
 {
     let nodes = potentials.nodes();
     let count = potentials.count_nonzero();
-    put_text(
+    put_sparse_text(
         sink,
         &[Record::PotentialsProblem { nodes, count }],
         nodes as usize,
+        |i|
+            requires { i ≤ nodes × nodes ≤ most_nodes }
+            ensures { Skips (λ id. potential_of potentials.entry.now id ≡ pos 0) (i + 1) (nodes + 1) (result + 1) }
+        { potentials.next(i as u32 + 1, nodes + 1) as usize - 1 },
         |i|
             requires { i < most_nodes }
             ensures { let value = potential_of potentials.entry.now (i + 1) in
