@@ -74,5 +74,5 @@ costs_of arcs = map (λ (a : ArcView). a.cost) arcs
 -- the source's faults after a text was read into arrays: one more after an I/O error, otherwise the same
 abbrev pub CountsFilled : {V : Type 0} → Result V FillError → ℕ → ℕ → Type 0
 CountsFilled (Ok v) old new = new ≡ old
-CountsFilled {V} (Err (Unread error)) old new = CountsRead (Err {V} error) old new
+CountsFilled {V} (Err (Unread error)) old new = CountsRead {V = V} (Err error) old new
 CountsFilled (Err (Node id reason)) old new = new ≡ old
