@@ -152,7 +152,7 @@ release:
 	$(MAKE) dist ARCH=aarch64
 	@echo 'dimacs $(VERSION) can be tagged v$(VERSION), with what CHANGELOG.md says of it'
 
-## make theorem: writes docs/THEOREM.md
+## make theorem: brings docs/THEOREM.md up to date
 theorem:
 	tools/theorem.py
 

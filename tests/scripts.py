@@ -26,7 +26,7 @@ nothing | 0      | tools/believed.py
 nothing | 0      | tools/crate_tables.py --check
 nothing | 750    | tests/promises.py
 nothing | 400    | tests/links.py
-nothing | 13     | tests/theorem.py
+nothing | 14     | tests/theorem.py
 nothing | 40     | tests/completion.py
 nothing | 110    | tests/man_pages.py
 program | 11400  | tests/referee.py {program}

@@ -232,17 +232,21 @@ def traits():
     return found
 
 
-def named_by_laws(bounds, known):
-    """The definitions that the laws of the traits name that stand in bounds, and of those that they ask for in turn."""
-    found, wanted, done = set(), words(bounds) & known.keys(), set()
+def traits_of(bounds, known):
+    """The traits that stand in bounds, and those that they ask for in turn."""
+    wanted, done = words(bounds) & known.keys(), set()
     while wanted:
         trait = wanted.pop()
         done.add(trait)
-        block, named = known[trait]
-        found |= named_in(block, named, [])
+        block, _ = known[trait]
         asked = re.findall(r"^ *type \w+: (.*);", block, re.M) + [block.partition("{")[0]]
         wanted |= (words(" ".join(asked).replace("+", " ")) & known.keys()) - done
-    return found
+    return done
+
+
+def named_by_laws(bounds, known):
+    """The definitions that the laws of the traits name that stand in bounds, and of those that they ask for in turn."""
+    return {it for trait in traits_of(bounds, known) for it in named_in(*known[trait], [])}
 
 
 def named_by(path, name):

@@ -1,21 +1,17 @@
 #!/usr/bin/env python3
-"""Makes the page of all that the judge's contract cites: tools/theorem.py
+"""Rewrites what docs/THEOREM.md has of the sources: tools/theorem.py
 
-It writes docs/THEOREM.md. tools/theorem.md has the text, with these lines between:
+The blocks of code of the page have definitions, and types, traits and functions of Rust. Each is laid out anew as the
+sources have it, a function without its body: to add one, write its name on a line of its own. The comment of a definition
+is the page's if the sources have none. Where several items of Rust have a name, a line `<!-- of FILE -->` before the block
+picks one. In the table of the kit the modules are written anew, and so are the lists after these lines:
 
-    @contract FILE FUNCTION     the declaration of a public function, without its body
-    @trait FILE NAME            a trait of Rust
-    @declared FILE NAME..       types of Rust of one file
-    @define NAME..              definitions, one after another; NAME! has its fields or equations on a line each
-    @comment NAME : SENTENCE    the comment of a definition that has none in the sources
-    @table NAME                 a definition that has a line for each reason, cut short: each gives the reason's own name
-    @kit NAME.. : MEANING       a row of the table of what is cited of the kit
-    @files judge                the files of what it cites
-    @adds command|library       the files and names of what these wider contracts cite beside that
+    <!-- files judge -->             the files of what it cites
+    <!-- adds command|library -->    the files and names of what these wider contracts cite beside that
 
-tools/believed.py finds what the contract cites. The script ends with 1 if something cited is missing on the page, if
-something there isn't cited, stands twice or before what it uses, or if a definition has neither a comment nor its name
-in the text above it. tests/theorem.py tests that the page is what it would write.
+tools/believed.py finds what the contract cites. The script ends with 1 if something cited is missing on the page, or a
+trait that a bound names, if something there isn't cited, stands twice or before what it uses, or if a definition has
+neither a comment nor its name in the text above it. tests/theorem.py tests that the page is what it would write.
 """
 import functools
 import itertools
@@ -28,12 +24,22 @@ import textwrap
 import believed
 from texts import TOP as ROOT, read, write
 
-FRAME = f"{ROOT}/tools/theorem.md"
 PAGE = f"{ROOT}/docs/THEOREM.md"
 CIRCLE = "judge"
 
 # The columns of a line.
 WIDTH = 120
+
+# The definitions whose fields or equations stand on a line each, and the one that has a line for each reason, cut short.
+SPREAD = ("IsWalk", "Least", "Maximum")
+OF_REASONS = "name_of"
+
+# A block of code of the page, the rows of the table of the kit, and a list.
+BLOCK = re.compile(r"(?:<!-- of (\S+) -->\n)?```\w+\n(.*?)\n```\n", re.S)
+KIT_TABLE = re.compile(r"(?<=\| Name \| Meaning \| Module \|\n\|---\|---\|---\|\n)(?:\|.*\n)+")
+LIST = re.compile(r"(<!-- (files|adds) (\w+) -->\n\n)(?:(?:- |  ).*\n)*")
+# What a line of a block begins.
+HEAD = re.compile(r"(?:(pub \w+) |record |data )?(\w+)")
 
 # A kit's module, or that of a type of Rust.
 KIT = re.compile(r"Rattle\.(std|core)\.specs\.")
@@ -41,107 +47,101 @@ DECLARED = re.compile(r"\.specs\.declared\..*?([A-Z]\w*)")
 
 
 class Page:
-    """What the frame asks for, block by block, and what is wrong with it."""
+    """The page as it is made, and what is wrong with it."""
 
-    def __init__(self, defined, circle, outer):
-        self.defined, self.circle, self.outer = defined, circle, outer
-        self.by_name = {name: (module, name) for module, name in circle}
-        names = [name for _, name in circle]
+    def __init__(self, text):
+        self.defined, self.circle, self.outer = cited()
+        self.by_name = {name: (module, name) for module, name in self.circle}
+        names = [name for _, name in self.circle]
         self.wrong = [f"two of this name: {it}" for it in sorted(set(names)) if names.count(it) > 1]
-        self.shown, self.types, self.kit, self.said, self.spread = set(), set(), {}, {}, set()
-        self.text, self.parts = "", []
+        self.shown, self.types, self.bounds = set(), set(), []
+        self.text = LIST.sub(self.listed, KIT_TABLE.sub(self.kit_table, BLOCK.sub(self.block, text)))
+        self.end()
 
-    # ---- what each line of the frame asks for
+    # ---- what is written anew
 
-    def contract(self, path, name):
-        self.add_code([textwrap.dedent(item_of(path, "fn", name, r"(?=^ *\{$)")).rstrip()], "rust")
+    def block(self, match):
+        file, text = match.groups()
+        items = [
+            self.item(kind, name, file) if kind else self.definition(name, comments, match.string[: match.start()])
+            for kind, name, comments in items_in(text)
+        ]
+        return match[0].replace(text, spaced(items))
 
-    def trait(self, path, name):
-        self.add_code([item_of(path, "trait", name)], "rust")
+    def item(self, kind, name, file):
+        if kind == "pub fn":
+            self.bounds += [(name, it) for it in bounds_of(name, item_of(kind, name, r"\)", file))]
+            return textwrap.dedent(item_of(kind, name, r"(?=^ *\{$)", file)).rstrip()
+        self.types.add(name)
+        item = item_of(kind, name, r"^\}", file)
+        return item if kind == "pub trait" else shortened(item)
 
-    def declared(self, path, *names):
-        self.types.update(names)
-        self.add_code(["\n".join(shortened(item_of(path, "(?:enum|struct)", name)) for name in names)], "rust")
+    def definition(self, name, comments, above):
+        if name in self.shown:
+            self.wrong.append(f"twice: {name}")
+        self.shown.add(name)
+        if name not in self.by_name:
+            self.wrong.append(f"not cited: {name}")
+            return name
+        self.check_order(name)
+        block = self.defined.blocks[self.by_name[name]]
+        if name == OF_REASONS:
+            return self.of_reasons(*block)
+        if not block[0].startswith("--"):
+            block = [*comments, *block]
+            if not comments and f"`{name}" not in above:
+                self.wrong.append(f"{name} has no sentence")
+        return bare(block, name in SPREAD)
 
-    def define(self, *names):
-        self.spread |= {it[:-1] for it in names if it.endswith("!")}
-        names = [it.rstrip("!") for it in names]
-        self.add_definitions(names, [self.block(it) for it in map(self.place, names) if it])
+    def of_reasons(self, first, *rows):
+        own = re.compile(rf'{OF_REASONS} (\w+) = codes "\1"')
+        self.wrong += [f"{OF_REASONS}: not the reason's own name: {it}" for it in rows if not own.fullmatch(it)]
+        return bare([first, *rows[:2], f"-- and so on, {len(rows)} lines"])
 
-    def table(self, name):
-        first, *rows = self.defined.blocks[self.place(name)]
-        own = re.compile(rf'{name} (\w+) = codes "\1"')
-        self.wrong += [f"{name}: not the reason's own name: {it}" for it in rows if not own.fullmatch(it)]
-        self.add_definitions([name], [[first, *rows[:2], f"-- and so on, {len(rows)} lines"]])
-
-    def says(self, name, sentence):
-        self.said[name] = sentence
-        if name in self.shown or self.by_name.get(name) and self.has_comment(name):
-            self.wrong.append(f"said of {name}, which has a comment or stands above")
-
-    def kit_table(self):
+    def kit_table(self, match):
         cited = {}
         for module, name in sorted(self.named() - set(self.circle)):
             if KIT.match(module):
-                cited.setdefault(name, KIT.sub("", module))
-        self.wrong += [f"missing in the table of the kit: {it}" for it in sorted(cited.keys() - self.kit.keys())]
-        self.wrong += [f"not cited of the kit: {it}" for it in sorted(self.kit.keys() - cited.keys())]
-        rows = []
-        for meaning, names in itertools.groupby(self.kit, self.kit.get):
-            alike = list(names)
-            modules = dict.fromkeys(f"`{cited.get(it, '')}`" for it in alike)
-            rows.append(f"| {', '.join(map(as_code, alike))} | {meaning} | {', '.join(modules)} |")
-        self.add_text("\n".join(["| Name | Meaning | Module |", "|---|---|---|", *rows]))
+                cited.setdefault(as_code(name), f"`{KIT.sub('', module)}`")
+        rows, shown = [], set()
+        for row in match[0].splitlines():
+            names, meaning, _ = re.split(r"(?<!\\) \| ", row)
+            alike = re.findall("`[^`]+`", names)
+            shown.update(alike)
+            rows.append(f"{names} | {meaning} | {', '.join(dict.fromkeys(cited.get(it, '') for it in alike))} |\n")
+        self.wrong += [f"missing in the table of the kit: {it}" for it in sorted(cited.keys() - shown)]
+        self.wrong += [f"not cited of the kit: {it}" for it in sorted(shown - cited.keys())]
+        return "".join(rows)
+
+    def listed(self, match):
+        head, kind, circle = match.groups()
+        items = self.files(circle) if kind == "files" else self.adds(circle)
+        return head + "".join(f"{filled(f'- {it}')}\n" for it in items)
 
     def adds(self, circle):
-        items = []
         for module in believed.modules_in_order(self.defined, self.outer[circle]):
             names = [it for it in self.defined.blocks if it[0] == module and it in self.outer[circle]]
             if names:
                 lines = believed.lines_of(self.defined, names)
                 listed = ", ".join(f"`{name}`" for _, name in names)
                 path = os.path.relpath(self.defined.files[names[0]], f"{ROOT}/docs")
-                items.append(filled(f"- [{module_of(names[0])}]({path}), {lines} line{'s' * (lines > 1)}: {listed}"))
-        self.add_text("\n".join(items))
+                yield f"[{module_of(names[0])}]({path}), {lines} line{'s' * (lines > 1)}: {listed}"
 
     def files(self, circle):
         listed = {}
         for crate, name in sorted({tuple(module_of(it).split(": ")) for it in self.outer[circle]}):
             listed.setdefault(crate, []).append(f"`{name}`")
-        items = (f"[{it}](../crates/{it}/specs): {', '.join(names)}" for it, names in listed.items())
-        self.add_text("\n".join(filled(f"- {it}") for it in items))
+        return [f"[{it}](../crates/{it}/specs): {', '.join(names)}" for it, names in listed.items()]
 
-    # ---- what they have in common
-
-    def place(self, name):
-        if name not in self.by_name:
-            self.wrong.append(f"not cited: {name}")
-        return self.by_name.get(name)
-
-    def has_comment(self, name):
-        return self.defined.blocks[self.by_name[name]][0].startswith("--")
-
-    def block(self, it):
-        said = self.said.get(it[1])
-        return [*([f"-- {said}"] if said else []), *self.defined.blocks[it]]
+    # ---- what is tested
 
     def named(self):
         """All that the contract and the definitions of the circle name."""
         by_definitions = (self.defined.rests_on[it] for it in self.circle)
         return set().union(believed.named_by(*believed.CIRCLES[CIRCLE]), *by_definitions)
 
-    def add_definitions(self, names, blocks):
-        for name in names:
-            self.check(name)
-        self.add_code([bare(it, name in self.spread) for name, it in zip(names, blocks)], "text")
-
-    def check(self, name):
-        it = self.by_name.get(name)
-        if name in self.shown:
-            self.wrong.append(f"twice: {name}")
-        self.shown.add(name)
-        if not it:
-            return
+    def check_order(self, name):
+        it = self.by_name[name]
         for below in sorted(self.defined.rests_on[it] & set(self.circle)):
             if below[1] not in self.shown:
                 self.wrong.append(f"{name} stands before {below[1]}, which it uses")
@@ -149,36 +149,51 @@ class Page:
             type_of = DECLARED.search(module)
             if type_of and type_of[1] not in self.types:
                 self.wrong.append(f"{name} stands before {type_of[1]}, which it uses")
-        if name not in self.said and not self.has_comment(name) and f"`{name}" not in self.text:
-            self.wrong.append(f"{name} has no sentence")
-
-    def add_text(self, text):
-        self.text += text + "\n"
-        self.parts.append(("prose", text))
-
-    def add_code(self, blocks, kind):
-        if self.parts and self.parts[-1][0] != "prose":
-            before_kind, before = self.parts[-1]
-            # types of Rust on one line each stand among the definitions
-            if before_kind == kind or not any("\n" in it for it in (before if kind == "text" else blocks)):
-                joint = "text" if "text" in (kind, before_kind) else kind
-                self.parts[-1] = joint, [*before, *blocks]
-                return
-        self.parts.append((kind, blocks))
 
     def end(self):
         types = {it[1] for it in map(DECLARED.search, (module for module, _ in self.named())) if it}
-        self.wrong += [f"missing: {it}" for it in sorted(types - self.types | self.by_name.keys() - self.shown)]
-        self.wrong += [f"not cited: {it}" for it in sorted(self.types - types | self.said.keys() - self.shown)]
+        # A trait that only another function's bound names is as good as shown by its name in the text.
+        of_judge = {it for function, it in self.bounds if function == believed.CIRCLES[CIRCLE][1]}
+        named = {it for _, it in self.bounds if it not in of_judge and f"`{it}`" in self.text}
+        traits = {it for _, it in self.bounds}
+        wanted = types | traits - named | self.by_name.keys()
+        self.wrong += [f"missing: {it}" for it in sorted(wanted - self.types - self.shown)]
+        self.wrong += [f"not cited: {it}" for it in sorted(self.types - types - traits)]
 
 
-ASKED = {f"@{it.__name__}": it for it in (Page.contract, Page.trait, Page.declared, Page.define, Page.table, Page.files, Page.adds)}
+def items_in(text):
+    """What a block has: of a definition (None, its name, its comments), of an item of Rust (its first words, its name, _)."""
+    found, comments = [(None, None, None)], []
+    for line in text.split("\n"):
+        head = HEAD.match(line)
+        if line.startswith("-- "):
+            comments.append(line)
+        elif head and head[2] != found[-1][1]:
+            beside = line.partition("  -- ")[2]
+            found.append((head[1], head[2], [*comments, *([f"-- {beside}"] if beside else [])]))
+        if not line.startswith("-- "):
+            comments = []
+    return found[1:]
 
 
-def item_of(path, kind, name, end=r"^\}"):
-    """An item of a file of code, from its head to its end."""
-    found = re.search(rf"^ *pub {kind} {name}\b.*?{end}", read(f"{ROOT}/crates/{path}"), re.M | re.S)
-    return found[0] if found else sys.exit(f"crates/{path} has no {name}")
+@functools.cache
+def item_of(head, name, end, file):
+    """An item of the code, from its head to its end."""
+    files = [f"{ROOT}/crates/{file}"] if file else believed.sources()
+    found = filter(None, (re.search(rf"^ *{head} {name}\b.*?{end}", code(it), re.M | re.S) for it in files))
+    items = [it[0] for it in found]
+    return items[0] if len(items) == 1 else sys.exit(f"{len(items)} items of the code are {head} {name}")
+
+
+@functools.cache
+def code(path):
+    return read(path)
+
+
+def bounds_of(name, head):
+    """The traits that the bounds of a function name, and those that these ask for in turn."""
+    bounds = re.search(rf"fn {name}<(.*)>\(", head, re.S)
+    return sorted(believed.traits_of(bounds[1], believed.traits())) if bounds else []
 
 
 def module_of(it):
@@ -286,47 +301,9 @@ def cited():
     return defined, circles[CIRCLE], outer
 
 
-def build(frame):
-    page = Page(*cited())
-    for paragraph in frame.strip().split("\n\n"):
-        follow(page, paragraph)
-    page.end()
-    return page
-
-
-def follow(page, paragraph):
-    """Adds a paragraph of the frame, or what its lines ask for."""
-    if not paragraph.startswith("@"):
-        page.add_text(paragraph)
-        return
-    for line in re.sub(r"\n  +", " ", paragraph).split("\n"):
-        asked, *words = line.split()
-        if asked == "@kit":
-            names, meaning = line.removeprefix("@kit ").split(" : ", 1)
-            page.kit |= dict.fromkeys(names.split(), meaning)
-        elif asked == "@comment":
-            page.says(words[0], line.split(" : ", 1)[1])
-        elif asked in ASKED:
-            ASKED[asked](page, *words)
-        else:
-            sys.exit(f"{FRAME}: what is {asked}?")
-    if paragraph.startswith("@kit"):
-        page.kit_table()
-
-
-def markdown(page):
-    blocks = [it if kind == "prose" else f"```{kind}\n{spaced(it)}\n```" for kind, it in page.parts]
-    return "\n\n".join(blocks) + "\n"
-
-
-def unlike(text):
-    """What is wrong if the page that is kept isn't this text."""
-    return [] if os.path.exists(PAGE) and text == read(PAGE) else ["docs/THEOREM.md isn't what tools/theorem.py writes"]
-
-
 def main():
-    page = build(read(FRAME))
-    write(PAGE, markdown(page))
+    page = Page(read(PAGE))
+    write(PAGE, page.text)
     print("\n".join(page.wrong), end="\n" if page.wrong else "")
     return 1 if page.wrong else 0
 
