@@ -45,7 +45,7 @@ def main():
     with open(f"{scripts.TOP}/crates.txt", encoding="utf-8") as it:
         crates = re.findall(r"^(\w+_tests)\b.*:", it.read(), re.MULTILINE)
     jobs = [(run_crate, it, build) for it in crates]
-    words = {"build": build, "program": f"{build}/dimacs", "tests": ""}
+    words = {"build": build, "program": f"{build}/dimacs"}
     jobs += [(scripts.run, it, words) for it in scripts.listed("nothing", "program", "build")]
     scripts.finish(*scripts.run_all(jobs))
 

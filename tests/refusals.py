@@ -1,5 +1,5 @@
 #!/usr/bin/env python3
-"""Refuses each growth, read, write and opening of a file in turn: tests/refusals.py [BINARY] [TESTS]
+"""Refuses each growth, read, write and opening of a file in turn: tests/refusals.py [BINARY]
 
 Each run of tests/rows/commands of which no file fails, and each below, is made again with its Nth growth of memory
 refused, N counting up until a run meets no refusal; the same with the Nth read, write and opening; and of the first run
@@ -14,10 +14,8 @@ Runs are made too with the standard devices closed: what is meant for these neve
 that declare the greatest counts, which has to take as many growths, and of as many bytes, as the least ones do. Tiny
 texts with the greatest counts and IDs are judged and solved in little memory.
 
-BINARY is the built program, crates/dimacs/out/dimacs by default. TESTS is crates/dimacs_tests as `rt test` builds it:
-its tests of refused growths run with each growth refused. They are left out if neither is given and TESTS isn't there.
-refusals.c, which refuses the calls, is compiled with cc; and again so that it doesn't see one of the calls: then the
-runs have to fail.
+BINARY is the built program, crates/dimacs/out/dimacs by default. refusals.c, which refuses the calls, is compiled with
+cc; and again so that it doesn't see one of the calls: then the runs have to fail.
 """
 import collections
 import errno
@@ -31,8 +29,6 @@ import malicious
 import scripts
 from instances import BINARY, MEMORY, Folder, refusing_library
 from rows import rows
-
-TESTS = f"{scripts.TOP}/crates/dimacs_tests/out/dimacs_tests_tests"
 
 # The names that some files have in place of those in the words of runs. Blanks at their ends belong to them.
 NAMES = {"road": " odd ", "a": "made.claim ", "b": " made.shown"}
@@ -422,28 +418,6 @@ def judge_far(runs, words, texts, printed):
     print(f"{words} with nodes up to 134217728: {ran.counts.peak} kB")
 
 
-def tests_of(tests):
-    output = subprocess.run([tests, "--list"], capture_output=True, text=True, check=True).stdout
-    names = (line.split(":  ")[0].rsplit(": ", 1)[0] for line in output.splitlines())
-    return [name for name in names if name.startswith("refused_growths::")]
-
-
-def refuse_in_test(runs, tests, name):
-    """Refuses each growth of a test in turn. Yields what is wrong."""
-    for n in range(1, 100_000):
-        runs.runs += 1
-        env = {"LD_PRELOAD": runs.library, "COUNTS": runs.path("counts"), "REFUSE_GROWTH": str(n)}
-        ran = subprocess.run([tests, name], capture_output=True, env=env, check=False)
-        if ran.returncode != 0:
-            yield f"{name}: growth {n} refused: status {ran.returncode}"
-            return
-        if runs.counted()[1] is None:
-            break
-    print(f"{name}: growth {n - 1}")
-    if n == 1:
-        yield f"{name}: no growth is met"
-
-
 def runs_of_rows():
     """The runs of tests/rows/commands that read all of their files, and write others: the words, the status and what is
     printed."""
@@ -454,7 +428,7 @@ def runs_of_rows():
 
 
 def main():
-    binary, tests = map(os.path.abspath, [*sys.argv[1:], *[BINARY, TESTS][len(sys.argv) - 1 :]])
+    binary = os.path.abspath(sys.argv[1] if len(sys.argv) > 1 else BINARY)
     cases = scripts.Counts()
     with tempfile.TemporaryDirectory() as built, tempfile.TemporaryDirectory(dir=MEMORY) as folder:
         runs = Runs(binary, refusing_library(built), folder)
@@ -477,14 +451,6 @@ def main():
             cells = [cell.strip().replace("MOST", MOST).replace(";", "\n") for cell in row.split("|")]
             words, *texts = [cells[0], *(f"{it}\n" for it in cells[1:])]
             cases.faultless(judge_far(runs, words, texts[:-1], texts[-1]))
-        if len(sys.argv) > 2 or os.path.exists(tests):
-            names = tests_of(tests)
-            if not names:
-                cases.faultless([f"{tests} has no test of refused growths"])
-            for name in names:
-                cases.faultless(refuse_in_test(runs, tests, name))
-        else:
-            print(f"no {tests}: its tests aren't run")
     print(f"{runs.runs} runs")
     cases.end()
 

@@ -19,7 +19,7 @@ TOP = os.path.dirname(os.path.dirname(os.path.abspath(__file__)))
 TABLE = """
 nothing | 28     | tests/second_proof.py
 nothing | 420    | tests/lower_addresses.py
-nothing | 42     | tests/gate_test.sh
+nothing | 34     | tests/gate_test.py
 nothing | 0      | tools/try_bodies.py --apply
 nothing | 0      | tools/group_imports.py --check
 nothing | 0      | tools/believed.py
@@ -33,7 +33,7 @@ program | 11400  | tests/referee.py {program}
 program | 51     | tests/batch.py {program}
 program | 150    | tests/large_runs.py {program}
 program | 40     | tests/malicious.py {program} 50000
-program | 101    | tests/refusals.py {program} {tests}
+program | 101    | tests/refusals.py {program}
 program | 650    | tests/draw.py {program}
 program | 1050   | tests/rows.py {program}
 program | 1050   | tests/explain.py {program} 80
@@ -98,8 +98,8 @@ def counted(name, least, status, output):
 
 
 def command_of(line, words):
-    """A command with its words filled in, without those that are empty."""
-    return [it for it in (word.format(**words) for word in line.split()) if it]
+    """A command with its words filled in."""
+    return [it.format(**words) for it in line.split()]
 
 
 def run(script, words):

@@ -17,8 +17,6 @@ mod lookups;
 #[cfg(test)]
 mod pages;
 #[cfg(test)]
-mod refused_growths;
-#[cfg(test)]
 mod scan;
 #[cfg(test)]
 mod surface;
