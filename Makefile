@@ -35,7 +35,7 @@ FOLDERS = PREFIX BINDIR LIBDIR INCLUDEDIR DATADIR MANDIR DOCDIR ZSHDIR DESTDIR
 
 # The folder of what is installed: what is proved, or with UNPROVED=1 what isn't.
 FROM = build$(if $(UNPROVED),/quick)
-MADE = $(if $(wildcard tools/man_pages.py),build/man build/completion)
+MADE = $(if $(wildcard tools/man_pages.py),build/man)
 
 ## make: proves the program and the library, and builds build/dimacs, build/libdimacs.a and build/libdimacs.so
 all: build/dimacs build/linked
@@ -121,10 +121,6 @@ build/man: tools/man_pages.py VERSION crates/dimacs/src/usage.rt $(wildcard man/
 	mkdir -p $@.new
 	tools/man_pages.py $@.new
 	mv $@.new $@
-
-build/completion: tools/completions.py crates/dimacs/src/usage.rt tools/dimacs_batch/options.py tools/dimacs_draw/options.py
-	rm -rf $@
-	tools/completions.py $@
 
 ## make dist: makes packages of what is proved in dist/, and tests them; MAINTAINER="Name <address>" is their contact
 ## make dist ARCH=aarch64: makes those for that system in dist/aarch64; ARCH=windows makes a wheel in dist/windows

@@ -1,17 +1,22 @@
 #!/usr/bin/env python3
-"""Tests the completions that tools/completions.py makes, in the shells that are there: tests/completion.py
+"""Tests the completions of lib/completion in the shells that are there: tests/completion.py [BINARY]
 
 After each command of the usage text, at each of its places, the words, kinds and files that can stand there are
-offered, and after the last place nothing. In zsh the functions that it brings for completion are stood in for.
+offered, and after the last place nothing. In zsh the functions that it brings for completion are stood in for. BINARY is
+the built program; crates/dimacs/out/dimacs by default.
 """
 import os
 import re
 import shutil
 import subprocess
+import sys
 import tempfile
 
 import scripts
+from instances import BINARY
 from usage import usages
+
+MADE = f"{scripts.TOP}/lib/completion"
 
 BASH = """
 source {made}/dimacs.bash
@@ -24,7 +29,8 @@ ZSH = """
 _describe() {{ for it in ${{(P)@[-1]}}; do print -r -- ${{it%%:*}}; done }}
 _files() {{ print -rl -- ${{~2}} }}
 _message() {{ }}
-compadd() {{ print -r -- $2 }}
+_call_program() {{ shift; "$@" }}
+compadd() {{ shift; print -rl -- $@ }}
 words=({words} '') CURRENT={count}+1 service=dimacs
 source {made}/_dimacs
 """
@@ -35,11 +41,10 @@ complete -C '{words} ' | string replace -r '\\t.*' ''
 """
 
 SHELLS = {
-    "bash": (["bash", "-c"], BASH),
-    "zsh": (["zsh", "-f", "-c"], ZSH),
-    "fish": (["fish", "--no-config", "-c"], FISH),
+    "bash": (["bash", "-c"], BASH, "dimacs.bash"),
+    "zsh": (["zsh", "-f", "-c"], ZSH, "_dimacs"),
+    "fish": (["fish", "--no-config", "-c"], FISH, "dimacs.fish"),
 }
-CHECKS = {"bash": "dimacs.bash", "zsh": "_dimacs", "fish": "dimacs.fish"}
 
 
 def usage():
@@ -49,65 +54,52 @@ def usage():
     return commands, re.findall(r"(?:^|  )(\w+)  ", table, re.MULTILINE)
 
 
-def offered(shell, words, folder, made):
+def offered(shell, words, folder):
     """What a shell offers after these words."""
-    command, script = SHELLS[shell]
-    script = script.format(made=made, words=" ".join(words), count=len(words))
-    ran = subprocess.run([*command, script], capture_output=True, text=True, check=False, cwd=folder)
-    return ran.stdout.split(), ran.stderr
+    command, script, _ = SHELLS[shell]
+    script = script.format(made=MADE, words=" ".join(words), count=len(words))
+    path = f"{folder}/bin:{os.environ['PATH']}"
+    how = {"capture_output": True, "text": True, "cwd": f"{folder}/texts", "env": {**os.environ, "PATH": path}}
+    ran = subprocess.run([*command, script], check=False, **how)
+    return sorted(ran.stdout.split()) + ran.stderr.split()
 
 
-def is_right(found, place, commands, kinds, files):
-    """Whether what is offered can stand at a place, and all of it is offered if it isn't a file."""
-    if place == "COMMAND":
-        return sorted(found) == sorted(commands)
-    if place in ("N", None):
-        return not found
-    if place == "KIND":
-        return sorted(found) == sorted(kinds)
-    if place == "--limit":
-        return found == ["--limit"]
-    return bool(found) and set(found) <= set(files)
-
-
-def checks(shell, folder, made):
+def checks(shell, folder, commands, kinds):
     """Yields what was looked at in a shell, and whether it is right."""
-    commands, kinds = usage()
-    files = sorted(os.listdir(folder))
-    command, _ = SHELLS[shell]
-    ran = subprocess.run([command[0], "-n", f"{made}/{CHECKS[shell]}"], capture_output=True, check=False)
-    yield "syntax", ran.returncode == 0 and not ran.stderr
-    found, complaint = offered(shell, ["dimacs"], folder, made)
-    yield f"commands: {found}{complaint}", sorted(found) == sorted(commands) and not complaint
-    explained = sorted(set(commands) - {"explain", "help"})
-    found, complaint = offered(shell, ["dimacs", "explain"], folder, made)
-    yield f"explain: {found}{complaint}", sorted(found) == explained and not complaint
+    command, _, script = SHELLS[shell]
+    yield "syntax", not subprocess.run([command[0], "-n", f"{MADE}/{script}"], check=False).returncode
+    words = {"COMMAND": sorted(commands), "KIND": sorted(kinds), "--limit": ["--limit"], "N": [], None: []}
+    files = {f"a.{kind}" for kind in kinds}
+    yield "commands", offered(shell, ["dimacs"], folder) == words["COMMAND"]
+    explained = offered(shell, ["dimacs", "explain"], folder)
+    yield f"explain: {explained}", explained == sorted(set(commands) - {"explain", "help"})
     for word, places in commands.items():
-        if word == "explain":
-            continue
         typed = ["dimacs", word]
-        for place in [*places, None]:
-            found, complaint = offered(shell, typed, folder, made)
-            yield f"{' '.join(typed)}: {found}{complaint}", is_right(found, place, commands, kinds, files) and not complaint
+        for place in [*places, None] if word != "explain" else []:
+            found = offered(shell, typed, folder)
+            is_right = found == words[place] if place in words else found and set(found) <= files
+            yield f"{' '.join(typed)}: {found}", is_right
             typed.append({"COMMAND": "show", "KIND": "max", "--limit": "--limit", "N": "5"}.get(place, "a"))
     for typed in ["dimacs", "judge-max"], ["dimacs", "explain", "judge-max"]:
-        found, complaint = offered(shell, typed, folder, made)
-        yield f"files of the kind: {found}{complaint}", "a.max" in found and not complaint
+        found = offered(shell, typed, folder)
+        yield f"files of the kind: {found}", "a.max" in found if shell == "fish" else found == ["a.max"]
 
 
-def cases():
+def cases(binary):
     """Yields what was looked at in each shell that is there, and whether it is right."""
-    _, kinds = usage()
-    with tempfile.TemporaryDirectory() as folder, tempfile.TemporaryDirectory() as made:
-        subprocess.run([f"{scripts.TOP}/tools/completions.py", made], check=True)
+    commands, kinds = usage()
+    with tempfile.TemporaryDirectory() as folder:
+        os.makedirs(f"{folder}/bin")
+        os.makedirs(f"{folder}/texts")
+        os.symlink(binary, f"{folder}/bin/dimacs")
         for kind in kinds:
-            open(os.path.join(folder, f"a.{kind}"), "w", encoding="ascii").close()
+            open(f"{folder}/texts/a.{kind}", "w", encoding="ascii").close()
         for shell in SHELLS:
-            if not shutil.which(shell):
+            if shutil.which(shell):
+                yield from ((f"{shell}: {what}", right) for what, right in checks(shell, folder, commands, kinds))
+            else:
                 print(f"left out: {shell}")
-                continue
-            yield from ((f"{shell}: {what}", right) for what, right in checks(shell, folder, made))
 
 
 if __name__ == "__main__":
-    scripts.end_with(cases())
+    scripts.end_with(cases(os.path.abspath(sys.argv[1] if len(sys.argv) > 1 else BINARY)))

@@ -27,7 +27,6 @@ nothing | 0      | tools/crate_tables.py --check
 nothing | 750    | tests/promises.py
 nothing | 400    | tests/links.py
 nothing | 14     | tests/theorem.py
-nothing | 40     | tests/completion.py
 nothing | 110    | tests/man_pages.py
 program | 11400  | tests/referee.py {program}
 program | 51     | tests/batch.py {program}
@@ -38,6 +37,7 @@ program | 650    | tests/draw.py {program}
 program | 1050   | tests/rows.py {program}
 program | 1050   | tests/explain.py {program} 80
 program | 50     | tests/usage.py {program}
+program | 60     | tests/completion.py {program}
 program | 50     | tests/shown_runs.py {program}
 proved  | 6000   | tests/targets.py --build {build}
 proved  | 60     | tools/dist.py ; tests/packages.py dist

@@ -73,11 +73,11 @@ programs() {
     done
     # bash and fish load a completion by the name of its command.
     fish=$DATADIR/fish/vendor_completions.d bash=$DATADIR/bash-completion/completions
-    put 644 "$ZSHDIR" build/completion/_dimacs
-    put 644 "$fish" build/completion/dimacs.fish
+    put 644 "$ZSHDIR" lib/completion/_dimacs
+    put 644 "$fish" lib/completion/dimacs.fish
     link dimacs.fish "$fish/dimacs-batch.fish"
     link dimacs.fish "$fish/dimacs-draw.fish"
-    copy 644 build/completion/dimacs.bash "$bash/dimacs"
+    copy 644 lib/completion/dimacs.bash "$bash/dimacs"
     link dimacs "$bash/dimacs-batch"
     link dimacs "$bash/dimacs-draw"
 }
