@@ -24,7 +24,7 @@ nothing | 0      | tools/try_bodies.py --apply
 nothing | 0      | tools/group_imports.py --check
 nothing | 0      | tools/believed.py
 nothing | 0      | tools/crate_tables.py --check
-nothing | 750    | tests/promises.py
+nothing | 380    | tests/promises.py
 nothing | 400    | tests/links.py
 nothing | 14     | tests/theorem.py
 nothing | 110    | tests/man_pages.py
