@@ -2,9 +2,8 @@
 """Finds what docs/PROMISES.md names: tests/promises.py
 
 The page has to be what tools/promises.py writes, each file that it names has to be there, each clause at one of the
-functions that the head of its table names, and each other name somewhere in the code or the definitions. The lines of
-definitions that the page counts have to be those that tools/believed.py counts. And each name is changed in turn, in a
-copy of its row or paragraph, which has to be found. What the names mean isn't seen.
+functions that the head of its table names, and each other name somewhere in the code or the definitions. And each name is
+changed in turn, in a copy of its row or paragraph, which has to be found. What the names mean isn't seen.
 """
 import collections
 import glob
@@ -125,16 +124,6 @@ def wrong_names(repository, piece):
             yield f"nothing is named {name}"
 
 
-def wrong_counts(page):
-    """Yields if the lines of definitions aren't those that the page counts."""
-    defined = believed.all_definitions()
-    circles = [believed.named_by_all(), *(believed.named_by(*it) for it in believed.CIRCLES.values())]
-    for roots in circles:
-        lines = f"{believed.lines_of(defined, believed.reached_from(defined, roots)):,}"
-        if not re.search(rf"(?<![\d,]){lines}(?![\d,])", page):
-            yield f"the page doesn't have {lines} lines of definitions"
-
-
 def faults_of(repository, piece):
     """What is wrong with the names of a row or paragraph."""
     finders = wrong_files, wrong_clauses, wrong_names
@@ -155,7 +144,7 @@ def main():
     repository = Repository()
     page = scripts.read("docs/PROMISES.md")
     made, faults = promises.made(page)
-    faults += [*wrong_counts(page), *(["the page isn't what tools/promises.py writes"] if made != page else [])]
+    faults += ["the page isn't what tools/promises.py writes"] if made != page else []
     swapped = promises.made(page.replace("`DecidesInfeasible`:", "`DecidesMax`:", 1))[1]
     faults += [] if swapped else ["a definition that the contract doesn't rest on isn't found"]
     passed = 0

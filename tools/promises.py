@@ -2,9 +2,9 @@
 """Writes what docs/PROMISES.md has of the sources: tools/promises.py
 
 In a table with the heads `Contract` and `What its definitions state` each definition, as `NAME`: with a colon, gets its
-comment. The list after `<!-- requires -->` gets the public functions that require something of their callers. The status
-is 1 if no contract in a row's first column rests on a definition in the second. tests/promises.py tests that the page is
-what this writes.
+comment. The list after `<!-- requires -->` gets the public functions that require something of their callers. The lines
+of definitions to believe are counted anew. The status is 1 if no contract in a row's first column rests on a definition
+in the second. tests/promises.py tests that the page is what this writes.
 """
 import os
 import re
@@ -16,6 +16,7 @@ from texts import TOP, read, write
 
 PAGE = f"{TOP}/docs/PROMISES.md"
 TABLE = re.compile(r"^\| Contract.*\| What its definitions state \|\n\|---\|---\|\n(?:\|.*\n)+", re.M)
+COUNTED = re.compile(r"[\d,]+( lines without imports,\s)[\d,]+( for the judge `run_judge`,\s)[\d,]+( for the command)")
 LIST = re.compile(r"(?<=<!-- requires -->\n\n)(?:(?:- |  ).*\n)*")
 
 
@@ -54,10 +55,17 @@ def table_of(sources, table, faults):
     return "\n".join([head, line, *(row_of(sources, it, faults) for it in rows), ""])
 
 
+def counts(defined):
+    """The lines of definitions that one has to believe of the library, of the judge and of the command."""
+    circles = [believed.named_by_all(), *(believed.named_by(*it) for it in believed.CIRCLES.values())]
+    return [f"{believed.lines_of(defined, believed.reached_from(defined, it)):,}" for it in circles]
+
+
 def made(page):
     """The page as it has to be, and what is wrong with its rows."""
     sources, faults = Sources(), []
     page = TABLE.sub(lambda it: table_of(sources, it[0], faults), page)
+    page = COUNTED.sub(lambda it: "".join(map("".join, zip(counts(sources.defined), it.groups()))), page)
     items = (f"- `{crate}`: {', '.join(f'`{it}`' for it in sorted(names))}" for crate, names in sources.requiring.items())
     lines = (textwrap.fill(it, 120, subsequent_indent="  ") for it in items)
     return LIST.sub("".join(f"{it}\n" for it in lines), page), faults
