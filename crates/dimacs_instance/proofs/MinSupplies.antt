@@ -1,6 +1,7 @@
 -- Supplies by node: lines and sums.
 use Rattle.std.proofs.Common.{◌≡◌, ℕ, zero, suc, ◌≤◌, ◌∷◌, ◌++◌, [], List, Option, Some, None, map, ◌+◌, ◌*◌, ◌^◌, cond, refl, ap, ap₂, sym, ◌∙◌, add-one, arith, ◌<◌, Bool, true, false}
-use Rattle.std.proofs.{lemmas.Int.{ints}, lemmas.List.{append-nil, map-append}, lemmas.List.Sums.{sum_by-append, sum_by-cons}}
+use Rattle.std.proofs.{lemmas.Int.{ints}, lemmas.List.{append-nil, map-append}}
+use Rattle.std.proofs.lemmas.List.Sums.{sum_by-append, sum_by-cons}
 use Rattle.std.specs.{Prelude.{ℤ, pos, negsuc, ◌≤ℤ◌, ◌<ℤ◌, ◌+ℤ◌, sum_by, unwrap_or}, List.{filter}}
 use Rattle.std.specs.FinMap.{get, entries, values}
 use Rattle.dimacs_lines.specs.Limits.{most_nodes}

@@ -2,7 +2,8 @@ use Rattle.std.proofs.Common.{ap, map, arith}
 use Rattle.dimacs_records.specs.declared.records.Record.TheVariants.{CutNode}
 use Rattle.dimacs_records.proofs.ReadLaws.{spells_one_value}
 use Rattle.dimacs_claims.specs.Cuts.{canonical_cut}
-use Rattle.dimacs_claims.proofs.{CutLemmas.{cut_round_trip, one_cut}, NodeLists.{lines_of_passing, passing, skipped_lines}}
+use Rattle.dimacs_claims.proofs.CutLemmas.{cut_round_trip, one_cut}
+use Rattle.dimacs_claims.proofs.NodeLists.{lines_of_passing, passing, skipped_lines}
 use Rattle.std.specs.FinSet as set
 use Rattle.dimacs_claims.proofs.cut.write_cut.Goals as goal
 

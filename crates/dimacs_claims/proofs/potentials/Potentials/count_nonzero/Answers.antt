@@ -1,4 +1,5 @@
-use Rattle.std.proofs.{Common.{◌≡◌, ◌≢◌, ◌≤◌, ◌+◌, ◌-◌, length, ◌∙◌, sym, ap, arith, of_z, to_z, SFits, rules}, lemmas.Int.{to_z-of_z}}
+use Rattle.std.proofs.Common.{◌≡◌, ◌≢◌, ◌≤◌, ◌+◌, ◌-◌, length, ◌∙◌, sym, ap, arith, of_z, to_z, SFits, rules}
+use Rattle.std.proofs.lemmas.Int.{to_z-of_z}
 use Rattle.std.specs.{Prelude.{pos}, Int.{w128}}
 use Rattle.dimacs_claims.specs.Potentials.{potential_of}
 use Rattle.dimacs_claims.proofs.NodeLists.{passing_few, skipped_passing}
