@@ -1,9 +1,10 @@
 -- What can flow out of a set of nodes.
-use Rattle.std.proofs.Common.{◌≡◌, ℕ, ◌+◌, ◌-◌, ◌*◌, ◌^◌, ◌≤◌, suc, zero, Bool, true, false, List, take, slice_get, Some, ℤ, ◌+ℤ◌, ◌-ℤ◌, refl, ◌∙◌, arith, w64, SFits, to_z, of_z}
+use Rattle.std.proofs.Common.{◌≡◌, ℕ, ◌+◌, ◌-◌, ◌*◌, ◌^◌, ◌≤◌, suc, zero, Bool, true, false, List, take, slice_get, Some, ℤ, ◌+ℤ◌, ◌-ℤ◌, pos, refl, ◌∙◌, arith, w64, SFits, to_z, of_z}
 use Rattle.std.proofs.lemmas.Int.{ints, to_z-of_z}
 use Rattle.std.specs.Int.{w128}
 use Rattle.dimacs_lines.specs.Limits.{most_nodes}
-use Rattle.dimacs_network.specs.declared.network.ArcView.{ArcView}
+use Rattle.dimacs_network.specs.{declared.network.ArcView.{ArcView}, Skips.{Skips}}
+use Rattle.dimacs_network.proofs.SkipLemmas.{skipped}
 use Rattle.dimacs_judging.specs.{inside.Ranges.{IsOfSize}, Flows.{when}, Cuts.{leaves, enters}}
 use Rattle.dimacs_judging.specs.ViolatedSets.{sum_where, supply_in}
 use Rattle.dimacs_judging.proofs.StepLemmas.{sum_where_more}
@@ -71,3 +72,13 @@ supply_more supply set v old share x low high was small is from fits =
     let fits_share : SFits w128 share = omega (arith, ints) in
     let fits_sum : SFits w128 (old +ℤ share) = omega (arith, ints, was.1) in
     rw (x_is, to_z-of_z w128 share fits_share, to_z-of_z w128 (old +ℤ share) fits_sum) (omega (arith, ints, is, one_more_node supply set v old low was.0), omega (arith, ints, was.1))
+
+when_nothing : (b : Bool) (x : ℤ) → x ≡ pos 0 → when b x ≡ pos 0
+when_nothing true x none = none
+when_nothing false x none = refl
+
+-- the nodes between have no supply
+pub skipped_supply : (supply : ℕ → ℤ) (set : ℕ → Bool) (from end to : ℕ) (sum : ℤ) → 1 ≤ from → Skips (λ v. supply v ≡ pos 0) from end to → IsSupplyOf supply set from sum → IsSupplyOf supply set to sum
+skipped_supply supply set from end to sum low is =
+    skipped _ (λ v. IsSupplyOf supply set v sum) from end to is
+    (λ v least below none was. (omega (arith, ints, one_more_node supply set v sum (omega (arith, low, least)) was.0, when_nothing (set v) (supply v) none), omega (arith, ints, was.1)))

@@ -5,7 +5,8 @@ use Rattle.std.proofs.{lemmas.List.{take_all}, lemmas.List.Elements.{All-head, A
 use Rattle.std.specs.List.{AllZip}
 use Rattle.dimacs_instance.specs.MaxFlows.{HasCapacityAlone}
 use Rattle.dimacs_lines.specs.Limits.{IsNode}
-use Rattle.dimacs_network.specs.{declared.network.ArcView.{ArcView}, Arcs.{JoinsNodes}}
+use Rattle.dimacs_network.specs.{declared.network.ArcView.{ArcView}, Arcs.{JoinsNodes}, Skips.{Skips}}
+use Rattle.dimacs_network.proofs.SkipLemmas.{skipped}
 use Rattle.dimacs_judging.specs.{declared.one_pass.NodeState.{NodeState}, Cuts.{IsTightAt}, Flows.{net, cost, when}}
 use Rattle.dimacs_judging.specs.FlowTests.{BoundFails, balance_row, bound_row, cost_row, feasible_rows}
 use Rattle.dimacs_judging.specs.{Potentials.{IsSlackAt, reduced_cost}, Rows.{flow_row}, inside.Ranges.{IsOfSize}}
@@ -36,6 +37,10 @@ potentials_more p n old new z have sets is = record {
 
 pub sets_blank : (n : ℕ) (states : States) (z : ℤ) → states n ≡ state_with (pos 0) → z ≡ pos 0 → SetsState n (state_with z) states states
 sets_blank n states z none zero = record { set = none ∙ ap state_with (sym zero); others = λ v off. refl }
+
+pub skipped_potentials : (p : ℕ → ℤ) (from end to : ℕ) (states : States) → Skips (λ v. p v ≡ pos 0) from end to → HavePotentials p from states → HavePotentials p to states
+skipped_potentials p from end to states is =
+    skipped _ (λ n. HavePotentials p n states) from end to is (λ v least below none have. potentials_more p v states states (pos 0) have (sets_blank v states (pos 0) (have.blank v (omega arith)) refl) (sym none))
 
 -- the node's state, with more of its balance
 pub adds_at : (node : ℕ) (x sum : ℤ) (state : NodeState) (old new : States) → state.potential ≡ (old node).potential → state.balance ≡ sum → sum ≡ (old node).balance +ℤ x → SetsState node state old new → AddsAt node x old new

@@ -1,10 +1,12 @@
 -- Rows of tests, test by test.
-use Rattle.std.proofs.Common.{◌≡◌, true, false, ℕ, ◌+◌, ◌<◌, ◌≤◌, List, length, get_or, slice_get, Some, None, Result, Ok, Err, IsSome, subst, ℤ, pos, refl, arith, below_more}
+use Rattle.std.proofs.Common.{◌≡◌, true, false, ℕ, ◌+◌, ◌<◌, ◌≤◌, List, length, get_or, slice_get, Some, None, Option, Result, Ok, Err, IsSome, subst, sym, ◌∙◌, ℤ, pos, refl, arith, below_more}
 use Rattle.std.proofs.lemmas.Option.{get_or_from_slice_get, slice_get_within}
-use Rattle.dimacs_network.specs.{declared.network.ArcView.{ArcView}, Arcs.{no_arc, arc_at}}
+use Rattle.dimacs_network.specs.{declared.network.ArcView.{ArcView}, Arcs.{no_arc, arc_at}, Skips.{Skips}}
+use Rattle.dimacs_network.proofs.SkipLemmas.{skipped}
 use Rattle.dimacs_records.specs.{declared.reasons.Reason.{Reason}, declared.reasons.Reason.TheVariants.{NoTightArc}}
 use Rattle.dimacs_judging.specs.{declared.verdict.Where.{Where}, declared.verdict.Where.TheVariants.{Arc, Node}}
-use Rattle.dimacs_judging.specs.{Labels.{HasTightArc}, Tests.{Row, ClearBelow, Clear, FirstOfRow, TestsRow}}
+use Rattle.dimacs_judging.specs.{FlowTests.{AsksNothing, balance_row}, Flows.{net}, Labels.{HasTightArc}}
+use Rattle.dimacs_judging.specs.Tests.{Row, ClearBelow, Clear, FirstOfRow, TestsRow}
 use Rattle.dimacs_judging.specs.CertificateTests.{negative_row, support_row, RelaxFails, relax_row, weight_row}
 use Rattle.dimacs_judging.specs.Rows.{amount_at, arc_row, flow_row, node_row}
 use Rattle.dimacs_claims.specs.Labels.{BlockValue, label, no_label}
@@ -40,6 +42,13 @@ module _ (fails : ArcView → ℤ → Reason → Type 0) (arcs : List ArcView) (
 -- ---- nodes
 pub node_clear_more : (nodes : ℕ) (fails : ℕ → Reason → Type 0) (v : ℕ) → ClearBelow (node_row nodes fails) v → ((reason : Reason) → ¬ fails v reason) → ClearBelow (node_row nodes fails) (v + 1)
 node_clear_more nodes fails v below at = clear_more (node_row nodes fails) v below (λ place reason f. at reason f.2)
+
+-- nodes that have no balance, and may have none
+pub balances_skipped : (nodes : ℕ) (arcs : List ArcView) (demand : ℕ → Option ℤ) (x : List ℤ) (from end to : ℕ) → ((v : ℕ) → from ≤ v → v < to → AsksNothing (demand v)) → Skips (λ v. net arcs x v ≡ pos 0) from end to
+    → ClearBelow (balance_row nodes arcs demand x) from → ClearBelow (balance_row nodes arcs demand x) to
+balances_skipped nodes arcs demand x from end to nothing is =
+    skipped _ (ClearBelow (balance_row nodes arcs demand x)) from end to is
+    (λ v least below none clear. node_clear_more nodes _ v clear (λ reason f. f.1.2 (none ∙ sym (nothing v least below f.1.0 f.1.1))))
 
 pub node_clear_end : (nodes : ℕ) (fails : ℕ → Reason → Type 0) (n : ℕ) → nodes < n → ClearBelow (node_row nodes fails) n → Clear (node_row nodes fails)
 node_clear_end nodes fails n all below v place reason f = below v (omega (arith, f.0.1)) place reason f

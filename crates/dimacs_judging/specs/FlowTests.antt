@@ -39,6 +39,10 @@ TestsFeasible nodes arcs demand x (Err error) = Refuses (First (feasible_rows no
 abbrev pub max_demand : MaxValue → ℕ → Option ℤ
 max_demand i v = if v == i.source then None else (if v == i.sink then None else Some (pos 0))
 
+-- any balance will do, or 0
+abbrev pub AsksNothing : Option ℤ → Type 0
+AsksNothing demand = (d : ℤ) → demand ≡ Some d → d ≡ pos 0
+
 -- every node has to have its supply
 abbrev pub min_demand : MinValue → ℕ → Option ℤ
 min_demand i v = Some (supply_of i v)

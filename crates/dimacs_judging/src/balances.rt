@@ -1,9 +1,9 @@
 //! The balance of each node: its outflow less its inflow.
 
-ghost use Rattle.std.specs.Prelude.{◌≡◌, ◌≤◌, ◌^◌, ◌==◌, ℕ, ℤ, ◌+ℤ◌, ◌-ℤ◌, length, IfOk, OnOk, FitsSigned};
+ghost use Rattle.std.specs.Prelude.{◌≡◌, ◌≤◌, ◌^◌, ◌==◌, ℕ, ℤ, pos, ◌+ℤ◌, ◌-ℤ◌, length, IfOk, OnOk, FitsSigned};
 ghost use Rattle.std.specs.Int.{w128};
 ghost use Rattle.dimacs_lines.specs.Limits.{most_count};
-ghost use Rattle.dimacs_network.specs.Tables.{value_of};
+ghost use Rattle.dimacs_network.specs.{Skips.{Skips}, Tables.{value_of}};
 ghost use Rattle.dimacs_judging.specs.{Flows.{when}, FlowTests.{AreBalances}, inside.Ranges.{IsOfSize}};
 
 use crate::flow::Flow;
@@ -23,6 +23,11 @@ pub(crate) trait NodeBalances {
 
     fn of(&self, node: u32) -> i128
         ensures { result ≡ balance self.now node };
+
+    /// The first node from `from` on whose balance may not be 0; `end` if there is none before it.
+    fn next(&self, from: u32, end: u32) -> u32
+        requires { from ≤ end }
+        ensures { Skips (λ v. balance self.now v ≡ pos 0) from end result };
 }
 
 impl NodeBalances for Balances {
@@ -31,6 +36,11 @@ impl NodeBalances for Balances {
     #[inline(always)]
     fn of(&self, node: u32) -> i128 {
         Balances::of(self, node)
+    }
+
+    #[inline(always)]
+    fn next(&self, from: u32, end: u32) -> u32 {
+        Balances::next(self, from, end)
     }
 }
 
@@ -54,6 +64,15 @@ impl Balances {
         ensures { result ≡ value_of self.now.sums node }
     {
         self.sums.get(node)
+    }
+
+    /// The first node from `from` on whose balance may not be 0; `end` if there is none before it.
+    #[inline(always)]
+    pub fn next(&self, from: u32, end: u32) -> u32
+        requires { from ≤ end }
+        ensures { Skips (λ v. value_of self.now.sums v ≡ pos 0) from end result }
+    {
+        self.sums.next_nonzero(from, end)
     }
 }
 

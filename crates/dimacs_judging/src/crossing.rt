@@ -41,8 +41,11 @@ fn supply_in<N: Network>(instance: &MinInstance<N>, set: &Cut) -> i128
     ensures { result ≡ theory.supply_in instance.now.nodes (supply_of instance.now) (members set.now) }
 {
     let mut sum: i128 = 0;
-    for v in 1..instance.network().nodes() + 1 {
+    let end = instance.network().nodes() + 1;
+    let mut v = 1;
+    while v < end {
         sum += i128::from(supply_at(v, instance, set));
+        v = instance.next_supply(v + 1, end);
     }
     sum
 }

@@ -1,9 +1,10 @@
 //! Whether a flow is feasible: its bounds, and the balances of the nodes.
 
-ghost use Rattle.std.specs.Prelude.{◌≡◌, ◌≤◌, ℕ, ℤ, List, Option, length};
+ghost use Rattle.std.specs.Prelude.{◌≡◌, ◌≤◌, ◌<◌, ℕ, ℤ, List, Option, length};
 ghost use Rattle.dimacs_lines.specs.Limits.{most_count, most_nodes};
+ghost use Rattle.dimacs_network.specs.Skips.{Skips};
 ghost use Rattle.dimacs_judging.specs.{Feasible.{FeasibleMax, FeasibleMin}, Flows.{net}, Tests.{Settles, TestsRow}};
-ghost use Rattle.dimacs_judging.specs.FlowTests.{BoundFails, BalanceFails, bound_row, balance_row, feasible_max_rows, feasible_min_rows, max_demand, min_demand, TestsFeasible};
+ghost use Rattle.dimacs_judging.specs.FlowTests.{AsksNothing, BoundFails, BalanceFails, bound_row, balance_row, feasible_max_rows, feasible_min_rows, max_demand, min_demand, TestsFeasible};
 ghost use Rattle.dimacs_judging.specs.inside.Tests.{NamesReason};
 
 use crate::arc_test::{ArcTest, arcs_hold};
@@ -96,6 +97,11 @@ pub trait Demands {
     /// The balance that the node must have; none if any will do.
     fn demand_at(&self, node: u32) -> Option<i64>
         ensures { result ≡ demand self.now node };
+
+    /// The first node from `from` on that may demand a balance other than 0; `end` if there is none before it.
+    fn next_demand(&self, from: u32, end: u32) -> u32
+        requires { from ≤ end }
+        ensures { Skips (λ v. AsksNothing (demand self.now v)) from end result };
 }
 
 impl<N: Network> Demands for MaxInstance<N> {
@@ -108,6 +114,10 @@ impl<N: Network> Demands for MaxInstance<N> {
             Some(0)
         }
     }
+
+    fn next_demand(&self, _from: u32, end: u32) -> u32 {
+        end
+    }
 }
 
 impl<N: Network> Demands for MinInstance<N> {
@@ -115,6 +125,10 @@ impl<N: Network> Demands for MinInstance<N> {
 
     fn demand_at(&self, node: u32) -> Option<i64> {
         Some(self.supply(node))
+    }
+
+    fn next_demand(&self, from: u32, end: u32) -> u32 {
+        self.next_supply(from, end)
     }
 }
 
@@ -128,12 +142,32 @@ pub(crate) fn balances_hold<N: Network, B: NodeBalances, D: Demands>(
     ensures { (x : List ℤ) → ((v : ℕ) → B.balance balances.now v ≡ net (N.list network.now) x v)
         → TestsRow (balance_row (N.node_count network.now) (N.list network.now) (D.demand demands.now) x) result }
 {
-    for v in 1..network.nodes() + 1 {
+    let end = network.nodes() + 1;
+    let mut demanded = 1;
+    let mut v = 1;
+    while v < end {
         if let Some(reason) = balance_fault(demands.demand_at(v), balances.of(v)) {
             return Err((Where::Node(v), reason));
         }
+        demanded = later_demand(demands, demanded, v + 1, end);
+        v = balances.next(v + 1, demanded);
     }
     Ok(())
+}
+
+/// The first node from `from` on that may demand a balance other than 0. It isn't before `known`, so that a loop doesn't look for the same node twice.
+#[inline(always)]
+fn later_demand<D: Demands>(demands: &D, known: u32, from: u32, end: u32) -> u32
+    requires from { from ≤ end }
+    requires known { known ≤ end }
+    requires nothing { (v : ℕ) → from ≤ v → v < known → AsksNothing (D.demand demands.now v) }
+    ensures { Skips (λ v. AsksNothing (D.demand demands.now v)) from end result }
+{
+    if known < from {
+        demands.next_demand(from, end)
+    } else {
+        known
+    }
 }
 
 fn balance_fault(demand: Option<i64>, balance: i128) -> Option<Reason>

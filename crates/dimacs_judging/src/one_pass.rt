@@ -2,7 +2,7 @@
 
 ghost use Rattle.std.specs.Prelude.{◌≡◌, ◌≤◌, ◌^◌, ℕ, ℤ, All, length, pos, IsTrue, IfSome, OnSome};
 ghost use Rattle.dimacs_lines.specs.Limits.{most_count, most_nodes};
-ghost use Rattle.dimacs_network.specs.{Arcs.{JoinsNodes}, DenseTables.{value_at}, Tables.{value_of}};
+ghost use Rattle.dimacs_network.specs.{Arcs.{JoinsNodes}, DenseTables.{value_at}, Skips.{Skips}, Tables.{value_of}};
 ghost use Rattle.dimacs_network.specs.declared.network.ArcView.{ArcView};
 ghost use Rattle.dimacs_records.specs.declared.reasons.Reason.{Reason};
 ghost use Rattle.dimacs_claims.specs.Potentials.{potential_of};
@@ -33,6 +33,11 @@ pub(crate) trait HasPotentials {
     fn potential_at(&self, node: u32) -> i128
         ensures { result ≡ potential self.now node };
 
+    /// The first node from `from` on whose potential may not be 0; `end` if there is none before it.
+    fn next(&self, from: u32, end: u32) -> u32
+        requires { from ≤ end }
+        ensures { Skips (λ v. potential self.now v ≡ pos 0) from end result };
+
     /// The reason why an arc of this reduced cost fails, if it does.
     fn fault_at(&self, reduced: i64, arc: ArcView, amount: i64) -> Option<Reason>
         ensures { NamesReason (fails self.now reduced arc amount) result };
@@ -48,6 +53,10 @@ impl HasPotentials for Cut {
         if self.contains(node) { 1 } else { 0 }
     }
 
+    fn next(&self, from: u32, end: u32) -> u32 {
+        Cut::next(self, from, end)
+    }
+
     #[inline(always)]
     fn fault_at(&self, reduced: i64, arc: ArcView, amount: i64) -> Option<Reason> {
         slack_fault(i128::from(reduced), arc, amount)
@@ -61,6 +70,10 @@ impl HasPotentials for Potentials {
 
     fn potential_at(&self, node: u32) -> i128 {
         self.of(node)
+    }
+
+    fn next(&self, from: u32, end: u32) -> u32 {
+        Potentials::next(self, from, end)
     }
 
     #[inline(always)]
@@ -79,6 +92,10 @@ impl HasPotentials for NoPotentials {
 
     fn potential_at(&self, _node: u32) -> i128 {
         0
+    }
+
+    fn next(&self, _from: u32, end: u32) -> u32 {
+        end
     }
 
     #[inline(always)]
@@ -106,6 +123,11 @@ pub(crate) trait NodeStates {
     fn state_at(&self, node: u32) -> NodeState
         ensures { result ≡ state self.now node };
 
+    /// The first node from `from` on whose balance may not be 0; `end` if there is none before it.
+    fn next(&self, from: u32, end: u32) -> u32
+        requires { from ≤ end }
+        ensures { Skips (λ v. (state self.now v).balance ≡ pos 0) from end result };
+
     /// None if the node has no place.
     fn set_state(&mut self, node: u32, value: NodeState) -> Option<()>
         ensures { OnSome result (SetsState node value (state self.old) (state self.new)) };
@@ -117,6 +139,11 @@ impl NodeStates for DenseTable<NodeState> {
     #[inline(always)]
     fn state_at(&self, node: u32) -> NodeState {
         self.get(node)
+    }
+
+    #[inline(always)]
+    fn next(&self, from: u32, _end: u32) -> u32 {
+        from
     }
 
     #[inline(always)]
@@ -135,6 +162,15 @@ impl NodeStates for NodeTable<NodeState> {
     #[inline(always)]
     fn state_at(&self, node: u32) -> NodeState {
         self.get(node)
+    }
+
+    #[inline(always)]
+    fn next(&self, from: u32, end: u32) -> u32 {
+        if self.blank().balance == 0 {
+            NodeTable::next(self, from, end)
+        } else {
+            from
+        }
     }
 
     #[inline(always)]
@@ -158,8 +194,11 @@ impl<T: NodeStates + Drop> Sums<T> {
         ensures { IfSome result (λ sums. AreInitial (N.node_count network.now) (P.potential potentials.now) (T.state sums.states) sums.cost) }
     {
         let mut states = states;
-        for v in 1..network.nodes() + 1 {
+        let end = network.nodes() + 1;
+        let mut v = 1;
+        while v < end {
             set_potential(&mut states, v, potentials.potential_at(v))?;
+            v = potentials.next(v + 1, end);
         }
         Some(Sums { states, cost: 0 })
     }
@@ -209,6 +248,11 @@ impl<T: NodeStates> NodeBalances for Sums<T> {
     #[inline(always)]
     fn of(&self, node: u32) -> i128 {
         i128::from(self.states.state_at(node).balance)
+    }
+
+    #[inline(always)]
+    fn next(&self, from: u32, end: u32) -> u32 {
+        self.states.next(from, end)
     }
 }
 
