@@ -155,7 +155,8 @@ pub(crate) fn balances_hold<N: Network, B: NodeBalances, D: Demands>(
     Ok(())
 }
 
-/// The first node from `from` on that may demand a balance other than 0. It isn't before `known`, so that a loop doesn't look for the same node twice.
+/// The first node from `from` on that may demand a balance other than 0: `known` if that is no earlier, so that a loop
+/// doesn't look for the same node twice.
 #[inline(always)]
 fn later_demand<D: Demands>(demands: &D, known: u32, from: u32, end: u32) -> u32
     requires from { from ≤ end }
