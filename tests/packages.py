@@ -103,6 +103,10 @@ class Packages(Installed):
         self.message = f"{pattern}: {found}"
         return re.search(part, found[0])[1] if len(found) == 1 else None
 
+    def has_debian(self):
+        """Whether there are packages for Debian, or they could be made."""
+        return bool(glob.glob(f"{self.dist}/*.deb")) or self.has("the packages for Debian", "dh_python3")
+
     def names(self):
         return sorted(it.name for it in os.scandir(self.dist) if it.is_file())
 
@@ -146,7 +150,7 @@ def test_contents(its):
     """Each package that is there says which machine it is for, and what is compiled in it is for that."""
     for pattern, count in COMPILED.items():
         package = its.only(pattern)
-        if its.system == "windows" and pattern != "*.whl" or pattern.endswith(".deb") and not shutil.which("dpkg-deb"):
+        if its.system == "windows" and pattern != "*.whl" or pattern.endswith(".deb") and not its.has_debian():
             continue
         found = {name: machine_of(content) for name, content in files_in(package)} if package else {}
         found = {name: it for name, it in found.items() if it}
@@ -222,7 +226,7 @@ def test_again(its):
 def test_debian(its, is_root):
     """Installs or unpacks the packages for Debian."""
     found = [its.only(f"{it}_*.deb") for it in DEBIAN]
-    its.expect("the packages for Debian", all(found))
+    its.expect("the packages for Debian", all(found) or not its.has_debian())
     if not all(found) or not its.has("the packages for Debian", "dpkg"):
         return
     if is_root:

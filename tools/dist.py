@@ -2,7 +2,7 @@
 """Makes the packages: tools/dist.py [--for SYSTEM] [OUT]
 
 SYSTEM is x86_64, else aarch64 or windows. Of what `make` proved and built for it, in build/ or build/SYSTEM/, it makes in
-OUT, or in dist/ or dist/SYSTEM/, a tarball with all that `make install` installs, packages for Debian (where dpkg-deb is;
+OUT, or in dist/ or dist/SYSTEM/, a tarball with all that `make install` installs, packages for Debian (where debhelper is;
 tools/debian.py), a wheel for Python, and SHA256SUMS; for Windows the wheel and the sums alone.
 What is of other sources, or doesn't have the mark of what is proved, it refuses, with the status 2. The same files give
 the same packages: they are of the time that SOURCE_DATE_EPOCH has in seconds, or of the last date in CHANGELOG.md.
@@ -37,9 +37,8 @@ SYSTEMS = {
     "windows": System("/windows", ["dimacs.dll"]),
 }
 
-# What packages are of: the version, the time, the machine, the oldest C library of Linux that they run with, and the mark
-# of what is proved.
-Release = collections.namedtuple("Release", "version epoch machine glibc mark")
+# What packages are of: the version, the time, the machine, and the oldest C library of Linux that they run with.
+Release = collections.namedtuple("Release", "version epoch machine glibc")
 
 
 def content(path):
@@ -71,7 +70,7 @@ def release_of(build, name):
     dynamic = [it for it in SYSTEMS[name].built if it in ("dimacs", "libdimacs.so.0")]
     glibc = max((build_wheel.oldest_glibc(content(f"{build}/{it}")) for it in dynamic), default=None)
     epoch = int(os.environ.get("SOURCE_DATE_EPOCH") or last)
-    return Release(read("VERSION").strip(), epoch, name, glibc, build_wheel.PROVED)
+    return Release(read("VERSION").strip(), epoch, name, glibc)
 
 
 def install(build, into, *folders):
@@ -106,11 +105,10 @@ def make_for_linux(build, release, room, out):
     """Makes the packages that are for Linux alone, and the wheel."""
     make_tarball(build, f"{room}/tarball", out, release)
     wheel = make_wheel(build, release.machine, out)
-    if shutil.which("dpkg-deb"):
-        install(build, f"{room}/installed", *debian.folders(release.machine))
-        debian.make(f"{room}/installed", f"{room}/debian", wheel, release, out)
+    if shutil.which("dh_python3"):
+        debian.make(build, f"{room}/source", wheel, release, out)
     else:
-        print("left out: the packages for Debian: no dpkg-deb")
+        print("left out: the packages for Debian: no debhelper and dh-python")
 
 
 def make(build, name, out):
