@@ -1,10 +1,10 @@
 #!/usr/bin/env python3
 """Writes what docs/PROMISES.md has of the sources: tools/promises.py
 
-In a table with the heads `Contract` and `What its definitions state` each definition, as `NAME`: with a colon, gets its
-comment. The list after `<!-- requires -->` gets the public functions that require something of their callers. The lines
-of definitions to believe are counted anew. The status is 1 if no contract in a row's first column rests on a definition
-in the second. tests/promises.py tests that the page is what this writes.
+In a list's item with an arrow each definition after it, as `NAME`: with a colon, gets its comment. The list after
+`<!-- requires -->` gets the public functions that require something of their callers. The lines of definitions to believe
+are counted anew. The status is 1 if no contract before an arrow rests on a definition after it. tests/promises.py tests
+that the page is what this writes.
 """
 import os
 import re
@@ -15,7 +15,7 @@ import believed
 from texts import TOP, read, write
 
 PAGE = f"{TOP}/docs/PROMISES.md"
-TABLE = re.compile(r"^\| Contract.*\| What its definitions state \|\n\|---\|---\|\n(?:\|.*\n)+", re.M)
+ITEM = re.compile(r"^- ([^→\n]*(?:\n  [^→\n]*)*) → (.*\n(?:  .*\n)*)", re.M)
 COUNTED = re.compile(r"[\d,]+( lines without imports,\s)[\d,]+( for the judge `run_judge`,\s)[\d,]+( for the command)")
 LIST = re.compile(r"(?<=<!-- requires -->\n\n)(?:(?:- |  ).*\n)*")
 
@@ -41,18 +41,16 @@ class Sources:
         return {it[1]: " ".join(line[3:] for line in self.defined.blocks[it] if line.startswith("-- ")) for it in reached}
 
 
-def row_of(sources, row, faults):
-    """A row with the comments of its definitions."""
-    contracts, cell = row.strip("| ").split(" | ", 1)
+def filled(item):
+    return textwrap.fill(item, 120, subsequent_indent="  ", break_long_words=False, break_on_hyphens=False) + "\n"
+
+
+def item_of(sources, contracts, definitions, faults):
+    """An item with the comments of its definitions."""
     comments = sources.comments(re.findall(r"`(?:\w+::)?(\w+)`", contracts))
-    names = re.findall(r"`(\w+)`:", cell)
+    names = re.findall(r"`(\w+)`:", definitions)
     faults += [f"{contracts}: no comment of {it}, or they don't rest on it" for it in names if not comments.get(it)]
-    return f"| {contracts} | {' '.join(f'`{it}`: {comments.get(it)}.' for it in names)} |"
-
-
-def table_of(sources, table, faults):
-    head, line, *rows = table.splitlines()
-    return "\n".join([head, line, *(row_of(sources, it, faults) for it in rows), ""])
+    return filled(f"- {' '.join(contracts.split())} → {' '.join(f'`{it}`: {comments.get(it)}.' for it in names)}")
 
 
 def counts(defined):
@@ -64,11 +62,10 @@ def counts(defined):
 def made(page):
     """The page as it has to be, and what is wrong with its rows."""
     sources, faults = Sources(), []
-    page = TABLE.sub(lambda it: table_of(sources, it[0], faults), page)
+    page = ITEM.sub(lambda it: item_of(sources, *it.groups(), faults), page)
     page = COUNTED.sub(lambda it: "".join(map("".join, zip(counts(sources.defined), it.groups()))), page)
     items = (f"- `{crate}`: {', '.join(f'`{it}`' for it in sorted(names))}" for crate, names in sources.requiring.items())
-    lines = (textwrap.fill(it, 120, subsequent_indent="  ") for it in items)
-    return LIST.sub("".join(f"{it}\n" for it in lines), page), faults
+    return LIST.sub("".join(map(filled, items)), page), faults
 
 
 def main():
