@@ -23,10 +23,13 @@ impl NodeNumbers {
         instance: &MinInstance<N>,
     ) -> Result<NodeNumbers, Memory> {
         let mut numbers = NodeNumbers::of_ends(alloc, instance.network())?;
-        for id in 1..=instance.network().nodes() {
+        let end = instance.network().nodes() + 1;
+        let mut id = 1;
+        while id < end {
             if instance.supply(id) != 0 {
                 numbers.add(id)?;
             }
+            id = instance.next_supply(id + 1, end);
         }
         Ok(numbers)
     }
