@@ -1,7 +1,9 @@
 -- Summing excesses, node by node.
-use Rattle.std.proofs.Common.{◌≡◌, ℕ, suc, zero, ◌+◌, ◌-◌, ◌*◌, ◌^◌, ◌≤◌, List, ℤ, pos, negsuc, ◌+ℤ◌, ◌≤ℤ◌, refl, ap, arith}
+use Rattle.std.proofs.Common.{◌≡◌, ℕ, suc, zero, ◌+◌, ◌-◌, ◌*◌, ◌^◌, ◌≤◌, List, ℤ, pos, negsuc, ◌+ℤ◌, ◌≤ℤ◌, refl, ap, subst, arith}
 use Rattle.std.proofs.lemmas.Int.{ints}
 use Rattle.dimacs_instance.specs.MinFlows.{MinValue, positive_part}
+use Rattle.dimacs_network.specs.Skips.{Skips}
+use Rattle.dimacs_network.proofs.SkipLemmas.{skipped}
 use Rattle.dimacs_judging.specs.{Flows.{sum_nodes}, inside.Ranges.{IsOfSize}}
 use Rattle.dimacs_judging.proofs.Sums.{sum_nodes-same}
 use Rattle.dimacs_decide.specs.{FeasibilityDecision.{imbalance_at, total_excess}, inside.Imbalances.{AreImbalances}}
@@ -33,6 +35,14 @@ excess_more imbalance (suc id) sum some size is =
       least = omega (arith, ints, is.least);
       most = omega (arith, ints, is.most, small);
     }
+
+pub excess_skipped : (imbalance : ℕ → ℤ) (from end to : ℕ) (sum : ℤ) → 1 ≤ from → Skips (λ v. imbalance v ≡ pos 0) from end to → IsExcessBelow imbalance from sum → IsExcessBelow imbalance to sum
+excess_skipped imbalance from end to sum low is =
+    skipped _ (λ n. IsExcessBelow imbalance n sum) from end to is
+    (λ v least below none so_far.
+    let part : pos (positive_part (imbalance v)) ≡ pos 0 = ap (λ z. pos (positive_part z)) none in
+    let same : sum +ℤ pos (positive_part (imbalance v)) ≡ sum = omega (arith, ints, part) in
+    subst (IsExcessBelow imbalance (v + 1)) same (excess_more imbalance v sum (omega (arith, low, least)) (omega (arith, ints, none), omega (arith, ints, none)) so_far))
 
 pub excess_is : (i : MinValue) (x : List ℤ) (imbalance : ℕ → ℤ) → AreImbalances i x imbalance → sum_nodes (λ v. pos (positive_part (imbalance v))) i.nodes ≡ total_excess i x
 excess_is i x imbalance are = sum_nodes-same (λ v. pos (positive_part (imbalance v))) (λ v. pos (positive_part (imbalance_at i x v))) i.nodes (λ v h. ap (λ (z : ℤ). pos (positive_part z)) (are v h))

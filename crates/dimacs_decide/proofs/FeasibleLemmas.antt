@@ -1,18 +1,19 @@
 -- What excesses show of a flow that keeps the bounds.
-use Rattle.std.proofs.Common.{◌≡◌, ◌≢◌, inl, inr, ℕ, ◌+◌, ◌<◌, ◌≤◌, ◌==◌, ◌&&◌, Bool, true, false, not, List, [], ◌∷◌, All, ℤ, pos, negsuc, ◌+ℤ◌, ◌-ℤ◌, ◌≤ℤ◌, ◌<ℤ◌, refl, sym, ap, subst, ◌∙◌, arith, eq-eqb}
-use Rattle.std.proofs.{lemmas.Int.{ints}, lemmas.Bool.{cases_eq, cases_order, false≢true, ne_eqb}}
-use Rattle.std.proofs.lemmas.List.Elements.{All-head, All-tail}
+use Rattle.std.proofs.Common.{◌≡◌, ◌≢◌, inl, inr, ℕ, suc, length, slice_get, Some, ◌+◌, ◌<◌, ◌≤◌, ◌==◌, ◌&&◌, Bool, true, false, not, List, [], ◌∷◌, ℤ, pos, negsuc, ◌+ℤ◌, ◌-ℤ◌, ◌≤ℤ◌, ◌<ℤ◌, refl, sym, ap, subst, ◌∙◌, arith, eq-eqb}
+use Rattle.std.proofs.{lemmas.Int.{ints}, lemmas.Bool.{cases_eq, cases_lt, cases_order, false≢true, ne_eqb}}
+use Rattle.std.proofs.lemmas.Option.{get_or_from_slice_get}
 use Rattle.std.specs.List.{AllZip}
-use Rattle.dimacs_network.proofs.Nodes.{contains-insert}
+use Rattle.dimacs_network.proofs.{Nodes.{contains-insert}, SkipLemmas.{skipped}}
 use Rattle.dimacs_lines.specs.Limits.{IsNode}
-use Rattle.dimacs_claims.specs.Cuts.{CutValue, empty_cut, with_node}
-use Rattle.dimacs_network.specs.{declared.network.ArcView.{ArcView}, Arcs.{JoinsNodes}}
+use Rattle.dimacs_claims.specs.Cuts.{CutValue, with_node}
+use Rattle.dimacs_network.specs.{declared.network.ArcView.{ArcView}, Arcs.{arc_at, no_arc}, Skips.{Skips}}
 use Rattle.dimacs_instance.specs.MinFlows.{IsMin, MinValue, positive_part, supply_of}
 use Rattle.dimacs_judging.specs.{Cuts.{enters, leaves, members}, Feasible.{FeasibleMin}, Flows.{net, when}}
 use Rattle.dimacs_judging.specs.{InfeasibleJudge.{ShowsNoFlow}, ViolatedSets.{Violated}}
 use Rattle.dimacs_judging.proofs.{Duality.{across_is, violated_has_no_flow}, Sums.{sum_nodes-zero}}
 use Rattle.dimacs_decide.specs.{Bounds.{KeepsBounds}, FeasibilityDecision.{imbalance_at, total_excess}}
-use Rattle.dimacs_decide.specs.{inside.Augmentation.{IsSent, IsStuck}, inside.Imbalances.{AreImbalances, AreSigns}}
+use Rattle.dimacs_decide.specs.inside.Augmentation.{IsSent, IsStuck}
+use Rattle.dimacs_decide.specs.inside.Imbalances.{AreImbalances, AreSigns, HasDeficits, HasEnds}
 use Rattle.dimacs_decide.specs.declared.imbalance.ImbalanceSigns.{ImbalanceSigns}
 use Rattle.dimacs_decide.specs.declared.imbalance.ImbalanceSigns.TheVariants.{Even, Excess, Deficit}
 use Rattle.dimacs_decide.proofs.SumLemmas.{across_of, sum_nodes-less, sum_nodes-split}
@@ -55,6 +56,10 @@ stuck_tells i x imbalance reached set law are r node begun some is =
     shows i set law is.of (inl (omega (arith, ints, more, sum_nodes-zero (λ v. pos 0) i.nodes (λ v h. refl), split, crossing, most)))
 
 -- ---- no excess, and some deficit
+when_none : (b : Bool) (z : ℤ) → z ≤ℤ pos 0 → when b z ≤ℤ pos 0
+when_none true z h = h
+when_none false z h = omega (arith, ints)
+
 when_all : (b : Bool) (z : ℤ) → b ≡ true → when b z ≡ z
 when_all b z e = rw e refl
 
@@ -63,25 +68,25 @@ no_crossing true true z low cap e f = (λ h. absurd (false≢true h), λ h. absu
 no_crossing true false z low cap e f = absurd (false≢true f)
 no_crossing false d z low cap e f = absurd (false≢true e)
 
-none_cross : (nodes : ℕ) (set : ℕ → Bool) (arcs : List ArcView) (x : List ℤ) → All (JoinsNodes nodes) arcs → KeepsBounds arcs x → ((v : ℕ) → IsNode nodes v → set v ≡ true)
+none_cross : (set : ℕ → Bool) (arcs : List ArcView) (x : List ℤ) → KeepsBounds arcs x → HasEnds arcs (length arcs) set
     → AllZip (λ a z. (leaves set a ≡ true → z ≡ a.low) × (enters set a ≡ true → z ≡ a.cap)) arcs x
-none_cross nodes set [] [] joined w all = tt
-none_cross nodes set [] (z ∷ x) joined w all = absurd w
-none_cross nodes set (a ∷ arcs) [] joined w all = absurd w
-none_cross nodes set (a ∷ arcs) (z ∷ x) joined w all =
-    let ends = All-head (JoinsNodes nodes) a arcs joined in
-    (no_crossing (set a.tail) (set a.head) z a.low a.cap (all a.tail ends.0) (all a.head ends.1), none_cross nodes set arcs x (All-tail (JoinsNodes nodes) a arcs joined) w.1 all)
+none_cross set [] [] w ends = tt
+none_cross set [] (z ∷ x) w ends = absurd w
+none_cross set (a ∷ arcs) [] w ends = absurd w
+none_cross set (a ∷ arcs) (z ∷ x) w ends =
+    let first = ends 0 (omega arith) in
+    (no_crossing (set a.tail) (set a.head) z a.low a.cap first.0 first.1, none_cross set arcs x w.1 (λ k inside. ends (suc k) (omega (arith, inside))))
 
-pub short_tells : (i : MinValue) (x : List ℤ) (imbalance : ℕ → ℤ) (set : CutValue) → IsMin i → KeepsBounds i.arcs x → AreImbalances i x imbalance → set.nodes ≡ i.nodes → ((v : ℕ) → IsNode i.nodes v → members set v ≡ true)
+pub short_tells : (i : MinValue) (x : List ℤ) (imbalance : ℕ → ℤ) (set : CutValue) → IsMin i → KeepsBounds i.arcs x → AreImbalances i x imbalance → set.nodes ≡ i.nodes → HasEnds i.arcs (length i.arcs) (members set) → HasDeficits (i.nodes + 1) imbalance (members set)
     → ((v : ℕ) → 1 ≤ v → v < i.nodes + 1 → imbalance v ≤ℤ pos 0) → (r : ℕ) → IsNode i.nodes r → imbalance r <ℤ pos 0 → ShowsNoFlow i set
-short_tells i x imbalance set law within are of all low r node less =
+short_tells i x imbalance set law within are of ends deficits low r node less =
     let c = members set in
-    let each : (v : ℕ) → IsNode i.nodes v → when (c v) (imbalance_at i x v) ≤ℤ pos 0 = λ v h. let e = when_all (c v) (imbalance_at i x v) (all v h) in omega (arith, ints, e, are v h, low v h.0 (omega (arith, h.1))) in
-    let here : when (c r) (imbalance_at i x r) <ℤ pos 0 = let e = when_all (c r) (imbalance_at i x r) (all r node) in omega (arith, ints, e, are r node, less) in
+    let each : (v : ℕ) → IsNode i.nodes v → when (c v) (imbalance_at i x v) ≤ℤ pos 0 = λ v h. when_none (c v) (imbalance_at i x v) (omega (arith, ints, are v h, low v h.0 (omega (arith, h.1)))) in
+    let here : when (c r) (imbalance_at i x r) <ℤ pos 0 = let e = when_all (c r) (imbalance_at i x r) (deficits r node.0 (omega (arith, node.1)) less) in omega (arith, ints, e, are r node, less) in
     let fewer = sum_nodes-less (λ v. when (c v) (imbalance_at i x v)) (λ v. pos 0) i.nodes r each node here in
     let split = sum_nodes-split c (supply_of i) (net i.arcs x) i.nodes in
     let crossing = across_is c i.nodes i.arcs x law.joined in
-    let least = across_of (λ a. a.low) (λ a. a.cap) c i.arcs x (none_cross i.nodes c i.arcs x law.joined within all) in
+    let least = across_of (λ a. a.low) (λ a. a.cap) c i.arcs x (none_cross c i.arcs x within ends) in
     shows i set law of (inr (omega (arith, ints, fewer, sum_nodes-zero (λ v. pos 0) i.nodes (λ v h. refl), split, crossing, least)))
 
 -- ---- some was sent
@@ -160,6 +165,13 @@ imbalances_skip i x id imbalance is none = record {
   above = λ v more. is.above v (omega (arith, more));
 }
 
+-- nodes with neither a supply nor a balance
+pub imbalances_skipped : (i : MinValue) (x : List ℤ) (from end to : ℕ) (imbalance : ℕ → ℤ) → ((v : ℕ) → from ≤ v → v < to → supply_of i v ≡ pos 0) → Skips (λ v. net i.arcs x v ≡ pos 0) from end to
+    → AreImbalancesBelow i x from imbalance → AreImbalancesBelow i x to imbalance
+imbalances_skipped i x from end to imbalance none is =
+    skipped _ (λ n. AreImbalancesBelow i x n imbalance) from end to is
+    (λ v least below balance are. imbalances_skip i x v imbalance are (omega (arith, ints, none v least below, balance)))
+
 pub imbalances_more : (i : MinValue) (x : List ℤ) (id : ℕ) (imbalance after : ℕ → ℤ) → AreImbalancesBelow i x id imbalance → after id ≡ imbalance_at i x id → ((v : ℕ) → v ≢ id → after v ≡ imbalance v) → AreImbalancesBelow i x (id + 1) after
 imbalances_more i x id imbalance after is here others = record {
   below = λ v some less. elim (cases_order v id) [
@@ -172,24 +184,46 @@ imbalances_more i x id imbalance after is here others = record {
 pub imbalances_all : (i : MinValue) (x : List ℤ) (id : ℕ) (imbalance : ℕ → ℤ) → i.nodes < id → AreImbalancesBelow i x id imbalance → AreImbalances i x imbalance
 imbalances_all i x id imbalance over is v node = is.below v node.0 (omega (arith, node.1, over))
 
--- ---- all nodes in a set
-pub record HasAllBelow (nodes id : ℕ) (set : CutValue) : Type 0 where
-  pub of : set.nodes ≡ nodes
-  pub below : (v : ℕ) → 1 ≤ v → v < id → members set v ≡ true
+-- ---- nodes added to a set
+pub members_new : (set : CutValue) (id : ℕ) → members (with_node set id) id ≡ true
+members_new set id = contains-insert set.ids id id ∙ rw (eq-eqb id id refl) refl
 
-pub all_none : (nodes : ℕ) → HasAllBelow nodes 1 (empty_cut nodes)
-all_none nodes = record { of = refl; below = λ v some less. absurd (omega (arith, some, less)) }
+pub members_stay : (set : CutValue) (id v : ℕ) → members set v ≡ true → members (with_node set id) v ≡ true
+members_stay set id v there = elim (cases_eq v id) [
+  | inl same ↦ subst (λ u. members (with_node set id) u ≡ true) (sym same) (members_new set id)
+  | inr ne ↦ contains-insert set.ids id v ∙ rw (ne_eqb v id ne) there
+]
 
-pub all_more : (nodes id : ℕ) (set : CutValue) → HasAllBelow nodes id set → HasAllBelow nodes (id + 1) (with_node set id)
-all_more nodes id set is =
-    let there : members (with_node set id) id ≡ true = contains-insert set.ids id id ∙ rw (eq-eqb id id refl) refl in
-    record {
-      of = is.of;
-      below = λ v some less. elim (cases_eq v id) [
-        | inl same ↦ subst (λ u. members (with_node set id) u ≡ true) (sym same) there
-        | inr ne ↦ contains-insert set.ids id v ∙ rw (ne_eqb v id ne) (is.below v some (omega (arith, less, ne)))
-      ];
-    }
+-- both ends of one more arc
+pub ends_more : (arcs : List ArcView) (i : ℕ) (a : ArcView) (set : CutValue) → slice_get arcs i ≡ Some a → HasEnds arcs i (members set) → HasEnds arcs (i + 1) (members (with_node (with_node set a.tail) a.head))
+ends_more arcs i a set here ends k below = elim (cases_eq k i) [
+  | inl same ↦
+      let is : arc_at arcs k ≡ a = ap (arc_at arcs) same ∙ get_or_from_slice_get arcs i a no_arc here in
+      let more = with_node set a.tail in
+      rw is (members_stay more a.head a.tail (members_new set a.tail), members_new more a.head)
+  | inr apart ↦
+      let before = ends k (omega (arith, below, apart)) in
+      let stay = λ (v : ℕ) (there : members set v ≡ true). members_stay (with_node set a.tail) a.head v (members_stay set a.tail v there) in
+      (stay (arc_at arcs k).tail before.0, stay (arc_at arcs k).head before.1)
+]
+
+pub deficits_more : (id : ℕ) (imbalance : ℕ → ℤ) (set : CutValue) → HasDeficits id imbalance (members set) → HasDeficits (id + 1) imbalance (members (with_node set id))
+deficits_more id imbalance set has v some below less = elim (cases_eq v id) [
+  | inl same ↦ subst (λ u. members (with_node set id) u ≡ true) (sym same) (members_new set id)
+  | inr apart ↦ members_stay set id v (has v some (omega (arith, below, apart)) less)
+]
+
+pub deficits_less : (id : ℕ) (imbalance : ℕ → ℤ) (set : ℕ → Bool) → HasDeficits id imbalance set → pos 0 ≤ℤ imbalance id → HasDeficits (id + 1) imbalance set
+deficits_less id imbalance set has none v some below less = elim (cases_eq v id) [
+  | inl same ↦ absurd (let here : imbalance v ≡ imbalance id = ap imbalance same in omega (arith, ints, none, here, less))
+  | inr apart ↦ has v some (omega (arith, below, apart)) less
+]
+
+pub deficits_skipped : (from end to : ℕ) (imbalance : ℕ → ℤ) (set : ℕ → Bool) → Skips (λ v. imbalance v ≡ pos 0) from end to → HasDeficits from imbalance set → HasDeficits to imbalance set
+deficits_skipped from end to imbalance set is has v some below less = elim (cases_lt v from) [
+  | inl before ↦ has v some before less
+  | inr past ↦ absurd (let none = is.blank v past below in omega (arith, ints, none, less))
+]
 
 -- ---- the excesses of the nodes below this one, summed up
 pub record AreSignsBelow (nodes id : ℕ) (imbalance : ℕ → ℤ) (signs : ImbalanceSigns) : Type 0 where
@@ -218,6 +252,10 @@ signs_even nodes id imbalance signs is none = record {
   low = one_more_node (λ v. imbalance v ≤ℤ pos 0) id is.low (omega (arith, ints, none));
   are = still_signs nodes id imbalance signs is.are none;
 }
+
+pub signs_skipped : (nodes from end to : ℕ) (imbalance : ℕ → ℤ) (signs : ImbalanceSigns) → Skips (λ v. imbalance v ≡ pos 0) from end to → AreSignsBelow nodes from imbalance signs → AreSignsBelow nodes to imbalance signs
+signs_skipped nodes from end to imbalance signs is =
+    skipped _ (λ n. AreSignsBelow nodes n imbalance signs) from end to is (λ v least below none are. signs_even nodes v imbalance signs are none)
 
 pub signs_deficit : (nodes id : ℕ) (imbalance : ℕ → ℤ) (signs : ImbalanceSigns) → AreSignsBelow nodes id imbalance signs → IsNode nodes id → imbalance id <ℤ pos 0 → AreSignsBelow nodes (id + 1) imbalance Deficit
 signs_deficit nodes id imbalance signs is node less =

@@ -3,13 +3,14 @@ use Rattle.std.proofs.Common.{◌≡◌, ◌≢◌, inl, inr, ℕ, ◌+◌, ◌<
 use Rattle.std.proofs.{lemmas.Int.{ints}, lemmas.Bool.{cases_order, ne_eqb}, lemmas.Bool.Decides.{Decides-int_eq}}
 use Rattle.std.proofs.lemmas.Slice.Zip.{AllZip-long}
 use Rattle.std.specs.{Prelude.{unwrap_or}, Ordering.{int_eq}, FinMap.{get, insert, remove}}
-use Rattle.dimacs_network.proofs.Nodes.{get-empty, get-insert}
+use Rattle.dimacs_network.proofs.{Nodes.{get-empty, get-insert}, SkipLemmas.{skipped}}
 use Rattle.dimacs_lines.specs.Limits.{IsNode}
 use Rattle.dimacs_claims.specs.Potentials.{PotentialsValue, potential_of, with_potential, zero_potentials}
 use Rattle.dimacs_instance.specs.MinFlows.{MinValue, IsMin}
 use Rattle.dimacs_judging.specs.{Feasible.{FeasibleMin}, Flows.{cost, net}, Optimum.{Least}, Rows.{amount_at}}
 use Rattle.dimacs_judging.specs.Potentials.{IsSlackAt, Slack}
-use Rattle.dimacs_network.specs.{Arcs.{no_arc, arc_at}, declared.adjacency_lists.Side.TheVariants.{Tail, Head}}
+use Rattle.dimacs_network.specs.{Arcs.{no_arc, arc_at}, Skips.{Skips}}
+use Rattle.dimacs_network.specs.declared.adjacency_lists.Side.TheVariants.{Tail, Head}
 use Rattle.dimacs_judging.proofs.{Duality.{slack_is_least}, Passing.{pair_at, pairs_from}}
 use Rattle.dimacs_decide.specs.{Bounds.{KeepsBounds}, declared.heights.HeightLabel.{HeightLabel}}
 use Rattle.dimacs_decide.specs.inside.Heights.{AreSettled, height_of}
@@ -49,6 +50,9 @@ potentials_skip labels nodes id p is none = record {
   ];
   above = λ v more. is.above v (omega (arith, more));
 }
+
+pub potentials_skipped : (labels : ℕ → HeightLabel) (nodes from end to : ℕ) (p : PotentialsValue) → Skips (λ v. height_of labels v ≡ pos 0) from end to → AreHeightsBelow labels nodes from p → AreHeightsBelow labels nodes to p
+potentials_skipped labels nodes from end to p is = skipped _ (λ n. AreHeightsBelow labels nodes n p) from end to is (λ v least below none are. potentials_skip labels nodes v p are none)
 
 pub potentials_more : (labels : ℕ → HeightLabel) (nodes id : ℕ) (p : PotentialsValue) (n : ℤ) → AreHeightsBelow labels nodes id p → n ≡ height_of labels id → n ≢ pos 0 → AreHeightsBelow labels nodes (id + 1) (with_potential p id n)
 potentials_more labels nodes id p n is same some =

@@ -4,10 +4,10 @@ use Rattle.std.proofs.{lemmas.Int.{ints, by_lt_z}, lemmas.Bool.{cases_order, lt-
 use Rattle.std.proofs.lemmas.Slice.Zip.{AllZip-long}
 use borrow.Author.Tests.{ltb-true}
 use Rattle.std.specs.{FinSet.{contains-empty}, Ordering.{nat_cmp}}
-use Rattle.dimacs_network.proofs.Nodes.{contains-insert}
+use Rattle.dimacs_network.proofs.{Nodes.{contains-insert}, SkipLemmas.{skipped}}
 use Rattle.dimacs_claims.specs.Cuts.{CutValue, empty_cut, with_node}
 use Rattle.dimacs_lines.specs.Limits.{IsNode}
-use Rattle.dimacs_network.specs.{declared.network.ArcView.{ArcView}, Arcs.{JoinsNodes, no_arc, arc_at}}
+use Rattle.dimacs_network.specs.{declared.network.ArcView.{ArcView}, Arcs.{JoinsNodes, no_arc, arc_at}, Skips.{Skips}}
 use Rattle.dimacs_network.specs.declared.adjacency_lists.Side.TheVariants.{Tail, Head}
 use Rattle.dimacs_judging.specs.{Cuts.{members}, Rows.{amount_at}}
 use Rattle.dimacs_judging.proofs.Passing.{pair_at, pairs_from}
@@ -113,3 +113,8 @@ cut_more_in visits nodes id cut is inside =
 pub not_in : (rank : ℕ) → rank ≤ 0 → nat_lt 0 rank ≡ false
 not_in zero h = refl
 not_in (suc rank) h = absurd (omega (arith, h))
+
+-- nodes that were not reached
+pub cut_skipped : (visits : ℕ → Visit) (nodes from end to : ℕ) (cut : CutValue) → Skips (λ v. rank_of visits v ≡ 0) from end to → IsCutBelow visits nodes from cut → IsCutBelow visits nodes to cut
+cut_skipped visits nodes from end to cut is =
+    skipped _ (λ n. IsCutBelow visits nodes n cut) from end to is (λ v least below none so_far. cut_more_out visits nodes v cut so_far (not_in (rank_of visits v) (omega (arith, none))))

@@ -1,11 +1,12 @@
 //! Decides by a search from excesses to deficits whether a flow within the bounds is feasible.
 
-ghost use Rattle.std.specs.Prelude.{◌≡◌, ◌≤◌, ◌+◌, ◌<ℤ◌, ℕ, pos, true, IfOk};
+ghost use Rattle.std.specs.Prelude.{◌≡◌, ◌≤◌, ◌+◌, ◌<ℤ◌, ℕ, All, length, pos, true, IfOk, OnOk};
 ghost use Rattle.dimacs_lines.specs.Limits.{most_nodes, IsNode};
 ghost use Rattle.dimacs_judging.specs.Cuts.{members};
-ghost use Rattle.dimacs_network.specs.Tables.{value_of};
+ghost use Rattle.dimacs_network.specs.{Arcs.{JoinsNodes}, Tables.{value_of}};
 ghost use Rattle.dimacs_decide.specs.{Bounds.{KeepsBounds}, FeasibilityDecision.{DecidesFeasible}};
-ghost use Rattle.dimacs_decide.specs.{Incidence.{IsIncidenceOf}, inside.Imbalances.{AreImbalances, IsNodeTest}};
+ghost use Rattle.dimacs_decide.specs.Incidence.{IsIncidenceOf};
+ghost use Rattle.dimacs_decide.specs.inside.Imbalances.{AreImbalances, HasDeficits, HasEnds, IsNodeTest};
 
 use crate::imbalance::{ImbalanceSigns, imbalance_signs, imbalances};
 use crate::incidence::Incidence;
@@ -30,8 +31,7 @@ pub enum FeasibilityDecision {
 }
 
 /// Decides whether a flow that keeps the bounds is feasible. If it isn't, the answer is such a flow with less excess,
-/// or a set that shows that no flow is. Takes time in proportion to the nodes and arcs, and memory for the arcs and the
-/// nodes that have one.
+/// or a set that shows that no flow is. Takes time and memory for the arcs and the nodes that have one.
 pub fn decide_feasible<N: Network>(
     alloc: Global,
     instance: &MinInstance<N>,
@@ -90,9 +90,10 @@ fn test_nodes<N: Network>(
     let nodes = instance.network().nodes();
     match imbalance_signs(nodes, &imbalance) {
         ImbalanceSigns::Even => Ok(NodeTest::Decided(FeasibilityDecision::Balanced)),
-        ImbalanceSigns::Deficit => Ok(NodeTest::Decided(FeasibilityDecision::Infeasible(every_node(
-            alloc, nodes,
-        )?))),
+        ImbalanceSigns::Deficit => {
+            let set = nodes_in_use(alloc, instance.network(), &imbalance)?;
+            Ok(NodeTest::Decided(FeasibilityDecision::Infeasible(set)))
+        }
         ImbalanceSigns::Excess => Ok(NodeTest::Excess(imbalance)),
     }
 }
@@ -120,14 +121,52 @@ fn decide_with_excess<N: Network>(
     }
 }
 
-fn every_node(alloc: Global, nodes: u32) -> Result<Cut, Memory>
-    requires { nodes ≤ most_nodes }
-    ensures nodes { IfOk result (λ set. set.nodes ≡ nodes) }
-    ensures members { IfOk result (λ set. (v : ℕ) → IsNode nodes v → members set v ≡ true) }
+/// All ends of arcs, and all nodes with a deficit.
+fn nodes_in_use<N: Network>(
+    alloc: Global,
+    network: &N,
+    imbalance: &NodeTable<i128>,
+) -> Result<Cut, Memory>
+    requires node_limit { N.node_count network.now ≤ most_nodes }
+    requires joined { All (JoinsNodes (N.node_count network.now)) (N.list network.now) }
+    ensures nodes { IfOk result (λ set. set.nodes ≡ N.node_count network.now) }
+    ensures ends { IfOk result (λ set. HasEnds (N.list network.now) (length (N.list network.now)) (members set)) }
+    ensures deficits { IfOk result (λ set. HasDeficits (N.node_count network.now + 1) (value_of imbalance.now) (members set)) }
 {
-    let mut set = Cut::new(alloc, nodes);
-    for id in 1..nodes + 1 {
-        set.add(id)?;
+    let mut set = ends_of_arcs(alloc, network)?;
+    add_deficits(network.nodes(), imbalance, &mut set)?;
+    Ok(set)
+}
+
+fn ends_of_arcs<N: Network>(alloc: Global, network: &N) -> Result<Cut, Memory>
+    requires node_limit { N.node_count network.now ≤ most_nodes }
+    requires joined { All (JoinsNodes (N.node_count network.now)) (N.list network.now) }
+    ensures nodes { IfOk result (λ set. set.nodes ≡ N.node_count network.now) }
+    ensures ends { IfOk result (λ set. HasEnds (N.list network.now) (length (N.list network.now)) (members set)) }
+{
+    let mut set = Cut::new(alloc, network.nodes());
+    for i in 0..network.arcs() {
+        let arc = network.arc(i);
+        set.add(arc.tail)?;
+        set.add(arc.head)?;
     }
     Ok(set)
+}
+
+fn add_deficits(nodes: u32, imbalance: &NodeTable<i128>, set: &mut Cut) -> Result<(), Memory>
+    requires node_limit { nodes ≤ most_nodes }
+    requires nodes { set.old.nodes ≡ nodes }
+    ensures nodes { OnOk result (set.new.nodes ≡ nodes) }
+    ensures stay { OnOk result ((v : ℕ) → members set.old v ≡ true → members set.new v ≡ true) }
+    ensures deficits { OnOk result (HasDeficits (nodes + 1) (value_of imbalance.now) (members set.new)) }
+{
+    let end = nodes + 1;
+    let mut id = 1;
+    while id < end {
+        if imbalance.get(id) < 0 {
+            set.add(id)?;
+        }
+        id = imbalance.next_nonzero(id + 1, end);
+    }
+    Ok(())
 }

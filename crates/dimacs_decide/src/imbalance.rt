@@ -1,9 +1,10 @@
 //! The imbalances of nodes under a flow.
 
-ghost use Rattle.std.specs.Prelude.{◌≢◌, ◌≤◌, ◌+◌, ◌^◌, ◌↔◌, ℕ, IsTrue, pos, IfOk};
+ghost use Rattle.std.specs.Prelude.{◌≡◌, ◌≢◌, ◌≤◌, ◌<◌, ◌+◌, ◌^◌, ◌↔◌, ℕ, IsTrue, pos, IfOk};
 ghost use Rattle.dimacs_lines.specs.Limits.{most_nodes};
 ghost use Rattle.dimacs_judging.specs.inside.Ranges.{IsOfSize};
-ghost use Rattle.dimacs_network.specs.Tables.{value_of};
+ghost use Rattle.dimacs_instance.specs.MinFlows.{supply_of};
+ghost use Rattle.dimacs_network.specs.{Skips.{Skips}, Tables.{value_of}};
 ghost use Rattle.dimacs_decide.specs.{Bounds.{KeepsBounds}, inside.Imbalances.{AreImbalances, AreSigns}};
 
 use dimacs_instance::MinInstance;
@@ -26,13 +27,34 @@ pub(crate) fn imbalances<N: Network>(
     let network = instance.network();
     let balances = Balances::new(alloc, network, flow)?;
     let mut table = NodeTable::new(alloc, 0i128);
-    for id in 1..network.nodes() + 1 {
+    let end = network.nodes() + 1;
+    let mut supplied = 1;
+    let mut id = 1;
+    while id < end {
         let imbalance = i128::from(instance.supply(id)) - balances.of(id);
         if is_unbalanced(imbalance) {
             table.set(id, imbalance)?;
         }
+        supplied = later_supply(instance, supplied, id + 1, end);
+        id = balances.next(id + 1, supplied);
     }
     Ok(table)
+}
+
+/// The first node from `from` on that may have a supply. It isn't before `known`, so that a loop doesn't look for the same
+/// node twice.
+#[inline(always)]
+fn later_supply<N: Network>(instance: &MinInstance<N>, known: u32, from: u32, end: u32) -> u32
+    requires from { from ≤ end }
+    requires known { known ≤ end }
+    requires nothing { (v : ℕ) → from ≤ v → v < known → supply_of instance.now v ≡ pos 0 }
+    ensures { Skips (λ v. supply_of instance.now v ≡ pos 0) from end result }
+{
+    if known < from {
+        instance.next_supply(from, end)
+    } else {
+        known
+    }
 }
 
 fn is_unbalanced(imbalance: i128) -> bool
@@ -57,7 +79,9 @@ pub(crate) fn imbalance_signs(nodes: u32, imbalance: &NodeTable<i128>) -> Imbala
     ensures { AreSigns nodes (nodes + 1) (value_of imbalance.now) result }
 {
     let mut signs = ImbalanceSigns::Even;
-    for id in 1..nodes + 1 {
+    let end = nodes + 1;
+    let mut id = 1;
+    while id < end {
         let amount = imbalance.get(id);
         if amount > 0 {
             return ImbalanceSigns::Excess;
@@ -65,6 +89,7 @@ pub(crate) fn imbalance_signs(nodes: u32, imbalance: &NodeTable<i128>) -> Imbala
         if amount < 0 {
             signs = ImbalanceSigns::Deficit;
         }
+        id = imbalance.next_nonzero(id + 1, end);
     }
     signs
 }

@@ -6,7 +6,8 @@ ghost use Rattle.dimacs_lines.specs.Limits.{most_nodes, IsNode};
 ghost use Rattle.dimacs_claims.specs.Potentials.{potential_of};
 ghost use Rattle.dimacs_records.specs.Ranges.{IsWide};
 ghost use Rattle.dimacs_judging.specs.Feasible.{FeasibleMin};
-ghost use Rattle.dimacs_network.specs.{Tables.{value_of}, declared.adjacency_lists.Side.TheVariants.{Tail}};
+ghost use Rattle.dimacs_network.specs.{Skips.{Skips}, Tables.{value_of}};
+ghost use Rattle.dimacs_network.specs.declared.adjacency_lists.Side.TheVariants.{Tail};
 ghost use Rattle.dimacs_decide.specs.{MinDecision.{DecidesMin}, inside.Cycles.{IsSaving}};
 ghost use Rattle.dimacs_decide.specs.inside.Heights.{AreStartHeights, BelowBound, bound, height_of};
 
@@ -239,11 +240,27 @@ fn potentials_of(
     ensures values { IfOk result (λ p. (v : ℕ) → IsNode nodes v → potential_of p v ≡ height_of (value_of labels.now) v) }
 {
     let mut potentials = Potentials::new(alloc, nodes);
-    for id in 1..nodes + 1 {
+    let end = nodes + 1;
+    let mut id = 1;
+    while id < end {
         let height = labels.get(id).height;
         if height > 0 {
             potentials.set(id, height)?;
         }
+        id = next_label(labels, id + 1, end);
     }
     Ok(potentials)
+}
+
+/// The first node from `from` on whose height may not be 0; `end` if there is none before it.
+#[inline(always)]
+fn next_label(labels: &NodeTable<HeightLabel>, from: u32, end: u32) -> u32
+    requires { from ≤ end }
+    ensures { Skips (λ v. height_of (value_of labels.now) v ≡ pos 0) from end result }
+{
+    if labels.blank().height == 0 {
+        labels.next(from, end)
+    } else {
+        from
+    }
 }

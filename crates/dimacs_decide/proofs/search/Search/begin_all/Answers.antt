@@ -15,31 +15,38 @@ loop-id-preserved c =
     let now = c.loop-id.invariant in
     let same : value_of c.loop-id.self.imbalance ≡ imbalance = ap value_of now.imbalance in
     let here : c.get.result ≡ imbalance id = c.get.ensures.value ∙ ap (λ (s : ℕ → ℤ). s id) same in
+    let low = now.low in
     elim c.if-get-gt0.branch [
       | then-get-gt0+in_ok-begin w ↦
           let b = w.in_ok-begin.ensures in
+          let skip = rw (w.self-is, b.imbalance, now.imbalance) at c.next_nonzero-id.ensures in
           rw w.self-is record {
+            low = omega (arith, low, skip.onward);
+            within = skip.within;
             imbalance = b.imbalance ∙ now.imbalance;
             reached = λ v some less more. elim (cases_order v id) [
               | inl e ↦ subst (λ u. 0 < rank_of (value_of w.begin.new.self.visits) u) (sym e) b.reached
               | inr apart ↦ elim apart [
                 | inl low ↦ let r = now.reached v some low more in let o = b.others v (λ e. omega (arith, e, low)) in omega (arith, r, o)
-                | inr high ↦ absurd (omega (arith, high, less))
+                | inr high ↦ absurd (let none = skip.blank v (omega (arith, high)) less in omega (arith, ints, none, more))
               ]
             ];
-            none = λ v h. b.others v (λ e. omega (arith, e, h)) ∙ now.none v (omega (arith, h));
+            none = λ v h. b.others v (λ e. omega (arith, e, h, skip.onward)) ∙ now.none v (omega (arith, h, skip.onward));
             search = λ arcs x was.
                 let before = subst (λ (s : ℕ → ℤ). IsResidualSearch nodes arcs x s visits queue 0) (sym same) (now.search arcs x was) in
-                subst (λ (s : ℕ → ℤ). IsResidualSearch nodes arcs x s (value_of w.begin.new.self.visits) w.begin.new.self.queue.items 0) same (b.search nodes arcs x (omega arith, omega arith) before);
+                subst (λ (s : ℕ → ℤ). IsResidualSearch nodes arcs x s (value_of w.begin.new.self.visits) w.begin.new.self.queue.items 0) same (b.search nodes arcs x (low, omega arith) before);
           }
       | else-get-gt0 w ↦
+          let skip = rw (w.self-is, now.imbalance) at c.next_nonzero-id.ensures in
           rw w.self-is record {
+            low = omega (arith, low, skip.onward);
+            within = skip.within;
             imbalance = now.imbalance;
             reached = λ v some less more. elim (cases_order v id) [
               | inl e ↦ absurd (let f : imbalance v ≡ imbalance id = ap imbalance e in let no = w.if-get-gt0.false in omega (arith, ints, f, here, more, no))
-              | inr apart ↦ elim apart [ inl low ↦ now.reached v some low more | inr high ↦ absurd (omega (arith, high, less)) ]
+              | inr apart ↦ elim apart [ inl low ↦ now.reached v some low more | inr high ↦ absurd (let none = skip.blank v (omega (arith, high)) less in omega (arith, ints, none, more)) ]
             ];
-            none = λ v h. now.none v (omega (arith, h));
+            none = λ v h. now.none v (omega (arith, h, skip.onward));
             search = now.search;
           }
     ]
