@@ -1,6 +1,6 @@
 //! The numbers that a method computes with.
 
-/// A signed whole number: of 64 bits if all values fit, otherwise of 128. Sums and products wrap.
+/// A signed whole number: of 32 or 64 bits if all values fit, otherwise of 128. Sums and products wrap.
 pub(crate) trait Number: Copy + Default {
     fn of(value: i64) -> Self;
 
@@ -50,6 +50,63 @@ pub(crate) trait Number: Copy + Default {
     #[inline(always)]
     final fn lesser(self, other: Self) -> Self {
         if other.is_below(self) { other } else { self }
+    }
+}
+
+impl Number for i32 {
+    #[inline(always)]
+    fn of(value: i64) -> i32 {
+        i32::try_from(value).unwrap_or(0)
+    }
+
+    #[inline(always)]
+    fn of_wide(value: i128) -> i32 {
+        i32::try_from(value).unwrap_or(0)
+    }
+
+    #[inline(always)]
+    fn narrow(self) -> i64 {
+        i64::from(self)
+    }
+
+    #[inline(always)]
+    fn wide(self) -> i128 {
+        i128::from(self)
+    }
+
+    #[inline(always)]
+    fn greatest() -> i32 {
+        i32::MAX
+    }
+
+    #[inline(always)]
+    fn plus(self, other: i32) -> i32 {
+        self.wrapping_add(other)
+    }
+
+    #[inline(always)]
+    fn minus(self, other: i32) -> i32 {
+        self.wrapping_sub(other)
+    }
+
+    #[inline(always)]
+    fn times(self, factor: i32) -> i32 {
+        self.wrapping_mul(factor)
+    }
+
+    #[inline(always)]
+    fn doubled(self, times: u32) -> i32 {
+        self.wrapping_shl(times)
+    }
+
+    #[inline(always)]
+    fn halved(self, times: u32) -> i32 {
+        self.wrapping_shr(times)
+    }
+
+    #[inline(always)]
+    fn is_below(self, other: i32) -> bool {
+        self < other
     }
 }
 

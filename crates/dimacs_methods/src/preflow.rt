@@ -7,6 +7,7 @@ mod residual;
 
 use crate::cut::add_node;
 use crate::levels::{Levels, NONE};
+use crate::number::Number;
 use crate::preflow::active::ActiveNodes;
 use crate::preflow::residual::{Half, Residual};
 use crate::tables::{member, set_member};
@@ -19,16 +20,18 @@ use std::alloc::Global;
 /// The height of a node that reaches no deficit.
 const CUT_OFF: u32 = u32::MAX;
 
-/// A deficit that no flow fills: -2^120.
-const ENDLESS_DEFICIT: i128 = -1329227995784915872903807060280344576;
+/// A deficit that no flow fills is minus 2 to this power: of 64 bits and of 128.
+const ENDLESS: u32 = 62;
+
+const WIDE_ENDLESS: u32 = 120;
 
 /// A flow that leaves excess and deficits at nodes. Excess is pushed to lower nodes: a node's height is at most one
 /// more than its distance to a deficit.
 #[derive(Drop)]
-struct Preflow {
-    residual: Residual,
+struct Preflow<R: Number, V: Number> {
+    residual: Residual<R>,
     /// By node: supply plus inflow minus outflow.
-    imbalance: Vec<i128>,
+    imbalance: Vec<V>,
     height: Vec<u32>,
     /// By node: no half-arc before this place is admissible.
     cursor: Vec<u32>,
@@ -53,13 +56,39 @@ pub fn raise_value<N: Network>(
     instance: &MaxInstance<N>,
     amounts: &[i64],
 ) -> Result<MaximumFlow, Memory> {
+    if has_short_capacities(instance.network()) {
+        raise::<N, i32, i64>(alloc, instance, amounts, ENDLESS)
+    } else {
+        raise::<N, i64, i128>(alloc, instance, amounts, WIDE_ENDLESS)
+    }
+}
+
+/// Whether no arc can carry more than 32 bits hold beyond its lower bound. 64 bits then hold the sum over all arcs.
+fn has_short_capacities<N: Network>(network: &N) -> bool {
+    for i in 0..network.arcs() {
+        let arc = network.arc(i);
+        if arc.cap.wrapping_sub(arc.low) > i64::from(i32::MAX) {
+            return false;
+        }
+    }
+    true
+}
+
+/// The same with residual capacities and imbalances of these widths.
+fn raise<N: Network, R: Number, V: Number>(
+    alloc: Global,
+    instance: &MaxInstance<N>,
+    amounts: &[i64],
+    endless: u32,
+) -> Result<MaximumFlow, Memory> {
     let network = instance.network();
-    let mut preflow = Preflow::new(alloc, network, amounts)?;
+    let mut preflow: Preflow<R, V> = Preflow::new(alloc, network, amounts)?;
     let source = preflow.residual.numbers.of(instance.source());
     let sink = preflow.residual.numbers.of(instance.sink());
+    let deficit = V::of(-1).doubled(endless);
     preflow.saturate_from(source);
-    preflow.drain_to(sink, source);
-    preflow.drain_to(source, sink);
+    preflow.drain_to(sink, source, deficit);
+    preflow.drain_to(source, sink, deficit);
     let reached = preflow.residual.reached(alloc, source)?;
     let mut cut = Cut::new(alloc, network.nodes());
     for number in reached {
@@ -76,22 +105,26 @@ pub fn send_excess<N: Network>(
     amounts: &[i64],
 ) -> Result<Vec<i64>, Memory> {
     let network = instance.network();
-    let mut preflow = Preflow::new(alloc, network, amounts)?;
+    let mut preflow: Preflow<i64, i128> = Preflow::new(alloc, network, amounts)?;
     preflow.set_supplies(instance);
     preflow.add_flow(network, amounts);
     preflow.drain();
     preflow.residual.amounts(alloc, network)
 }
 
-impl Preflow {
+impl<R: Number, V: Number> Preflow<R, V> {
     /// With imbalance 0 everywhere.
-    fn new<N: Network>(alloc: Global, network: &N, amounts: &[i64]) -> Result<Preflow, Memory> {
-        let residual = Residual::new(alloc, network, amounts)?;
+    fn new<N: Network>(
+        alloc: Global,
+        network: &N,
+        amounts: &[i64],
+    ) -> Result<Preflow<R, V>, Memory> {
+        let residual: Residual<R> = Residual::new(alloc, network, amounts)?;
         let count = residual.numbers.count();
         let nodes = count as usize;
         Ok(Preflow {
             residual,
-            imbalance: vec![in alloc; 0i128; nodes]?,
+            imbalance: vec![in alloc; V::of(0); nodes]?,
             height: vec![in alloc; 0u32; nodes]?,
             cursor: vec![in alloc; 0u32; nodes]?,
             levels: Levels::new(alloc, nodes + 1, nodes)?,
@@ -104,7 +137,7 @@ impl Preflow {
     /// Sets the imbalances to the supplies.
     fn set_supplies<N: Network>(&mut self, instance: &MinInstance<N>) {
         for (imbalance, id) in self.imbalance.iter_mut().zip(self.residual.numbers.ids()) {
-            *imbalance = i128::from(instance.supply(*id));
+            *imbalance = V::of(instance.supply(*id));
         }
     }
 
@@ -112,10 +145,10 @@ impl Preflow {
     fn add_flow<N: Network>(&mut self, network: &N, amounts: &[i64]) {
         for i in 0..network.arcs() {
             let arc = network.arc(i);
-            let amount = i128::from(member(amounts, i, 0));
+            let amount = V::of(member(amounts, i, 0));
             let tail = self.residual.numbers.of(arc.tail);
             let head = self.residual.numbers.of(arc.head);
-            self.add_imbalance(tail, amount.wrapping_neg());
+            self.add_imbalance(tail, amount.negated());
             self.add_imbalance(head, amount);
         }
     }
@@ -123,16 +156,16 @@ impl Preflow {
     fn saturate_from(&mut self, node: u32) {
         for place in self.residual.starts.first(node)..self.residual.starts.end(node) {
             let half = self.residual.half(place);
-            if half.residual_capacity > 0 {
-                self.move_along(node, place, half, half.residual_capacity);
+            if half.residual_capacity.is_positive() {
+                self.move_along(node, place, half, half.residual_capacity.narrow());
             }
         }
     }
 
     /// Pushes excess to one terminal, until the rest can't reach it. The other one counts as balanced.
-    fn drain_to(&mut self, terminal: u32, other: u32) {
-        set_member(&mut self.imbalance, other, 0);
-        set_member(&mut self.imbalance, terminal, ENDLESS_DEFICIT);
+    fn drain_to(&mut self, terminal: u32, other: u32, deficit: V) {
+        set_member(&mut self.imbalance, other, V::of(0));
+        set_member(&mut self.imbalance, terminal, deficit);
         self.drain();
     }
 
@@ -157,7 +190,7 @@ impl Preflow {
         self.active.clear();
         self.work = 0;
         for node in 0..self.residual.numbers.count() {
-            if self.imbalance(node) < 0 {
+            if self.imbalance(node).is_negative() {
                 self.set_height(node, 1);
             }
         }
@@ -178,7 +211,7 @@ impl Preflow {
                 return;
             }
             self.reach_back(node, height);
-            if self.imbalance(node) > 0 {
+            if self.imbalance(node).is_positive() {
                 self.active.push(node, height);
             }
             node = self.levels.after(node);
@@ -189,9 +222,7 @@ impl Preflow {
     fn reach_back(&mut self, node: u32, height: u32) {
         for place in self.residual.starts.first(node)..self.residual.starts.end(node) {
             let half = self.residual.half(place);
-            if self.height(half.to) == CUT_OFF
-                && self.residual.half(half.back).residual_capacity > 0
-            {
+            if self.height(half.to) == CUT_OFF && half.residual_capacity_back.is_positive() {
                 self.set_height(half.to, height.wrapping_add(1));
             }
         }
@@ -199,7 +230,7 @@ impl Preflow {
 
     /// Discharges a node from the queue, or queues it again if it was relabelled since.
     fn serve(&mut self, node: u32) {
-        if self.imbalance(node) <= 0 {
+        if !self.imbalance(node).is_positive() {
             return;
         }
         let height = self.height(node);
@@ -214,7 +245,7 @@ impl Preflow {
     fn discharge(&mut self, node: u32) {
         for _ in 0..u64::MAX {
             self.push_down(node);
-            if self.imbalance(node) <= 0 || !self.relabel(node) {
+            if !self.imbalance(node).is_positive() || !self.relabel(node) {
                 return;
             }
         }
@@ -228,7 +259,7 @@ impl Preflow {
             if self.is_admissible(half, height) && self.look_ahead(half.to) {
                 self.push(node, place, half);
                 self.push_on(half.to);
-                if self.imbalance(node) <= 0 {
+                if !self.imbalance(node).is_positive() {
                     set_member(&mut self.cursor, node, place);
                     return;
                 }
@@ -238,14 +269,14 @@ impl Preflow {
 
     /// Whether a half-arc of a node with this height has residual capacity and leads one level down.
     #[inline(always)]
-    fn is_admissible(&self, half: Half, height: u32) -> bool {
-        half.residual_capacity > 0 && self.height(half.to).wrapping_add(1) == height
+    fn is_admissible(&self, half: Half<R>, height: u32) -> bool {
+        half.residual_capacity.is_positive() && self.height(half.to).wrapping_add(1) == height
     }
 
     /// Whether a node has a deficit or an admissible half-arc; its cursor then points to that. Otherwise relabels it.
     #[inline(always)]
     fn look_ahead(&mut self, node: u32) -> bool {
-        if self.imbalance(node) < 0 {
+        if self.imbalance(node).is_negative() {
             return true;
         }
         let height = self.height(node);
@@ -262,7 +293,7 @@ impl Preflow {
     /// Pushes excess along the half-arc at a node's cursor, if it is admissible. Queues the ends that keep some.
     #[inline(always)]
     fn push_on(&mut self, node: u32) {
-        if self.imbalance(node) <= 0 {
+        if !self.imbalance(node).is_positive() {
             return;
         }
         let height = self.height(node);
@@ -278,7 +309,7 @@ impl Preflow {
     /// Queues a node if it has excess.
     #[inline(always)]
     fn queue(&mut self, node: u32) {
-        if self.imbalance(node) > 0 {
+        if self.imbalance(node).is_positive() {
             let height = self.height(node);
             self.active.push(node, height);
         }
@@ -286,16 +317,21 @@ impl Preflow {
 
     /// Pushes as much as excess and residual capacity allow.
     #[inline(always)]
-    fn push(&mut self, from: u32, place: u32, half: Half) {
-        let excess = i64::try_from(self.imbalance(from)).unwrap_or(i64::MAX);
-        self.move_along(from, place, half, half.residual_capacity.min(excess));
+    fn push(&mut self, from: u32, place: u32, half: Half<R>) {
+        let capacity = V::of(half.residual_capacity.narrow());
+        self.move_along(
+            from,
+            place,
+            half,
+            capacity.lesser(self.imbalance(from)).narrow(),
+        );
     }
 
     #[inline(always)]
-    fn move_along(&mut self, from: u32, place: u32, half: Half, amount: i64) {
+    fn move_along(&mut self, from: u32, place: u32, half: Half<R>, amount: i64) {
         self.residual.send(place, amount);
-        self.add_imbalance(from, i128::from(amount).wrapping_neg());
-        self.add_imbalance(half.to, i128::from(amount));
+        self.add_imbalance(from, V::of(amount.wrapping_neg()));
+        self.add_imbalance(half.to, V::of(amount));
     }
 
     /// Raises a node to one above the lowest head of its residual arcs. False if it has none, or if no other node has
@@ -323,7 +359,7 @@ impl Preflow {
         let halves = self.residual.halves_of(node);
         let mut lowest = CUT_OFF;
         for half in halves {
-            if half.residual_capacity > 0 {
+            if half.residual_capacity.is_positive() {
                 lowest = lowest.min(self.height(half.to));
             }
         }
@@ -363,14 +399,14 @@ impl Preflow {
     }
 
     #[inline(always)]
-    fn imbalance(&self, node: u32) -> i128 {
-        member(&self.imbalance, node, 0)
+    fn imbalance(&self, node: u32) -> V {
+        member(&self.imbalance, node, V::of(0))
     }
 
     #[inline(always)]
-    fn add_imbalance(&mut self, node: u32, amount: i128) {
+    fn add_imbalance(&mut self, node: u32, amount: V) {
         if let Some(imbalance) = self.imbalance.get_mut(node as usize) {
-            *imbalance = imbalance.wrapping_add(amount);
+            *imbalance = imbalance.plus(amount);
         }
     }
 }
