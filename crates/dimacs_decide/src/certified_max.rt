@@ -5,10 +5,12 @@ ghost use Rattle.dimacs_claims.specs.{SolutionReading.{IsPlaced}, SolutionTexts.
 ghost use Rattle.dimacs_judging.specs.{MaxJudge.{max_claim_rows}, Places.{ArePlaced}, Tests.{Settles}};
 ghost use Rattle.dimacs_decide.specs.CertifiedMax.{CertifiesMax};
 
-use crate::maximum::{MaxDecision, decide_max};
-use dimacs_claims::{Placed, Solution};
+use crate::maximum::{MaxDecision, decide_from};
+use dimacs_claims::{Cut, Placed, Solution};
 use dimacs_instance::MaxInstance;
-use dimacs_judging::{FlowPlaces, JudgeError, max_claim_tests, placed};
+use dimacs_judging::{FlowPlaces, JudgeError, max_claim_tests, max_in_one_pass, placed};
+use dimacs_lines::Memory;
+use dimacs_methods::guess_claimed_cut;
 use dimacs_network::Network;
 use std::alloc::Global;
 
@@ -37,7 +39,51 @@ pub fn certify_max_placed<N: Network>(
     ensures { (s : SolutionValue) → IsPlaced placed.now.value placed.now.value_line (ArePlaced placed.now.place) s
         → Settles (CertifiesMax instance.now s) (max_claim_rows instance.now s) result }
 {
+    match claimed_guess(alloc, instance, placed)? {
+        Some(cut) => certify_from(alloc, instance, placed, cut),
+        None => decide_claim(alloc, instance, placed, None),
+    }
+}
+
+fn claimed_guess<N: Network>(
+    alloc: Global,
+    instance: &MaxInstance<N>,
+    placed: &Placed<FlowPlaces<'_, N>>,
+) -> Result<Option<Cut>, Memory> {
+    match placed.place.flow() {
+        Ok(flow) => guess_claimed_cut(alloc, instance, flow.amounts(), placed.value),
+        Err(_) => Ok(None),
+    }
+}
+
+/// The same from a guess of a tight cut. If it is right, one pass makes all tests.
+fn certify_from<N: Network>(
+    alloc: Global,
+    instance: &MaxInstance<N>,
+    placed: &Placed<FlowPlaces<'_, N>>,
+    guess: Cut,
+) -> Result<MaxDecision, JudgeError>
+    requires network { placed.now.place.arcs ≡ instance.now.arcs }
+    ensures { (s : SolutionValue) → IsPlaced placed.now.value placed.now.value_line (ArePlaced placed.now.place) s
+        → Settles (CertifiesMax instance.now s) (max_claim_rows instance.now s) result }
+{
+    if let Some(_verdict) = max_in_one_pass(alloc, instance, placed, &guess) {
+        return Ok(MaxDecision::Optimal(guess));
+    }
+    decide_claim(alloc, instance, placed, Some(guess))
+}
+
+fn decide_claim<N: Network>(
+    alloc: Global,
+    instance: &MaxInstance<N>,
+    placed: &Placed<FlowPlaces<'_, N>>,
+    guess: Option<Cut>,
+) -> Result<MaxDecision, JudgeError>
+    requires network { placed.now.place.arcs ≡ instance.now.arcs }
+    ensures { (s : SolutionValue) → IsPlaced placed.now.value placed.now.value_line (ArePlaced placed.now.place) s
+        → Settles (CertifiesMax instance.now s) (max_claim_rows instance.now s) result }
+{
     let flow = max_claim_tests(alloc, instance, placed)?;
-    let decision = decide_max(alloc, instance, flow)?;
+    let decision = decide_from(alloc, instance, flow, guess)?;
     Ok(decision)
 }

@@ -38,7 +38,21 @@ pub fn decide_max<N: Network>(
     requires { FeasibleMax instance.now flow.now }
     ensures { IfOk result (DecidesMax instance.now flow.now) }
 {
-    if let Some(cut) = guess_cut(alloc, instance, flow.amounts())? {
+    let guess = guess_cut(alloc, instance, flow.amounts())?;
+    decide_from(alloc, instance, flow, guess)
+}
+
+/// The same from a guess of a tight cut.
+pub(crate) fn decide_from<N: Network>(
+    alloc: Global,
+    instance: &MaxInstance<N>,
+    flow: &Flow,
+    guess: Option<Cut>,
+) -> Result<MaxDecision, Memory>
+    requires { FeasibleMax instance.now flow.now }
+    ensures { IfOk result (DecidesMax instance.now flow.now) }
+{
+    if let Some(cut) = guess {
         if guess_holds(alloc, instance, flow, &cut) {
             return Ok(MaxDecision::Optimal(cut));
         }

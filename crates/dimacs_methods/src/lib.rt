@@ -19,7 +19,7 @@ mod simplex;
 mod starts;
 mod tables;
 
-pub use cut::guess_cut;
+pub use cut::{guess_claimed_cut, guess_cut};
 pub use least_flow::{LeastFlow, make_least_flow};
 pub use potentials::{Guess, ResidualArc, guess_potentials};
 pub use preflow::{MaximumFlow, raise_value, send_excess};

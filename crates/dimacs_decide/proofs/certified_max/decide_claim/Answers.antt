@@ -1,7 +1,7 @@
 use Rattle.dimacs_judging.specs.MaxJudge.{max_claim_rows}
 use Rattle.dimacs_judging.proofs.Settling.{refuted_settles}
 use Rattle.dimacs_decide.proofs.CertifiedLemmas.{max_certified, max_claimed}
-use Rattle.dimacs_decide.proofs.certified_max.certify_max_placed.Goals as goal
+use Rattle.dimacs_decide.proofs.certified_max.decide_claim.Goals as goal
 
 pub returns-in_err-flow : goal.returns-in_err-flow
 returns-in_err-flow g c = λ s is.
