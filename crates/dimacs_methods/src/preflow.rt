@@ -50,7 +50,8 @@ pub struct MaximumFlow {
 }
 
 /// Finds a maximum flow from a feasible one, and a cut that shows it. `amounts` are in the order of the arcs. Takes some
-/// 60 bytes for each node, of at most two for each arc and a few, and 44 for each arc.
+/// 60 bytes for each node, of at most two for each arc and a few, and 44 for each arc, or 60 if a residual capacity needs
+/// 64 bits.
 pub fn raise_value<N: Network>(
     alloc: Global,
     instance: &MaxInstance<N>,
@@ -61,17 +62,6 @@ pub fn raise_value<N: Network>(
     } else {
         raise::<N, i64, i128>(alloc, instance, amounts, WIDE_ENDLESS)
     }
-}
-
-/// Whether no arc can carry more than 32 bits hold beyond its lower bound. 64 bits then hold the sum over all arcs.
-fn has_short_capacities<N: Network>(network: &N) -> bool {
-    for i in 0..network.arcs() {
-        let arc = network.arc(i);
-        if arc.cap.wrapping_sub(arc.low) > i64::from(i32::MAX) {
-            return false;
-        }
-    }
-    true
 }
 
 /// The same with residual capacities and imbalances of these widths.
@@ -104,12 +94,51 @@ pub fn send_excess<N: Network>(
     instance: &MinInstance<N>,
     amounts: &[i64],
 ) -> Result<Vec<i64>, Memory> {
+    if has_short_capacities(instance.network()) && has_short_supplies(instance) {
+        send::<N, i32, i64>(alloc, instance, amounts)
+    } else {
+        send::<N, i64, i128>(alloc, instance, amounts)
+    }
+}
+
+/// The same with residual capacities and imbalances of these widths.
+fn send<N: Network, R: Number, V: Number>(
+    alloc: Global,
+    instance: &MinInstance<N>,
+    amounts: &[i64],
+) -> Result<Vec<i64>, Memory> {
     let network = instance.network();
-    let mut preflow: Preflow<i64, i128> = Preflow::new(alloc, network, amounts)?;
+    let mut preflow: Preflow<R, V> = Preflow::new(alloc, network, amounts)?;
     preflow.set_supplies(instance);
     preflow.add_flow(network, amounts);
     preflow.drain();
     preflow.residual.amounts(alloc, network)
+}
+
+/// Whether 32 bits hold the bounds of each arc, and their difference. 64 bits then hold the sum over all arcs.
+fn has_short_capacities<N: Network>(network: &N) -> bool {
+    for i in 0..network.arcs() {
+        let arc = network.arc(i);
+        if !(is_short(arc.low) && is_short(arc.cap) && is_short(arc.cap.wrapping_sub(arc.low))) {
+            return false;
+        }
+    }
+    true
+}
+
+/// Whether 32 bits hold the supply of each node that has an arc. 64 bits then hold their sum.
+fn has_short_supplies<N: Network>(instance: &MinInstance<N>) -> bool {
+    for i in 0..instance.network().arcs() {
+        let arc = instance.network().arc(i);
+        if !(is_short(instance.supply(arc.tail)) && is_short(instance.supply(arc.head))) {
+            return false;
+        }
+    }
+    true
+}
+
+fn is_short(number: i64) -> bool {
+    i32::try_from(number).is_ok()
 }
 
 impl<R: Number, V: Number> Preflow<R, V> {
