@@ -1,7 +1,7 @@
 //! Explains that there is a better flow than the claimed one, or a feasible one where none is claimed.
 
 use crate::explanation::Explanation;
-use dimacs_quote::{OrStop, Reopen, Said, Stop, TextFile, Value, Wanted, range_of, say};
+use dimacs_quote::{OrStop, Reopen, Said, Stop, TextFile, Value, Wanted, is_file, range_of, say};
 use dimacs_records::{At, Record, TextKind};
 
 /// How much better a value is than a claimed one, or a cost; none if it isn't.
@@ -14,7 +14,6 @@ fn gain(kind: TextKind, value: i128, claimed: i128) -> Option<i128> {
 }
 
 impl<'a, A: Reopen> Explanation<'a, A> {
-    /// Explains that a feasible flow isn't optimal.
     pub(crate) fn explain_better(&mut self, at: At) -> Said<'a> {
         let (kind, claim) = (self.page.texts.instance()?.kind, self.page.texts.claim()?);
         let claimed = self.value_on(claim, Wanted::Line(at))?;
@@ -29,17 +28,12 @@ impl<'a, A: Reopen> Explanation<'a, A> {
                 return Ok(());
             }
         }
-        let Some(made) = self.made else {
-            say!(self; "the flow is feasible, and there is a better one, whose cost, added up arc by arc, leaves {}: it isn't written\n",
-                range_of("VALUE"));
-            return Ok(());
+        let with = match kind {
+            TextKind::Min => "a better one costs {}",
+            _ => "a better one has the value {}",
         };
-        let verb = match kind {
-            TextKind::Min => "costs",
-            _ => "has the value",
-        };
-        say!(self; "the flow is feasible, and a better one {} {}", verb, made);
-        self.write_place("solution");
+        say!(self; "the flow is feasible, and ");
+        self.write_made(with, "there is a better one", "better", "solution");
         Ok(())
     }
 
@@ -62,36 +56,55 @@ impl<'a, A: Reopen> Explanation<'a, A> {
             TextKind::Min => ("costs", "less"),
             _ => ("has", "more"),
         };
-        say!(self; "this flow is feasible, and {} {} {} than the {} that is claimed\n", verb, gain, word, claimed);
+        let flow = if text.is_of_arrays() {
+            "the flow in `better`"
+        } else {
+            "this flow"
+        };
+        say!(self; "{} is feasible, and {} {} {} than the {} that is claimed\n", flow, verb, gain, word, claimed);
         Ok(true)
     }
 
     /// The value on a line of a text; none without one, or if the text can't be read again.
     fn value_on(&self, text: TextFile<'a>, wanted: Wanted) -> OrStop<'a, Option<i128>> {
-        match self.page.find(text, wanted) {
-            Ok(found) => Ok(found.and_then(|found| match found.record {
-                Record::SolutionValue { value } => Some(value),
-                _ => None,
-            })),
-            Err(Stop::Unread(_)) => Ok(None),
-            Err(stop) => Err(stop),
+        let found = match self.page.find(text, wanted) {
+            Err(Stop::Unread(_)) => None,
+            found => found?,
+        };
+        match found.map(|found| found.record) {
+            Some(Record::SolutionValue { value }) => Ok(Some(value)),
+            _ => Ok(None),
         }
     }
 
-    /// Explains that an instance has a feasible flow.
-    pub(crate) fn explain_feasible(&mut self) {
-        let Some(cost) = self.made else {
-            return say!(self; "the instance has a feasible flow, whose cost, added up arc by arc, leaves {}: it isn't written\n",
-                range_of("VALUE"));
+    /// Whether a text has the value of the flow that the run made.
+    fn is_in(&self, file: &'a str) -> bool {
+        let text = TextFile {
+            kind: TextKind::Solution,
+            file,
         };
-        say!(self; "the instance has a feasible flow, which costs {}", cost);
-        self.write_place("instance");
+        matches!(self.value_on(text, Wanted::Value), Ok(value) if value == self.made)
     }
 
-    /// Names the file that a flow goes to, or how to get it.
-    fn write_place(&mut self, last: &str) {
+    pub(crate) fn explain_feasible(&mut self) -> Said<'a> {
+        say!(self; "the instance has a feasible flow");
+        self.write_made(", which costs {}", "", "flow", "instance");
+        Ok(())
+    }
+
+    /// Writes the value or the cost of the flow that the run made, and what has it: a field, a file, or one to be named.
+    fn write_made(&mut self, with: &str, without: &str, field: &str, last: &str) {
+        match self.made {
+            Some(made) => say!(self; with, made),
+            None => say!(self; without),
+        }
         match self.page.texts.written() {
-            Some(file) => say!(self; ": it goes to {}\n", Value::File(file)),
+            _ if self.page.texts.are_arrays() => say!(self; ": it is in `{}`\n", field),
+            _ if self.made.is_none() =>
+                say!(self; ", whose cost, added up arc by arc, leaves {}: it isn't written\n", range_of("VALUE")),
+            Some(file) if is_file(file) => say!(self; ": it goes to {}\n", Value::File(file)),
+            Some(file) if self.is_in(file) => say!(self; ": it is in `{}`\n", Value::File(file)),
+            Some(_) => say!(self; "\n"),
             None => say!(self; ": name a file after the {} to get it\n", last),
         }
     }

@@ -2,11 +2,11 @@
 
 use crate::explanation::Explanation;
 use crate::least_cost::cost_of;
-use dimacs_quote::{OrStop, Reopen, Said, Wanted, ending, say};
+use dimacs_quote::Value::{Arc, Node};
+use dimacs_quote::{OrStop, Reopen, Said, Wanted, ending, entry_between, say};
 use dimacs_records::{At, End, Reason, Record, TextKind};
 
 impl<'a, A: Reopen> Explanation<'a, A> {
-    /// Quotes a line of the solution.
     fn quote_solution(&mut self, at: At) -> OrStop<'a, Record> {
         let solution = self.page.texts.claim()?;
         self.page.quote_there(solution, Wanted::Line(at))
@@ -14,21 +14,37 @@ impl<'a, A: Reopen> Explanation<'a, A> {
 
     /// Explains that an entry belongs to no arc, or that as many earlier entries as there are arcs have its ends.
     pub(crate) fn explain_entry(&mut self, at: At, reason: Reason) -> Said<'a> {
-        let Record::SolutionEntry { tail, head, .. } = self.quote_solution(at)? else {
+        let Record::SolutionEntry { tail, head, flow } = self.quote_solution(at)? else {
             return Ok(());
         };
         let instance = self.page.texts.instance()?;
         if reason == Reason::ArcTwice {
             let count = self.parallel(tail, head, 0)?.all;
             say!(self; "{} has {} arc{} from {} to {}, and as many earlier entries have these ends\n",
-                instance, count, ending(count), tail, head);
-            return self.write_spread();
+                instance, count, ending(count), Node(tail), Node(head));
+            return match count {
+                1 => self.write_repeated(tail, head, flow),
+                _ => self.write_spread(),
+            };
         }
-        say!(self; "{} has no arc from {} to {}\n", instance, tail, head);
+        say!(self; "{} has no arc from {} to {}\n", instance, Node(tail), Node(head));
         let back = self.parallel(head, tail, 0)?;
         if back.all > 0 {
-            say!(self; "arc {} leads from {} to {}\n", back.first, head, tail);
+            say!(self; "arc {} leads from {} to {}\n", Arc(back.first), Node(head), Node(tail));
         }
+        Ok(())
+    }
+
+    /// Quotes the earlier entry of an arc that has two, and advises to remove one if they are the same.
+    fn write_repeated(&mut self, tail: u32, head: u32, flow: i64) -> Said<'a> {
+        let solution = self.page.texts.claim()?;
+        let earlier = self
+            .page
+            .quote_there(solution, Wanted::Entry(tail, head, 0))?;
+        if entry_between(earlier, tail, head) != Some(flow) {
+            return self.write_spread();
+        }
+        say!(self; "the two are the same: remove one\n");
         Ok(())
     }
 
@@ -47,30 +63,23 @@ impl<'a, A: Reopen> Explanation<'a, A> {
 
     /// Compares the cost of the solution's flow with a claimed one, and returns it.
     fn write_cost_of(&mut self, claimed: i128) -> OrStop<'a, i128> {
-        let cost = self.claimed_cost()?;
-        say!(self; "{} is claimed, and the flow costs {}\n", claimed, cost);
-        Ok(cost)
-    }
-
-    /// The cost of the solution's flow.
-    fn claimed_cost(&self) -> OrStop<'a, i128> {
         let min = self.min_instance()?;
         let flow = self.flow(min.network(), &self.solution()?)?;
-        Ok(cost_of(min.network(), &flow))
+        let cost = cost_of(min.network(), &flow);
+        say!(self; "{} is claimed, and the flow costs {}\n", claimed, cost);
+        self.write_cost(min.network(), &flow);
+        Ok(cost)
     }
 
     /// The same for its value.
     fn write_value_of(&mut self, claimed: i128) -> OrStop<'a, i128> {
         let source = self.end_of(End::Source)?;
         let flow = self.node_flow(source)?;
-        let (outflow, inflow) = (flow.out_of.sum(), flow.into.sum());
-        let value = outflow.saturating_sub(inflow);
         say!(self; "{} is claimed, and the flow has the value {}: {} leaves the source, node {}, and {} enters it\n",
-            claimed, value, outflow, source, inflow);
-        Ok(value)
+            claimed, flow.net(), flow.leaving.sum(), Node(source), flow.entering.sum());
+        Ok(flow.net())
     }
 
-    /// The source or the sink.
     pub(crate) fn end_of(&self, end: End) -> OrStop<'a, u32> {
         let instance = self.page.texts.instance()?;
         let found = self.page.find(instance, Wanted::End(end))?;
@@ -84,7 +93,7 @@ impl<'a, A: Reopen> Explanation<'a, A> {
     fn write_wrapped(&mut self, claimed: i128, right: i128) {
         let apart = claimed.saturating_sub(right);
         let bits = match (apart % 18_446_744_073_709_551_616, apart % 4_294_967_296) {
-            (0, _) => 64_u32,
+            (0, _) => 64_u64,
             (_, 0) => 32,
             _ => return,
         };

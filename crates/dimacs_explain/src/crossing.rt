@@ -5,6 +5,7 @@ use crate::sums::Sum;
 use dimacs_claims::Cut;
 use dimacs_instance::MinInstance;
 use dimacs_network::{ArcView, Network};
+use dimacs_quote::Value::Node;
 use dimacs_quote::{OrStop, Reopen, Said, TextFile, Wanted, say};
 use dimacs_records::End;
 use std::alloc::Global;
@@ -37,30 +38,35 @@ impl Limit {
     }
 }
 
-/// The arcs out of a set, and those into it.
+/// What leaves a set or a node, and what enters it.
 #[derive(Drop)]
-struct Crossing {
-    leaving: Sum,
-    entering: Sum,
+pub(crate) struct Crossing {
+    pub(crate) leaving: Sum,
+    pub(crate) entering: Sum,
 }
 
 impl Crossing {
-    fn of<N: Network>(alloc: Global, network: &N, set: &Cut, limit: Limit) -> Crossing {
-        let mut leaving = Sum::new(alloc);
-        let mut entering = Sum::new(alloc);
-        for i in 0..network.arcs() {
-            let arc = network.arc(i);
-            match (set.contains(arc.tail), set.contains(arc.head)) {
-                (true, false) => leaving.add_arc(i, arc, limit.out_of(arc)),
-                (false, true) => entering.add_arc(i, arc, limit.into(arc)),
-                _ => (),
-            }
-        }
+    pub(crate) fn new(alloc: Global) -> Crossing {
+        let (leaving, entering) = (Sum::new(alloc), Sum::new(alloc));
         Crossing { leaving, entering }
     }
 
+    /// The arcs out of a set, and those into it.
+    fn of<N: Network>(alloc: Global, network: &N, set: &Cut, limit: Limit) -> Crossing {
+        let mut all = Crossing::new(alloc);
+        for i in 0..network.arcs() {
+            let (number, arc) = (i.saturating_add(1), network.arc(i));
+            match (set.contains(arc.tail), set.contains(arc.head)) {
+                (true, false) => all.leaving.add_arc(number, arc, limit.out_of(arc)),
+                (false, true) => all.entering.add_arc(number, arc, limit.into(arc)),
+                _ => (),
+            }
+        }
+        all
+    }
+
     /// What leaves the set, less what enters it.
-    fn net(&self) -> i128 {
+    pub(crate) fn net(&self) -> i128 {
         self.leaving.sum().saturating_sub(self.entering.sum())
     }
 }
@@ -136,16 +142,16 @@ impl<'a, A: Reopen> Explanation<'a, A> {
         let sink = self.end_of(End::Sink)?;
         let has_sink = self.page.quote(cut, Wanted::Node(sink))?.is_some();
         if node == sink {
-            say!(self; "node {} is the sink, and the cut holds it\n", node);
-            return Ok(());
+            say!(self; "node {} is the sink, and the cut holds it\n", Node(node));
+            return self.write_open();
         }
-        say!(self; "node {} is the source, and the cut in {} doesn't hold it: ", node, cut);
+        say!(self; "node {} is the source, and the cut doesn't hold it: ", Node(node));
         if has_sink {
             say!(self; "this is the sink's side: list the other nodes, those on the source's side\n");
         } else {
             say!(self; "it lists the nodes on the source's side, the source among them\n");
         }
-        Ok(())
+        self.write_open()
     }
 
     /// What the set of a certificate supplies, and the least and the most that arcs can carry out of it.
@@ -156,12 +162,11 @@ impl<'a, A: Reopen> Explanation<'a, A> {
         Ok((supply, range_out_of(self.page.alloc, min.network(), &set)))
     }
 
-    /// Explains why a set isn't violated.
     pub(crate) fn explain_violation(&mut self) -> Said<'a> {
         let text = self.page.texts.certificate()?;
         let (supply, (least, most)) = self.supply_and_range(text)?;
-        say!(self; "the set in {} supplies {}, and its arcs can carry {} to {} out of it: it would show that no flow is feasible if it supplied less than {} or more than {}\n",
-            text, supply, least, most, least, most);
+        say!(self; "the set supplies {}, and its arcs can carry {} to {} out of it: it would show that no flow is feasible if it supplied less than {} or more than {}\n",
+            supply, least, most, least, most);
         self.write_open()
     }
 }

@@ -123,7 +123,6 @@ fn negative_cycle<N: Network>(
 }
 
 impl<'a, A: Reopen> Explanation<'a, A> {
-    /// The arcs of a negative cycle that a source reaches, if one is found.
     fn negative_cycle(&self, source: u32) -> OrStop<'a, Vec<IndexedArc>> {
         let graph = self.graph()?;
         Ok(negative_cycle(self.page.alloc, graph.network(), source)?)
@@ -134,7 +133,7 @@ impl<'a, A: Reopen> Explanation<'a, A> {
         let cycle = self.negative_cycle(source)?;
         let mut weights = Sum::new(self.page.alloc);
         for IndexedArc { index, arc } in cycle {
-            weights.add_arc(index, arc, ("WEIGHT", arc.cost));
+            weights.add_arc(index.saturating_add(1), arc, ("WEIGHT", arc.cost));
         }
         if weights.count > 0 {
             let what = "a cycle that the source reaches weighs less than 0; its arcs";

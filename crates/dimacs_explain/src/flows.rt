@@ -1,14 +1,13 @@
 //! Explains the tests of a flow's arcs and nodes.
 
+use crate::crossing::Crossing;
 use crate::explanation::Explanation;
 use crate::least_cost::{paid_bound, reduced_cost};
-use crate::sums::Sum;
-use dimacs_network::ArcView;
-use dimacs_quote::{
-    OrStop, Reopen, Said, Stop, TextFile, Wanted, ending, entry_between, range_of, say,
-};
+use crate::sums::bound;
+use dimacs_network::{ArcView, Network};
+use dimacs_quote::Value::{Arc, Cap, Node};
+use dimacs_quote::{OrStop, Reopen, Said, TextFile, Wanted, ending, entry_between, range_of, say};
 use dimacs_records::{Reason, Record, TextKind};
-use std::alloc::Global;
 
 /// The arc of an arc line.
 pub(crate) fn arc_of(record: Record) -> Option<ArcView> {
@@ -58,36 +57,19 @@ impl Parallel {
     }
 }
 
-/// The entries out of a node and into it, without loops.
-#[derive(Drop)]
-pub(crate) struct NodeFlow {
-    pub(crate) out_of: Sum,
-    pub(crate) into: Sum,
-}
-
-impl NodeFlow {
-    fn new(alloc: Global) -> NodeFlow {
-        NodeFlow {
-            out_of: Sum::new(alloc),
-            into: Sum::new(alloc),
+/// The least and the most that arcs can carry out of a node, less what they carry into it.
+fn range_at<N: Network>(network: &N, node: u32) -> (i128, i128) {
+    let (mut least, mut most) = (0i128, 0i128);
+    for i in 0..network.arcs() {
+        let arc = network.arc(i);
+        let (low, cap) = (i128::from(arc.low), i128::from(arc.cap));
+        if arc.tail == node && arc.head != node {
+            (least, most) = (least.saturating_add(low), most.saturating_add(cap));
+        } else if arc.head == node && arc.tail != node {
+            (least, most) = (least.saturating_sub(cap), most.saturating_sub(low));
         }
     }
-
-    /// Adds the entry on a line of a solution, if it is one of the node.
-    fn add(&mut self, node: u32, text: TextFile<'_>, line: u64, record: Record) {
-        let Record::SolutionEntry { tail, head, flow } = record else {
-            return;
-        };
-        if tail != head && (tail == node || head == node) {
-            let sum = if tail == node {
-                &mut self.out_of
-            } else {
-                &mut self.into
-            };
-            say!(sum; "  {}:{}: f {} {} {}\n", text, line, tail, head, flow);
-            sum.add(Some(i128::from(flow)));
-        }
-    }
+    (least, most)
 }
 
 impl<'a, A: Reopen> Explanation<'a, A> {
@@ -106,7 +88,6 @@ impl<'a, A: Reopen> Explanation<'a, A> {
         Ok(parallel)
     }
 
-    /// The sum of the entries with these ends.
     fn entry_sum(&self, tail: u32, head: u32) -> OrStop<'a, i128> {
         let mut sum = 0i128;
         for (_, record) in self.page.lines(self.page.texts.claim()?)? {
@@ -118,19 +99,22 @@ impl<'a, A: Reopen> Explanation<'a, A> {
     }
 
     /// The claimed flow out of a node and into it.
-    pub(crate) fn node_flow(&self, node: u32) -> OrStop<'a, NodeFlow> {
-        let solution = self.page.texts.claim()?;
-        let lines = self.page.lines(solution)?;
-        let mut flow = NodeFlow::new(self.page.alloc);
+    pub(crate) fn node_flow(&self, node: u32) -> OrStop<'a, Crossing> {
+        let text = self.page.texts.claim()?;
+        let lines = self.page.lines(text)?;
+        let mut all = Crossing::new(self.page.alloc);
         for (line, record) in lines {
-            if let Some(record) = record {
-                flow.add(node, solution, line, record);
+            match record {
+                Some(Record::SolutionEntry { tail, head, flow }) if tail == node && head != node =>
+                    all.leaving.add_entry(text, line, tail, head, flow),
+                Some(Record::SolutionEntry { tail, head, flow }) if head == node && tail != node =>
+                    all.entering.add_entry(text, line, tail, head, flow),
+                _ => (),
             }
         }
-        Ok(flow)
+        Ok(all)
     }
 
-    /// Quotes the line of an arc.
     pub(crate) fn quote_arc(&mut self, number: u32) -> OrStop<'a, ArcView> {
         let instance = self.page.texts.instance()?;
         arc_of(self.page.quote_there(instance, Wanted::Arc(number))?).ok_or(instance.unread())
@@ -142,14 +126,9 @@ impl<'a, A: Reopen> Explanation<'a, A> {
             return Ok(0);
         };
         let (tail, head) = (arc.tail, arc.head);
-        let entry = self.page.quote(
-            solution,
-            Wanted::Entry {
-                tail,
-                head,
-                earlier,
-            },
-        )?;
+        let entry = self
+            .page
+            .quote(solution, Wanted::Entry(tail, head, earlier))?;
         if let Some(Record::SolutionEntry { flow, .. }) = entry {
             return Ok(flow);
         }
@@ -174,15 +153,15 @@ impl<'a, A: Reopen> Explanation<'a, A> {
             return self.explain_spread(arc, parallel, reason);
         }
         let flow = self.quote_entry(arc, parallel.earlier)?;
-        say!(self; "arc {} carries {}", number, flow);
+        say!(self; "arc {} carries {}", Arc(number), flow);
         if reason == Reason::AboveCap {
-            say!(self; ", more than its CAP, {}\n", arc.cap);
+            say!(self; ", more than its CAP, {}\n", Cap(arc.cap));
         } else if self.page.texts.instance()?.kind == TextKind::Min {
             say!(self; ", less than its LOW, {}\n", arc.low);
         } else {
             say!(self; ", less than 0\n");
         }
-        if parallel.all > 1 {
+        if parallel.all > 1 && !self.page.texts.are_arrays() {
             return self.explain_order(arc, parallel);
         }
         Ok(())
@@ -191,7 +170,7 @@ impl<'a, A: Reopen> Explanation<'a, A> {
     /// Explains that entries belong to parallel arcs in their order, and whether another order fits.
     fn explain_order(&mut self, arc: ArcView, parallel: Parallel) -> Said<'a> {
         say!(self; "{} arcs lead from {} to {}, and arc {} is the first of them: entries with these ends belong to them in the order of the instance\n",
-            parallel.all, arc.tail, arc.head, parallel.first);
+            parallel.all, Node(arc.tail), Node(arc.head), Arc(parallel.first));
         let sum = self.entry_sum(arc.tail, arc.head)?;
         if parallel.low <= sum && sum <= parallel.cap {
             return self.write_spread();
@@ -205,7 +184,7 @@ impl<'a, A: Reopen> Explanation<'a, A> {
     fn explain_spread(&mut self, arc: ArcView, parallel: Parallel, reason: Reason) -> Said<'a> {
         let sum = self.entry_sum(arc.tail, arc.head)?;
         say!(self; "{} arc{} from {} to {}: the f lines with these ends add up to {}\n",
-            parallel.all, ending(parallel.all), arc.tail, arc.head, sum);
+            parallel.all, ending(parallel.all), Node(arc.tail), Node(arc.head), sum);
         let (name, all, first) = match reason {
             Reason::AboveCap => ("CAP", parallel.cap, arc.cap),
             _ => ("LOW", parallel.low, arc.low),
@@ -213,7 +192,7 @@ impl<'a, A: Reopen> Explanation<'a, A> {
         let others = all.saturating_sub(i128::from(first));
         let left = sum.saturating_sub(others);
         say!(self; "the arcs but the first carry their {}, {} in all, and {} is left for the first, arc {}: a FLOW is a number from {}\n",
-            name, others, left, parallel.first, range_of("FLOW"));
+            name, others, left, Arc(parallel.first), range_of("FLOW"));
         Ok(())
     }
 
@@ -225,14 +204,14 @@ impl<'a, A: Reopen> Explanation<'a, A> {
         match reason {
             Reason::NotSaturated =>
                 say!(self; "arc {} leaves the set, from {} inside to {} outside, and carries {} of its CAP, {}\n",
-                number, arc.tail, arc.head, flow, arc.cap),
+                Arc(number), Node(arc.tail), Node(arc.head), flow, Cap(arc.cap)),
             Reason::BackFlow =>
                 say!(self; "arc {} enters the set, from {} outside to {} inside, and carries {}, not 0\n",
-                number, arc.tail, arc.head, flow),
+                Arc(number), Node(arc.tail), Node(arc.head), flow),
             Reason::NotTight => self.write_slack(number, arc, flow)?,
             _ => {
                 say!(self; "arc {} carries {} at a COST of {}: the costs of the arcs up to this one leave {}\n",
-                    number, flow, arc.cost, range_of("VALUE"));
+                    Arc(number), flow, arc.cost, range_of("VALUE"));
                 return Ok(());
             }
         }
@@ -246,10 +225,10 @@ impl<'a, A: Reopen> Explanation<'a, A> {
         let head = self.quote_node(certificate, arc.head)?;
         let reduced = reduced_cost(arc, tail, head);
         say!(self; "the reduced cost of arc {} is COST - y({}) + y({}) = {} - {} + {} = {}",
-            number, arc.tail, arc.head, arc.cost, tail, head, reduced);
-        let (bound, wanted) = paid_bound(arc, reduced);
+            Arc(number), Node(arc.tail), Node(arc.head), arc.cost, tail, head, reduced);
+        let (name, wanted) = paid_bound(arc, reduced);
         let sign = if reduced > 0 { "above" } else { "below" };
-        say!(self; ", {} 0, so it has to carry its {}, {}, and carries {}\n", sign, bound, wanted, flow);
+        say!(self; ", {} 0, so it has to carry its {}, {}, and carries {}\n", sign, name, bound(name, wanted), flow);
         Ok(())
     }
 
@@ -263,33 +242,55 @@ impl<'a, A: Reopen> Explanation<'a, A> {
 
     /// Writes that a certificate which fails leaves its claim open, and the command that decides it.
     pub(crate) fn write_open(&mut self) -> Said<'a> {
-        say!(self; "this certificate doesn't show the claim, which may be true all the same: to find out, run ");
+        say!(self; "this certificate doesn't show the claim, which may be true all the same: to find out, ");
+        if self.page.texts.are_arrays() {
+            say!(self; "certify it\n");
+            return Ok(());
+        }
+        say!(self; "run ");
         self.write_command("certify")?;
         say!(self; "\n");
         Ok(())
     }
 
-    /// Writes a command about the claimed flow, or that none is feasible.
+    /// Writes a command about the claimed flow, or that none is feasible; or the one that finds distances.
     fn write_command(&mut self, verb: &str) -> Said<'a> {
         let instance = self.page.texts.instance()?;
-        let kind = match instance.kind {
-            TextKind::Max => "max",
-            _ => "min",
-        };
-        match self.page.texts.claim() {
-            Ok(claim) => say!(self; "dimacs {}-{} {} {}", verb, kind, instance, claim),
-            Err(_) => say!(self; "dimacs {}-infeasible {}", verb, instance),
+        match (instance.kind, self.page.texts.claim()) {
+            (TextKind::Max, Ok(claim)) => say!(self; "dimacs {}-max {} {}", verb, instance, claim),
+            (TextKind::Min, Ok(claim)) => say!(self; "dimacs {}-min {} {}", verb, instance, claim),
+            (_, Ok(claim)) => say!(self; "dimacs solve-paths {} {} LABELS", instance, claim),
+            _ => say!(self; "dimacs {}-infeasible {}", verb, instance),
         }
         Ok(())
     }
 
-    /// Explains why the balance of a node is wrong.
     pub(crate) fn explain_balance(&mut self, node: u32) -> Said<'a> {
         let (instance, flow) = (self.page.texts.instance()?, self.node_flow(node)?);
         let supply = self.quote_node(instance, node)?;
-        self.write_balance(node, flow.out_of.sum(), flow.into.sum(), supply);
-        self.write_lines("entries out of it", &flow.out_of);
-        self.write_lines("entries into it", &flow.into);
+        self.write_balance(node, flow.leaving.sum(), flow.entering.sum(), supply);
+        self.write_lines("entries out of it", &flow.leaving);
+        self.write_lines("entries into it", &flow.entering);
+        match instance.kind {
+            TextKind::Min => self.write_feasible(instance, node),
+            _ => Ok(()),
+        }
+    }
+
+    /// Writes that no flow is feasible if the supplies or the arcs of a node show that, and the command that decides it.
+    fn write_feasible(&mut self, instance: TextFile<'a>, node: u32) -> Said<'a> {
+        let min = self.min_instance()?;
+        let (sums, supply) = (min.supply_sums(), i128::from(min.supply(node)));
+        let all = sums.supplied.saturating_sub(sums.demanded);
+        let (least, most) = range_at(min.network(), node);
+        if all != 0 {
+            say!(self; "the supplies add up to {}, and not to 0: no flow is feasible\n", all);
+        } else if supply < least || supply > most {
+            say!(self; "the arcs of node {} can carry {} to {} out of it: no flow is feasible\n", Node(node), least, most);
+        }
+        if !instance.is_of_arrays() {
+            say!(self; "dimacs certify-infeasible {} shows whether any flow is feasible\n", instance);
+        }
         Ok(())
     }
 
@@ -297,10 +298,10 @@ impl<'a, A: Reopen> Explanation<'a, A> {
         let excess = outflow.saturating_sub(inflow).saturating_sub(supply);
         if supply < 0 {
             say!(self; "{} enters node {}, {} leaves it, and it takes {}",
-                inflow, node, outflow, supply.saturating_neg());
+                inflow, Node(node), outflow, supply.saturating_neg());
             return self.write_excess(excess.saturating_neg(), "arrives");
         }
-        say!(self; "{} leaves node {}, {} enters it", outflow, node, inflow);
+        say!(self; "{} leaves node {}, {} enters it", outflow, Node(node), inflow);
         if supply > 0 {
             say!(self; ", and it supplies {}", supply);
         }

@@ -1,12 +1,13 @@
 //! Why a flow costs least: by the potentials, each feasible flow costs at least as much.
 
 use crate::explanation::Explanation;
-use crate::sums::{SHOWN, Sum};
+use crate::sums::{SHOWN, Sum, bound};
 use dimacs_claims::Potentials;
 use dimacs_instance::MinInstance;
 use dimacs_judging::Flow;
 use dimacs_network::{ArcView, Network};
-use dimacs_quote::{Prose, Reopen, Value, say};
+use dimacs_quote::Value::{Arc, Node, Operand};
+use dimacs_quote::{Prose, Reopen, say};
 use std::alloc::Global;
 
 /// What the flow of an arc costs.
@@ -66,7 +67,7 @@ fn supply_sum<N: Network>(alloc: Global, min: &MinInstance<N>, potentials: &Pote
     for id in 1..=potentials.nodes() {
         let (y, supply) = (potentials.of(id), i128::from(min.supply(id)));
         if y != 0 && supply != 0 {
-            say!(sum; "  node {}: {} * {}\n", id, y, Value::Operand(supply));
+            say!(sum; "  node {}: {} * {}\n", Node(id), y, Operand(supply));
             sum.add(y.checked_mul(supply));
         }
     }
@@ -86,11 +87,11 @@ fn reduced_sum<N: Network>(alloc: Global, network: &N, potentials: &Potentials) 
         let arc = network.arc(i);
         let (tail, head) = (potentials.of(arc.tail), potentials.of(arc.head));
         let reduced = reduced_cost(arc, tail, head);
-        let (name, bound) = paid_bound(arc, reduced);
-        if reduced != 0 && bound != 0 {
-            say!(sum; "  arc {}: {} -> {}, r = {} - {} + {} = {}, {} {}\n", i.saturating_add(1), arc.tail, arc.head,
-                arc.cost, Value::Operand(tail), Value::Operand(head), reduced, name, bound);
-            sum.add(reduced.checked_mul(i128::from(bound)));
+        let (name, paid) = paid_bound(arc, reduced);
+        if reduced != 0 && paid != 0 {
+            say!(sum; "  arc {}: {} -> {}, r = {} - {} + {} = {}, {} {}\n", Arc(i.saturating_add(1)), Node(arc.tail),
+                Node(arc.head), arc.cost, Operand(tail), Operand(head), reduced, name, bound(name, paid));
+            sum.add(reduced.checked_mul(i128::from(paid)));
         }
     }
     sum
@@ -131,8 +132,8 @@ impl<'a, A: Reopen> Explanation<'a, A> {
                 break;
             };
             let (number, arc) = (it.index.saturating_add(1), it.arc);
-            say!(self; "  arc {}: {} -> {}, {} * {} = {}\n", number, arc.tail, arc.head, it.amount,
-                Value::Operand(i128::from(arc.cost)), it.cost);
+            say!(self; "  arc {}: {} -> {}, {} * {} = {}\n", Arc(number), Node(arc.tail), Node(arc.head), it.amount,
+                Operand(i128::from(arc.cost)), it.cost);
             sum.add(Some(it.cost));
             next = next_cost(network, flow, next);
         }
@@ -179,7 +180,7 @@ impl<'a, A: Reopen> Explanation<'a, A> {
             if reduced_cost(arc, potentials.of(arc.tail), potentials.of(arc.head)) == 0 {
                 count = count.saturating_add(1);
                 if count <= SHOWN {
-                    say!(list; " {}", i.saturating_add(1));
+                    say!(list; " {}", Arc(i.saturating_add(1)));
                 }
             }
         }
@@ -187,7 +188,7 @@ impl<'a, A: Reopen> Explanation<'a, A> {
             return say!(self; "no arc has r = 0: no other flow costs as little\n");
         }
         say!(self; "another flow of this cost can differ only on arcs with r = 0, {} of {}:",
-            count, network.arcs());
+            count, u64::from(network.arcs()));
         self.page.out.append(&list);
         say!(self; if count > SHOWN { " ..\n" } else { "\n" });
     }

@@ -13,6 +13,7 @@ mod explanation;
 mod flows;
 mod least_cost;
 mod paths;
+mod preds;
 mod readings;
 mod refusals;
 mod routes;

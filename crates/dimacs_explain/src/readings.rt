@@ -12,31 +12,26 @@ use dimacs_quote::{OrStop, Reopen, Stop, TextFile};
 use dimacs_records::TextKind;
 
 impl<'a, A: Reopen> Explanation<'a, A> {
-    /// The instance of a maximum flow.
     pub(crate) fn max_instance(&self) -> OrStop<'a, MaxInstance<PlainArcs<CapacityArc>>> {
         let text = self.page.texts.instance()?;
         read_plain_max(self.page.alloc, &mut self.page.source(text)?).map_err(|_| text.unread())
     }
 
-    /// The instance of a minimum cost flow.
     pub(crate) fn min_instance(&self) -> OrStop<'a, MinInstance<PlainArcs<ArcView>>> {
         let text = self.page.texts.instance()?;
         read_plain_min(self.page.alloc, &mut self.page.source(text)?).map_err(|_| text.unread())
     }
 
-    /// The graph.
     pub(crate) fn graph(&self) -> OrStop<'a, Graph<PlainArcs<WeightArc>>> {
         let text = self.page.texts.instance()?;
         read_plain_graph(self.page.alloc, &mut self.page.source(text)?).map_err(|_| text.unread())
     }
 
-    /// The claimed solution.
     pub(crate) fn solution(&self) -> OrStop<'a, Solution> {
         let text = self.page.texts.claim()?;
         read_solution(self.page.alloc, &mut self.page.source(text)?).map_err(|_| text.unread())
     }
 
-    /// The flow of a solution.
     pub(crate) fn flow<N: Network>(&self, network: &N, solution: &Solution) -> OrStop<'a, Flow> {
         let Ok(flow) = flow_of(self.page.alloc, network, solution) else {
             return Err(Stop::Done);
@@ -44,7 +39,6 @@ impl<'a, A: Reopen> Explanation<'a, A> {
         Ok(flow)
     }
 
-    /// A set of nodes.
     pub(crate) fn set<R: Source>(&self, certificate: &mut R) -> OrStop<'a, Cut> {
         let Ok(set) = read_cut(self.page.alloc, certificate) else {
             return Err(Stop::Done);

@@ -19,14 +19,23 @@ impl<'a, A: Reopen> Explanation<'a, A> {
     /// Explains the fault of a text of this kind.
     pub fn explain_fault(&mut self, kind: TextKind, at: At, reason: Reason) {
         let said = match reason {
-            Reason::Feasible => {
-                self.explain_feasible();
-                Ok(())
-            }
+            Reason::Feasible => self.explain_feasible(),
             Reason::NodesDiffer => self.explain_nodes(),
-            _ => self.page.explain_text(kind, at, reason),
+            _ => self.explain_text(kind, at, reason),
         };
         self.end_refusal(said);
+    }
+
+    /// Explains the fault of a text by itself. One in a certificate leaves its claim open.
+    fn explain_text(&mut self, kind: TextKind, at: At, reason: Reason) -> Said<'a> {
+        self.page.explain_text(kind, at, reason)?;
+        if reason == Reason::PredUnknown {
+            self.explain_pred(at)?;
+        }
+        match self.page.texts.certificate() {
+            Ok(certificate) if certificate.kind == kind => self.write_open(),
+            _ => Ok(()),
+        }
     }
 
     /// Explains why a test failed.
@@ -85,8 +94,30 @@ impl<'a, A: Reopen> Explanation<'a, A> {
             Reason::NoTightArc => self.explain_unreached(number),
             Reason::Escapes | Reason::NotShortest => self.explain_farther(number),
             Reason::NegativeWeight => self.explain_negative(number),
-            // The others are reasons of texts.
-            _ => Ok(()),
+            // No test fails for these.
+            Reason::LineTooLong
+            | Reason::UnknownLine
+            | Reason::FieldCount
+            | Reason::BadNumber
+            | Reason::NumberRange
+            | Reason::BadWord
+            | Reason::ProblemMissing
+            | Reason::ProblemTwice
+            | Reason::RecordOrder
+            | Reason::NodeRange
+            | Reason::NodeTwice
+            | Reason::EndTwice
+            | Reason::EndMissing
+            | Reason::BoundOrder
+            | Reason::ParallelArc
+            | Reason::TooMany
+            | Reason::TooFew
+            | Reason::SolutionMissing
+            | Reason::SolutionTwice
+            | Reason::PredUnknown
+            | Reason::LineLimit
+            | Reason::PastRadius
+            | Reason::Feasible => Ok(()),
         }
     }
 
@@ -97,6 +128,9 @@ impl<'a, A: Reopen> Explanation<'a, A> {
         self.page.quote_there(instance, Wanted::Problem)?;
         self.page.quote_there(tested, Wanted::Problem)?;
         say!(self; "NODES of the two differ: they are not of one instance\n");
-        Ok(())
+        match tested.kind {
+            TextKind::Distances => Ok(()),
+            _ => self.write_open(),
+        }
     }
 }

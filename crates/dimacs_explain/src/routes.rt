@@ -6,6 +6,7 @@ use dimacs_claims::{Block, Label, Labels};
 use dimacs_instance::Queries;
 use dimacs_lines::Memory;
 use dimacs_network::NodeMap;
+use dimacs_quote::Value::Node;
 use dimacs_quote::{OrStop, Reopen, Said, say};
 use std::alloc::Global;
 
@@ -96,7 +97,7 @@ impl<'a, A: Reopen> Explanation<'a, A> {
     fn write_pair(&mut self, block: &Block, to: u32) -> OrStop<'a, bool> {
         let source = block.source();
         if to == source {
-            say!(self; "{} to itself, without an arc: 0\n", to);
+            say!(self; "{} to itself, without an arc: 0\n", Node(to));
             return Ok(true);
         }
         let route = route_to(self.page.alloc, block, to)?;
@@ -104,7 +105,7 @@ impl<'a, A: Reopen> Explanation<'a, A> {
             self.write_route(source, &route);
             return Ok(true);
         }
-        say!(self; "no walk from {} to {}", source, to);
+        say!(self; "no walk from {} to {}", Node(source), Node(to));
         match block.radius() {
             None => self.write_reached(block),
             Some(radius) =>
@@ -118,9 +119,9 @@ impl<'a, A: Reopen> Explanation<'a, A> {
     fn write_reached(&mut self, block: &Block) {
         let (source, labels) = (block.source(), block.labels());
         say!(self; ": no arc leads out of the nodes that {} reaches, {}: {}",
-            source, labels.len().saturating_add(1) as u64, source);
+            Node(source), labels.len().saturating_add(1) as u64, Node(source));
         for label in labels.into_iter().take(REACHED) {
-            say!(self; " {}", label.id);
+            say!(self; " {}", Node(label.id));
         }
         say!(self; if labels.len() > REACHED { " ..\n" } else { "\n" });
     }
@@ -132,7 +133,7 @@ impl<'a, A: Reopen> Explanation<'a, A> {
             return Ok(false);
         };
         let count = block.labels().len();
-        say!(self; "the farthest node from {}, of {}", block.source(), count as u64);
+        say!(self; "the farthest node from {}, of {}", Node(block.source()), count as u64);
         match block.radius() {
             None => say!(self; " that it reaches: "),
             Some(radius) => say!(self; " within {}, the RADIUS: ", radius),
@@ -150,10 +151,10 @@ impl<'a, A: Reopen> Explanation<'a, A> {
         let source = block.source();
         match block.radius() {
             None =>
-                say!(self; "{} reaches no other node: no arc leads from it to another\n", source),
+                say!(self; "{} reaches no other node: no arc leads from it to another\n", Node(source)),
             Some(radius) =>
                 say!(self; "no other node is within {}, the RADIUS, of {}: each arc from it to another leads past it\n",
-                radius, source),
+                radius, Node(source)),
         }
     }
 
@@ -161,11 +162,11 @@ impl<'a, A: Reopen> Explanation<'a, A> {
     fn write_route(&mut self, source: u32, route: &[Label]) {
         let mut weights = Sum::new(self.page.alloc);
         let mut before = 0i128;
-        say!(self; "{}", source);
+        say!(self; "{}", Node(source));
         let last = route.len().saturating_sub(1);
         for (k, label) in route.iter().enumerate() {
             if weights.shows_next() || k == last {
-                say!(self; " -> {}", label.id);
+                say!(self; " -> {}", Node(label.id));
             } else if weights.count == SHOWN {
                 say!(self; " -> ..");
             }

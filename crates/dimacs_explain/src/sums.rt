@@ -3,7 +3,8 @@
 use crate::explanation::Explanation;
 use dimacs_claims::Cut;
 use dimacs_network::ArcView;
-use dimacs_quote::{Prose, Reopen, Value, say};
+use dimacs_quote::Value::{Arc, Cap, Node};
+use dimacs_quote::{Prose, Reopen, TextFile, Value, entry_arc, say};
 use std::alloc::Global;
 
 /// The most items that are shown.
@@ -62,11 +63,35 @@ impl Sum {
         }
     }
 
-    /// Adds a number of an arc, with its name, and writes its line.
-    pub(crate) fn add_arc(&mut self, index: u32, arc: ArcView, (name, number): (&str, i64)) {
-        let (tail, head) = (arc.tail, arc.head);
-        say!(self; "  arc {}: {} -> {}, {} {}\n", index.saturating_add(1), tail, head, name, number);
+    /// Adds a number of the arc with this number, from 1, and writes a line with its name.
+    pub(crate) fn add_arc(&mut self, arc: u32, ends: ArcView, (name, number): (&str, i64)) {
+        say!(self; "  arc {}: {} -> {}, {} {}\n", Arc(arc), Node(ends.tail), Node(ends.head), name, bound(name, number));
         self.add(Some(i128::from(number)));
+    }
+
+    /// Adds the flow of the entry on a line, and writes that line, or the arc if it is of arrays.
+    pub(crate) fn add_entry(
+        &mut self,
+        text: TextFile<'_>,
+        line: u64,
+        tail: u32,
+        head: u32,
+        flow: i64,
+    ) {
+        if text.is_of_arrays() {
+            say!(self; "  arc {}: {} -> {}, FLOW {}\n", Arc(entry_arc(line)), Node(tail), Node(head), flow);
+        } else {
+            say!(self; "  {}:{}: f {} {} {}\n", text, line, Node(tail), Node(head), flow);
+        }
+        self.add(Some(i128::from(flow)));
+    }
+}
+
+/// A number of an arc with this name.
+pub(crate) fn bound(name: &str, number: i64) -> Value<'static> {
+    match name {
+        "CAP" => Cap(number),
+        _ => Value::from(number),
     }
 }
 
@@ -77,13 +102,8 @@ fn plus(one: Option<i128>, other: Option<i128>) -> Option<i128> {
 
 /// Writes a number, with its sign between blanks unless it is the first.
 fn write_term(out: &mut Prose, term: i128) {
-    if out.is_empty() {
-        say!(out; "{}", term);
-    } else if term < 0 {
-        say!(out; " - {}", Value::Size(term.unsigned_abs()));
-    } else {
-        say!(out; " + {}", term);
-    }
+    let is_first = out.is_empty();
+    say!(out; "{}", if is_first { Value::Number(term) } else { Value::Term(term) });
 }
 
 impl<'a, A: Reopen> Explanation<'a, A> {
@@ -111,10 +131,10 @@ impl<'a, A: Reopen> Explanation<'a, A> {
     /// Writes the first nodes of a set, and how many it has.
     pub(crate) fn write_set(&mut self, set: &Cut) {
         let count = u64::from(set.len());
-        say!(self; "{} of the {} nodes:", count, set.nodes());
+        say!(self; "{} of the {} nodes:", count, u64::from(set.nodes()));
         let inside = (1..=set.nodes()).filter(|id| set.contains(*id));
         for id in inside.take(SHOWN as usize) {
-            say!(self; " {}", id);
+            say!(self; " {}", Node(id));
         }
         say!(self; if count > SHOWN { " ..\n" } else { "\n" });
     }

@@ -4,24 +4,21 @@ ghost use Rattle.std.specs.Prelude.{IfOk};
 ghost use Rattle.dimacs_instance.specs.QueryTexts.{AreLawful, asked};
 
 use crate::explanation::Explanation;
-use dimacs_claims::{Cut, Labels, Potentials, read_labels, read_potentials};
-use dimacs_instance::{MaxInstance, MinInstance, Queries, read_queries};
+use dimacs_claims::{Labels, Potentials, read_labels, read_potentials};
+use dimacs_instance::{MinInstance, Queries, read_queries};
 use dimacs_judging::{
     Flow, JudgeError, Verdict, index_for, judge_infeasible, judge_max, judge_min, judge_paths,
 };
 use dimacs_lines::Source;
 use dimacs_network::Network;
-use dimacs_quote::{OrStop, Prose, Reopen, Said, Stop, say};
+use dimacs_quote::{OrStop, Prose, Reopen, Said, Stop, TextFile, Wanted, say};
 
 const LEFT_OUT: &str =
     "the numbers are left out: a text has changed, can't be read twice, or memory ran out\n";
 
 /// The verdict on texts that are read again.
 fn judged<'a>(answer: Result<Verdict, JudgeError>) -> OrStop<'a, Verdict> {
-    match answer {
-        Ok(verdict) => Ok(verdict),
-        Err(_) => Err(Stop::Done),
-    }
+    answer.map_err(|_| Stop::Done)
 }
 
 impl<'a, A: Reopen> Explanation<'a, A> {
@@ -33,7 +30,27 @@ impl<'a, A: Reopen> Explanation<'a, A> {
     ) {
         if self.show(verdict, certificate).is_err() || self.page.out.is_lost {
             self.page.out = Prose::new(self.page.alloc);
-            say!(self; LEFT_OUT);
+            self.write_left_out();
+        }
+    }
+
+    /// Writes why no numbers are shown.
+    fn write_left_out(&mut self) {
+        match self.replaced() {
+            Some(claim) =>
+                say!(self; "the numbers are left out: the certificate has taken the place of {}\n", claim),
+            None => say!(self; LEFT_OUT),
+        }
+    }
+
+    /// The claim, if the run has read it, and then written the certificate to its file.
+    fn replaced(&self) -> Option<TextFile<'a>> {
+        let claim = self.page.texts.claim().ok()?;
+        let kind = self.page.texts.certificate().ok()?.kind;
+        let is_read = self.page.texts.emptied().is_empty();
+        match self.page.find(TextFile { kind, ..claim }, Wanted::Problem) {
+            Ok(Some(_)) if is_read => Some(claim),
+            _ => None,
         }
     }
 
@@ -60,29 +77,17 @@ impl<'a, A: Reopen> Explanation<'a, A> {
     }
 
     fn maximum<R: Source>(&mut self, certificate: &mut R) -> OrStop<'a, Verdict> {
-        let cut = self.set(certificate)?;
-        self.show_maximum(&self.max_instance()?, &cut)
-    }
-
-    fn show_maximum<N: Network>(&mut self, max: &MaxInstance<N>, cut: &Cut) -> OrStop<'a, Verdict> {
-        let verdict = judged(judge_max(self.page.alloc, max, &self.solution()?, cut))?;
-        self.explain_maximum(max.network(), cut);
+        let (cut, max) = (self.set(certificate)?, self.max_instance()?);
+        let verdict = judged(judge_max(self.page.alloc, &max, &self.solution()?, &cut))?;
+        self.explain_maximum(max.network(), &cut);
         Ok(verdict)
     }
 
     fn least<R: Source>(&mut self, certificate: &mut R) -> OrStop<'a, Verdict> {
-        let potentials = self.potentials(certificate)?;
-        self.show_least(&self.min_instance()?, &potentials)
-    }
-
-    fn show_least<N: Network>(
-        &mut self,
-        min: &MinInstance<N>,
-        potentials: &Potentials,
-    ) -> OrStop<'a, Verdict> {
-        let (verdict, flow) = self.judged_flow(min, potentials)?;
+        let (potentials, min) = (self.potentials(certificate)?, self.min_instance()?);
+        let (verdict, flow) = self.judged_flow(&min, &potentials)?;
         self.write_cost(min.network(), &flow);
-        self.explain_least(min, potentials);
+        self.explain_least(&min, &potentials);
         Ok(verdict)
     }
 
@@ -105,17 +110,9 @@ impl<'a, A: Reopen> Explanation<'a, A> {
     }
 
     fn infeasible<R: Source>(&mut self, certificate: &mut R) -> OrStop<'a, Verdict> {
-        let set = self.set(certificate)?;
-        self.show_infeasible(&self.min_instance()?, &set)
-    }
-
-    fn show_infeasible<N: Network>(
-        &mut self,
-        min: &MinInstance<N>,
-        set: &Cut,
-    ) -> OrStop<'a, Verdict> {
-        let verdict = judged(judge_infeasible(min, set))?;
-        self.explain_infeasible(min, set);
+        let (set, min) = (self.set(certificate)?, self.min_instance()?);
+        let verdict = judged(judge_infeasible(&min, &set))?;
+        self.explain_infeasible(&min, &set);
         Ok(verdict)
     }
 

@@ -1,15 +1,15 @@
 //! Reads a text up to its fault.
 
-use crate::forms::{field_name, form_of};
+use crate::forms::{field_name, form_of, kind_words};
 use crate::lookups::{Wanted, declared, labelled_node, node_of};
-use crate::oddities::{has_lone_return, oddity, other_kind};
+use crate::oddities::{has_lone_return, kind_of, oddity, unread_kind};
 use crate::page::{OrStop, Page, Reopen};
-use crate::quote::{escape, field_at, quote};
+use crate::quote::{escape, quote, text_at};
 use crate::say;
 use crate::sentence::Prose;
 use crate::texts::TextFile;
 use dimacs_lines::{MAX_LINES, Memory, fields};
-use dimacs_records::{At, Reason, Record};
+use dimacs_records::{At, Reason, Record, TextKind};
 use std::alloc::Global;
 
 /// A longer word is cut to this many bytes.
@@ -19,6 +19,7 @@ const LONG_WORD: usize = 60;
 #[derive(Clone, Copy, Default)]
 pub(crate) struct Before {
     lines: u64,
+    has_record: bool,
     /// How many arcs, queries, nodes of a set, potentials or blocks there are.
     pub(crate) counted: u64,
     /// The last block: its line, source, RADIUS, and how many labels it declares and has.
@@ -31,6 +32,7 @@ pub(crate) struct Before {
 
 impl Before {
     fn add(&mut self, line: u64, record: Record) {
+        self.has_record = true;
         match record {
             Record::LabelsBlock {
                 source,
@@ -74,9 +76,10 @@ pub(crate) struct FaultLine<'a> {
     pub(crate) fields: u64,
     /// None if the line by itself has a fault.
     pub(crate) record: Option<Record>,
-    /// What a file is that is no text, and what a text of another kind is.
+    /// What a file is that is no text, and what a text of another kind is, with the kind if it is one here.
     pub(crate) odd: Option<&'static str>,
     pub(crate) other: Option<&'static str>,
+    pub(crate) found: Option<TextKind>,
     pub(crate) lone_return: bool,
 }
 
@@ -95,13 +98,17 @@ impl<'a> FaultLine<'a> {
             record: None,
             odd: None,
             other: None,
+            found: None,
             lone_return: false,
         }
     }
 
     /// Takes the line of the fault.
     fn see(&mut self, alloc: Global, line: &[u8], field: u32) -> Result<(), Memory> {
-        self.other = other_kind(self.text.kind, line);
+        if !self.before.has_record {
+            self.found = kind_of(line).filter(|kind| *kind != self.text.kind);
+            self.other = self.found.map(kind_words).or(unread_kind(line));
+        }
         self.form = form_of(self.text.kind, text_at(line, 1)).unwrap_or("p");
         self.name = field_name(self.form, field);
         self.fields = count_fields(line);
@@ -143,10 +150,6 @@ impl<'a> FaultLine<'a> {
             None => node_of(record).map(Wanted::Node),
         }
     }
-}
-
-fn text_at(line: &[u8], field: u32) -> &[u8] {
-    field_at(line, field).map_or(&[], |field| field.text)
 }
 
 pub(crate) fn count_fields(line: &[u8]) -> u64 {

@@ -2,11 +2,12 @@
 
 use crate::fault_line::{FaultLine, count_fields};
 use crate::forms::{form_of, forms, kind_words, range_of};
-use crate::lookups::{Wanted, declared};
+use crate::lookups::{Wanted, declared, labelled_node};
 use crate::numbers::{is_no_distance, meant_number};
 use crate::page::{OrStop, Page, Reopen, Said, Stop};
 use crate::say;
-use crate::sentence::ending;
+use crate::sentence::Value::Node;
+use crate::sentence::{Value, ending};
 use crate::texts::TextFile;
 use dimacs_lines::{MAX_LINE, MAX_LINES};
 use dimacs_records::{At, Declared, End, Reason, Record, TextKind};
@@ -44,21 +45,44 @@ impl<'a, A: Reopen> Page<'a, A> {
         if fault.lone_return {
             say!(self; "lines end by a carriage return alone: end them by a line feed\n");
         }
-        if let Some(other) = fault.other {
-            self.write_other_kind(text.kind, other, reason);
+        match (reason, fault.other) {
+            (
+                Reason::UnknownLine | Reason::FieldCount | Reason::BadWord | Reason::ProblemMissing,
+                Some(other),
+            ) if self.write_other_kind(&fault, other) => Ok(()),
+            _ => self.write_reason(&fault),
         }
-        self.write_reason(&fault)
     }
 
-    /// Names the kind of a text that isn't of the kind that is wanted.
-    fn write_other_kind(&mut self, kind: TextKind, other: &str, reason: Reason) {
-        let wanted = kind_words(kind);
-        let is_one = wanted.starts_with("a ");
-        let verb = if is_one { "is" } else { "are" };
-        match reason {
-            Reason::UnknownLine | Reason::FieldCount | Reason::BadWord | Reason::ProblemMissing =>
-                say!(self; "the p line is that of {}, and {} {} wanted\n", other, wanted, verb),
-            _ => (),
+    /// Names the kind of a text that isn't of the kind that is wanted. Returns whether its file is exchanged with another.
+    fn write_other_kind(&mut self, fault: &FaultLine<'a>, other: &str) -> bool {
+        let (text, wanted) = (fault.text, kind_words(fault.text.kind));
+        let verb = if wanted.starts_with("a ") {
+            "is"
+        } else {
+            "are"
+        };
+        say!(self; "the line is that of {}, and {} {} wanted\n", other, wanted, verb);
+        if text.kind == TextKind::Distances && fault.found == Some(TextKind::Labels) {
+            say!(self; "to judge labels, run dimacs judge-paths GRAPH QUERY LABELS\n");
+        }
+        let Some(file) = self.exchanged(text, fault.found) else {
+            return false;
+        };
+        say!(self; "the files {} and {} are exchanged\n", text, Value::File(file));
+        true
+    }
+
+    /// The file in whose place a text of this kind belongs, if that has one of the kind that is wanted here.
+    fn exchanged(&self, text: TextFile<'a>, kind: Option<TextKind>) -> Option<&'a str> {
+        let file = self.texts.of_kind(kind?).ok()?.file;
+        let first = match text.kind {
+            TextKind::Solution => Wanted::Value,
+            _ => Wanted::Problem,
+        };
+        match self.find(TextFile { file, ..text }, first) {
+            Ok(Some(_)) if file != text.file => Some(file),
+            _ => None,
         }
     }
 
@@ -93,7 +117,10 @@ impl<'a, A: Reopen> Page<'a, A> {
 
     /// Names the earlier line if one stands twice.
     fn write_twice(&mut self, fault: &FaultLine<'a>) -> Said<'a> {
-        if let Some((wanted, common)) = fault.twice()
+        let source = fault.before.source;
+        if fault.record.and_then(labelled_node) == Some(source) {
+            say!(self; "node {} is the source of the block: it has the distance 0, and no d line\n", Node(source));
+        } else if let Some((wanted, common)) = fault.twice()
             && let Some(earlier) = self.line_before(fault, wanted)?
         {
             say!(self; "line {} {} already\n", earlier, common);
@@ -130,7 +157,7 @@ impl<'a, A: Reopen> Page<'a, A> {
 
     fn write_node_range(&mut self, fault: &FaultLine<'a>) -> Said<'a> {
         let (line, declared) = self.problem(fault.text)?;
-        let (node, nodes) = (fault.word.as_str(), declared.nodes.unwrap_or(0));
+        let (node, nodes) = (fault.word.as_str(), u64::from(declared.nodes.unwrap_or(0)));
         say!(self; "node {} is above the {} nodes that line {} declares\n", node, nodes, line);
         Ok(())
     }
@@ -150,7 +177,14 @@ impl<'a, A: Reopen> Page<'a, A> {
 
     fn write_bad_number(&mut self, word: &str, name: &str) -> Said<'a> {
         say!(self; "{} is a whole number, digits with a sign or without, and not `{}`\n", name, word);
-        if name == "DIST" && is_no_distance(word) {
+        if name == "VALUE" && word == "infeasible" {
+            let instance = match self.texts.instance() {
+                Ok(text) if text.kind == TextKind::Min => text.file,
+                _ => "INSTANCE",
+            };
+            say!(self; "a solution is a flow; to find out whether none is feasible, run dimacs certify-infeasible {}\n",
+                Value::File(instance));
+        } else if name == "DIST" && is_no_distance(word) {
             say!(self; "a node that no walk reaches has no line: leave it out\n");
         } else if let Some(number) = meant_number(self.alloc, word)? {
             say!(self; "write {}\n", number.as_str());
@@ -189,16 +223,16 @@ impl<'a, A: Reopen> Page<'a, A> {
         let before = fault.before;
         if fault.is_in_block() {
             say!(self; "the block of line {}, from source {}, declares {} d lines, and has {} before this place\n",
-                before.block_line, before.source, before.labels, before.labelled);
+                before.block_line, Node(before.source), u64::from(before.labels), before.labelled);
             return Ok(());
         }
         let (line, Declared { count, .. }) = self.problem(fault.text)?;
         let (lines, had) = (counted_lines(fault.text.kind), before.counted);
         if fault.reason == Reason::TooFew {
-            say!(self; "{} {}{} of the {} that line {} declares\n", had, lines, ending(had), count, line);
+            say!(self; "{} {}{} of the {} that line {} declares\n", had, lines, ending(had), u64::from(count), line);
         } else {
             say!(self; "line {} declares {} {}{}, and this is one more\n",
-                line, count, lines, ending(u64::from(count)));
+                line, u64::from(count), lines, ending(u64::from(count)));
         }
         Ok(())
     }
@@ -208,8 +242,7 @@ impl<'a, A: Reopen> Page<'a, A> {
             return;
         };
         if fault.reason == Reason::PredUnknown {
-            say!(self; "PRED, {}, is neither the source of the block nor the ID of a d line before this one: ", pred);
-            say!(self; "order the d lines so that each stands after that of its PRED\n");
+            say!(self; "PRED, {}, is neither the source of the block nor the ID of a d line before this one\n", Node(pred));
         } else {
             let radius = fault.before.radius.unwrap_or(0);
             say!(self; "DIST is {}, above the RADIUS of the block, {}\n", dist, radius);

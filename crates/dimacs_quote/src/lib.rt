@@ -5,6 +5,7 @@
 mod fault_line;
 mod faults;
 mod forms;
+mod items;
 mod lines;
 mod lookups;
 mod numbers;
@@ -15,8 +16,9 @@ mod sentence;
 mod texts;
 
 pub use forms::range_of;
+pub use items::entry_arc;
 pub use lines::TextLines;
 pub use lookups::{Wanted, entry_between};
 pub use page::{FoundLine, OrStop, Page, Reopen, Said, Stop};
 pub use sentence::{Prose, Value, ending};
-pub use texts::{Purpose, TextFile, Texts};
+pub use texts::{Purpose, TextFile, Texts, is_file};

@@ -19,8 +19,8 @@ pub enum Wanted {
     End(End),
     /// The arc with this number, from 1.
     Arc(u32),
-    /// The entry with these ends after as many earlier ones.
-    Entry { tail: u32, head: u32, earlier: u64 },
+    /// The entry with this tail and head, after as many earlier ones.
+    Entry(u32, u32, u64),
     /// A query from this node.
     Query(u32),
     /// A query that names this node.
@@ -41,7 +41,7 @@ impl Wanted {
                 record,
                 Record::MaxArc { .. } | Record::MinArc { .. } | Record::GraphArc { .. }
             ),
-            Wanted::Entry { tail, head, .. } => entry_between(record, tail, head).is_some(),
+            Wanted::Entry(tail, head, _) => entry_between(record, tail, head).is_some(),
             Wanted::Query(node) => query_from(record) == Some(node),
             Wanted::QueryNaming(node) => {
                 query_from(record) == Some(node)
@@ -54,16 +54,16 @@ impl Wanted {
     pub(crate) fn earlier(self) -> u64 {
         match self {
             Wanted::Arc(number) => u64::from(number).saturating_sub(1),
-            Wanted::Entry { earlier, .. } => earlier,
+            Wanted::Entry(_, _, earlier) => earlier,
             _ => 0,
         }
     }
 
-    /// The field that is marked.
-    pub(crate) fn field(self) -> u32 {
+    /// Its line, with the field that is marked.
+    pub(crate) fn at(self, line: u64) -> At {
         match self {
-            Wanted::Line(at) => at.field,
-            _ => 0,
+            Wanted::Line(at) => at,
+            _ => At { line, field: 0 },
         }
     }
 }

@@ -1,7 +1,6 @@
 //! Recognises files that are no texts, or texts of another kind.
 
-use crate::forms::kind_words;
-use crate::quote::field_at;
+use crate::quote::text_at;
 use dimacs_records::TextKind;
 
 /// What a file is whose first line shows that it isn't a plain text, and what to do about it.
@@ -34,41 +33,28 @@ pub(crate) fn has_lone_return(line: &[u8]) -> bool {
     }
 }
 
-/// What the problem line of a text of another kind is for.
-pub(crate) fn other_kind(kind: TextKind, line: &[u8]) -> Option<&'static str> {
-    if field_at(line, 1)?.text != b"p".as_slice() {
-        return None;
-    }
-    let word = field_at(line, 2)?.text;
-    match kind_of(word) {
-        None => unread_kind(word),
-        Some(found) if found == kind => None,
-        Some(TextKind::Queries) if !matches!(field_at(line, 4)?.text, b"ss" | b"p2p") => None,
-        Some(found) => Some(kind_words(found)),
-    }
-}
-
-/// The kind whose problem line has this word.
-fn kind_of(word: &[u8]) -> Option<TextKind> {
-    match word {
-        b"max" => Some(TextKind::Max),
-        b"min" => Some(TextKind::Min),
-        b"sp" => Some(TextKind::Graph),
-        b"aux" => Some(TextKind::Queries),
-        b"cut" => Some(TextKind::Cut),
-        b"pot" => Some(TextKind::Potentials),
-        b"dist" => Some(TextKind::Labels),
-        b"distances" => Some(TextKind::Distances),
+/// The kind of a text that begins with this line, if it shows.
+pub(crate) fn kind_of(line: &[u8]) -> Option<TextKind> {
+    match (text_at(line, 1), text_at(line, 2)) {
+        (b"s" | b"f", _) => Some(TextKind::Solution),
+        (b"p", b"max") => Some(TextKind::Max),
+        (b"p", b"min") => Some(TextKind::Min),
+        (b"p", b"sp") => Some(TextKind::Graph),
+        (b"p", b"aux") if matches!(text_at(line, 4), b"ss" | b"p2p") => Some(TextKind::Queries),
+        (b"p", b"cut") => Some(TextKind::Cut),
+        (b"p", b"pot") => Some(TextKind::Potentials),
+        (b"p", b"dist") => Some(TextKind::Labels),
+        (b"p", b"distances") => Some(TextKind::Distances),
         _ => None,
     }
 }
 
-/// What another text is whose problem line has this word.
-fn unread_kind(word: &[u8]) -> Option<&'static str> {
-    match word {
-        b"edge" | b"col" => Some("a graph to be coloured, which is no kind of text here"),
-        b"cnf" => Some("a formula (cnf), which is no kind of text here"),
-        b"asn" => Some("an assignment problem, which is no kind of text here"),
+/// What a text that begins with this line is, if it is of no kind here.
+pub(crate) fn unread_kind(line: &[u8]) -> Option<&'static str> {
+    match (text_at(line, 1), text_at(line, 2)) {
+        (b"p", b"edge" | b"col") => Some("a graph to be coloured, which is no kind of text here"),
+        (b"p", b"cnf") => Some("a formula (cnf), which is no kind of text here"),
+        (b"p", b"asn") => Some("an assignment problem, which is no kind of text here"),
         _ => None,
     }
 }

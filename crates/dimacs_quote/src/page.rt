@@ -1,5 +1,6 @@
 //! The page on which an explanation is written, and the texts that it is about.
 
+use crate::items::{entry_arc, item};
 use crate::lines::TextLines;
 use crate::lookups::Wanted;
 use crate::quote::quote;
@@ -7,7 +8,7 @@ use crate::say;
 use crate::sentence::{Prose, Value};
 use crate::texts::{TextFile, Texts};
 use dimacs_lines::{MAX_LINES, Memory, Source};
-use dimacs_records::{At, Record};
+use dimacs_records::Record;
 use std::alloc::Global;
 
 /// Opens files once more. What reads them by this can't create, empty or write one.
@@ -76,9 +77,12 @@ impl<'a, A: Reopen> Page<'a, A> {
         }
     }
 
-    /// What was written.
+    /// What was written; with marks if it is about arrays.
     pub fn finish(self) -> Result<String, Memory> {
-        self.out.finish()
+        match self.texts.are_arrays() {
+            true => self.out.finish(),
+            false => self.out.plain(self.alloc),
+        }
     }
 
     /// Writes a sentence, with the next value for each `{}`.
@@ -113,8 +117,11 @@ impl<'a, A: Reopen> Page<'a, A> {
                 continue;
             };
             if earlier == 0 {
-                let field = wanted.field();
-                let quote = quote(self.alloc, text.file, At { line, field }, lines.bytes());
+                let quote = match wanted {
+                    Wanted::Arc(arc) if text.is_of_arrays() => item(self.alloc, arc, record),
+                    _ if text.is_of_arrays() => item(self.alloc, entry_arc(line), record),
+                    _ => quote(self.alloc, text.file, wanted.at(line), lines.bytes()),
+                };
                 return Ok(Some(FoundLine {
                     line,
                     record,
@@ -126,7 +133,7 @@ impl<'a, A: Reopen> Page<'a, A> {
         Ok(None)
     }
 
-    /// Quotes the line of a text that is wanted, and returns its record; none if there is none.
+    /// Quotes the line of a text that is wanted, or says what it stands for, and returns its record; none if there is none.
     pub fn quote(&mut self, text: TextFile<'a>, wanted: Wanted) -> OrStop<'a, Option<Record>> {
         let Some(found) = self.find(text, wanted)? else {
             return Ok(None);

@@ -37,9 +37,14 @@ pub(crate) fn quote(alloc: Global, file: &str, at: At, bytes: &[u8]) -> Prose {
 }
 
 /// A field of a line, from 1.
-pub(crate) fn field_at(line: &[u8], field: u32) -> Option<Field<'_>> {
+fn field_at(line: &[u8], field: u32) -> Option<Field<'_>> {
     let place = usize::try_from(field.checked_sub(1)?).ok()?;
     fields(line).nth(place)
+}
+
+/// The bytes of a field of a line, from 1; none if it has fewer.
+pub(crate) fn text_at(line: &[u8], field: u32) -> &[u8] {
+    field_at(line, field).map_or(&[], |field| field.text)
 }
 
 fn repeat(out: &mut Prose, what: &str, times: usize) {

@@ -13,6 +13,13 @@ macro_rules! say {
     };
 }
 
+/// The marks before an arc, a node and a capacity, for programs that read a sentence. No quote has such characters.
+const ARC: char = '\u{1}';
+
+const NODE: char = '\u{2}';
+
+const CAP: char = '\u{3}';
+
 /// What a sentence names.
 #[derive(Clone, Copy)]
 pub enum Value<'a> {
@@ -20,10 +27,16 @@ pub enum Value<'a> {
     Word(&'a str),
     /// The name of a file.
     File(&'a str),
-    /// A number.
+    /// The number of an arc.
+    Arc(u32),
+    /// The ID of a node.
+    Node(u32),
+    /// The capacity of an arc.
+    Cap(i64),
+    /// Another number.
     Number(i128),
-    /// The size of a number.
-    Size(u128),
+    /// A number in a sum, after its sign between blanks.
+    Term(i128),
     /// A number after an operator: in brackets if it is negative.
     Operand(i128),
 }
@@ -37,12 +50,6 @@ impl<'a> From<&'a str> for Value<'a> {
 impl<'a> From<TextFile<'a>> for Value<'a> {
     fn from(text: TextFile<'a>) -> Value<'a> {
         Value::File(text.file)
-    }
-}
-
-impl<'a> From<u32> for Value<'a> {
-    fn from(number: u32) -> Value<'a> {
-        Value::Number(i128::from(number))
     }
 }
 
@@ -101,8 +108,12 @@ impl Prose {
         let out = &mut self.text;
         let written = match value {
             Value::Word(word) => out.push_str(word),
-            Value::File(name) => return escape(self, name.as_bytes()),
-            Value::Size(size) => write!(out, "{size}"),
+            Value::File(name) => return escape(self, name.trim_start_matches('\0').as_bytes()),
+            Value::Arc(number) => write!(out, "{ARC}{number}"),
+            Value::Node(id) => write!(out, "{NODE}{id}"),
+            Value::Cap(cap) => write!(out, "{CAP}{cap}"),
+            Value::Term(number) if number < 0 => write!(out, " - {}", number.unsigned_abs()),
+            Value::Term(number) => write!(out, " + {number}"),
             Value::Operand(number) if number < 0 => write!(out, "({number})"),
             Value::Number(number) | Value::Operand(number) => write!(out, "{number}"),
         };
@@ -120,12 +131,21 @@ impl Prose {
         self.text.is_empty()
     }
 
-    /// The text, unless it is lost.
-    pub fn finish(self) -> Result<String, Memory> {
+    /// The text with its marks, unless it is lost.
+    pub(crate) fn finish(self) -> Result<String, Memory> {
         if self.is_lost {
             return Err(Memory);
         }
         Ok(self.text)
+    }
+
+    /// The text without them.
+    pub(crate) fn plain(self, alloc: Global) -> Result<String, Memory> {
+        let mut plain = String::new(alloc);
+        for piece in self.finish()?.split([ARC, NODE, CAP]) {
+            plain.push_str(piece)?;
+        }
+        Ok(plain)
     }
 }
 

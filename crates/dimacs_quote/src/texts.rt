@@ -17,6 +17,17 @@ impl<'a> TextFile<'a> {
     pub fn unread(self) -> Stop<'a> {
         Stop::Unread(self.file)
     }
+
+    /// Whether it stands for arrays of a caller.
+    pub fn is_of_arrays(self) -> bool {
+        self.file.starts_with("\0\0")
+    }
+}
+
+/// Whether a name is that of a file. The name of a text in memory begins with a character that no file's name has, and if
+/// the text stands for arrays, with two.
+pub fn is_file(name: &str) -> bool {
+    !name.starts_with('\0')
 }
 
 /// What a run does with the files that it writes, or the flow that it reads.
@@ -123,9 +134,16 @@ impl<'a> Texts<'a> {
     /// The files that the run empties before it reads the others.
     pub fn emptied(&self) -> &'a [String] {
         match self.purpose {
-            Purpose::Solve => self.files_written(),
+            Purpose::Solve if self.files_written().iter().all(|name| is_file(name)) => {
+                self.files_written()
+            }
             _ => &[],
         }
+    }
+
+    /// Whether they stand for arrays of a caller.
+    pub fn are_arrays(&self) -> bool {
+        self.instance().is_ok_and(|text| text.is_of_arrays())
     }
 
     /// Whether the run deals a flow out to parallel arcs.
