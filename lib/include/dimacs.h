@@ -142,7 +142,11 @@ uint32_t dimacs_show(uint32_t kind, const uint8_t *text, size_t length, uint8_t 
  * writes to a file is dropped. The lines after a yes read the texts of a claim and of a certificate that it writes: give
  * what it wrote, or name no file for a certifier, which then certifies twice. Returns what the command would, or
  * DIMACS_MISUSED if the words aren't a command with its files, as `explain`, `help` and `--version` aren't. If memory
- * runs out after the command's own lines, some or all of the lines after them are missing. */
+ * runs out after the command's own lines, some or all of the lines after them are missing.
+ *
+ * If each name begins with a byte 0, no line says what a run does with files. If with two, the texts stand for arrays too:
+ * no line quotes one, the flow on line K + 1 is that of arc K, and the number of an arc follows a byte 1, the ID of a
+ * node a byte 2, a capacity a byte 3. */
 uint32_t dimacs_explain(const uint8_t *command, size_t command_length, const uint8_t *first, size_t first_length,
                         const uint8_t *second, size_t second_length, const uint8_t *third, size_t third_length,
                         uint8_t *out, size_t room, size_t *needed);

@@ -32,11 +32,14 @@ export function kept(answer, ...asked) {
     return answer;
 }
 
+/** Begins the name of a text that is in no file; twice, of one that stands for arrays. */
+const NO_FILE = "\0";
+
 /** The command as it is typed. A certifier with no third text names none, and shows what it found by another name. */
-function commandOf(command, count, shown) {
+function commandOf(command, count, shown, front) {
     const [verb, kind] = command.split(" ");
     if (kind) return `${command} ${SINGLE[kind] ?? "instance"}`;
-    const names = namesOf(verb).map((name) => (name === "certificate" ? shown : name));
+    const names = namesOf(verb).map((name) => front + (name === "certificate" ? shown : name));
     return [verb, ...(verb.startsWith("certify") ? names.slice(0, count) : names)].join(" ");
 }
 
@@ -48,31 +51,18 @@ export function explanationOf(answer) {
 }
 
 /** The lines for a command over texts; `shown` names the last one, if it isn't the certificate. */
-export function explanation(command, given, shown) {
-    const words = bytesOf(commandOf(command, given.length, shown));
+export function explanation(command, given, shown, front = NO_FILE) {
+    const words = bytesOf(commandOf(command, given.length, shown, front));
     const {handed: [lines]} = texts.explain(words, given.map(bytesOf));
-    // Nothing was written here: a run of the command empties its files, and writes a flow to one.
-    const told = inFormOf("", lines).replace(/^.* is empty: a solve run creates.*\n/gm, "");
-    return told.replace(/: it goes to (\w+)$/gm, ": it is in `$1`");
+    return inFormOf("", lines);
 }
 
 // ---- arrays
 
-/** The arrays of an arc's line, by the form of the instance, and the names of their numbers in lines that explain. */
-const COLUMNS = {max: ["caps"], min: ["lows", "caps", "costs"], graph: ["weights"]};
-const NAMED = {caps: "CAP", lows: "LOW", costs: "COST", weights: "WEIGHT"};
 const CHANGED = "the arrays hold other numbers now, and these are refused: the answer isn't theirs\n";
 
-/** What sentences say of a text, and what they say of arrays: a flow is in the field of the refusal that has it. */
-const RETOLD = [
-    [/ \(line \d+\)/, ""],
-    [/\bthe (cut|set) in \w+ /, "the $1 "],
-    [/^this flow is feasible,/, "the flow in `better` is feasible,"],
-    [/ feasible flow, (which|whose) cost.*$/, " feasible flow: it is in `flow`"],
-    [/ better one, whose cost.*$/, " better one: it is in `better`"],
-    [/: to find out, run dimacs certify-.*$/, ": to find out, certify it"],
-];
-const ofArrays = (line) => RETOLD.reduce((told, [words, mine]) => told.replace(words, mine), line);
+/** The marks in lines about arrays, before some numbers. */
+const MARKS = /[\x01-\x03]/g;
 
 /** The text that the library writes of arrays, or null if it refuses them. */
 function written(name, ...words) {
@@ -99,10 +89,17 @@ export class AskedOfArrays {
         const [verb, kind] = command.split("-"), count = command === "certify-infeasible" ? 1 : VERBS[verb][0];
         const made = namesOf(command).slice(0, count).map((name) => this.#text(kind, name));
         if (this.arrays.better) made.push(this.#solution(this.arrays.better));
-        const [first, ...more] = made.includes(null) ? ["x"] : explanation(command, made, "better").split("\n");
+        const [first, ...more] = made.includes(null) ? ["x"] : explanation(command, made, "better", NO_FILE + NO_FILE).split("\n");
         if (!printed && first.startsWith("x ")) return CHANGED;
-        if (printed && !isSame(first, printed)) return `${printed}\n${said}\n`;
-        return [printed ?? first, ...more.flatMap((line) => this.#retold(line))].join("\n");
+        if (printed && !isSame(first, printed)) return `${printed}\n${this.#own(printed) ?? said}\n`;
+        return [printed ?? first, ...more].join("\n").replace(MARKS, "");
+    }
+
+    /** What explains a refusal that no text has, if it isn't what the error says. */
+    #own(printed) {
+        const {source} = this.numbers;
+        if (printed !== `x node ${source} NotShortest`) return null;
+        return `node ${source} is the source: its distance has to be 0, and is ${this.arrays.distances[source - 1]}`;
     }
 
     #text(kind, name) {
@@ -126,36 +123,6 @@ export class AskedOfArrays {
     #solution(flows) {
         const {tails, heads} = this.arrays, text = written("solution", 0n, this.numbers.nodes, tails, heads, flows);
         return text && `s ${this.valueOf(flows)}${text.slice(text.indexOf("\n"))}`;
-    }
-
-    /** How many lines come before those of arcs. */
-    get #before() {
-        return {max: 3, graph: 1}[this.form] ?? 1 + this.arrays.supplies.filter((it) => it !== 0n).length;
-    }
-
-    /** A line without the texts, which the caller never saw: none, or one. */
-    #retold(line) {
-        const found = /^( *)\w+:(\d+): (.*)$/.exec(line);
-        if (found) {
-            const words = this.#record(Number(found[2]), found[3].split(" "));
-            return words ? [found[1] + words] : [];
-        }
-        return /^ +\^+$/.test(line) || line.includes("dimacs spread-") ? [] : [ofArrays(line)];
-    }
-
-    #record(line, [letter, one, two, ...numbers]) {
-        const columns = COLUMNS[this.form].map((name, i) => `${NAMED[name]} ${numbers[i]}`);
-        const ends = {s: "the source", t: "the sink"};
-        switch (letter) {
-            case "a": return `arc ${line - this.#before}: ${one} -> ${two}, ${columns.join(", ")}`;
-            case "f": return `arc ${line - 1}: ${one} -> ${two}, FLOW ${numbers[0]}`;
-            case "n": return `node ${one}: ${ends[two] ?? `SUPPLY ${two}`}`;
-            case "y": return `node ${one}: potential ${two}`;
-            case "u": return `node ${one}: inside`;
-            case "d": return `node ${one}: distance ${[two, ...numbers].join(", predecessor ")}`;
-            case "the": return ["the", one, two, ...numbers].join(" ");
-            default: return "";
-        }
     }
 }
 

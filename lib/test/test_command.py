@@ -131,7 +131,7 @@ class Command(unittest.TestCase):
                 self.same("explain", *line.split())
         for words in NAMED:
             self.same("explain", *words)
-        for words, own in [*((it[1], it[2]) for it in explain.CASES), *((it[0], it[1]) for it in explain.YES)]:
+        for _, words, own, _ in explain.CASES + explain.YES + explain.OTHERS:
             self.same("explain", *words.split(), texts={**explain.TEXTS, **own})
 
     def test_a_stream_that_is_named_twice(self):

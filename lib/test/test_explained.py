@@ -9,8 +9,9 @@ from decimal import Decimal
 from pathlib import Path
 
 import dimacs
+import explain  # tests/explain.py
+import explained_yes
 import test_arrays
-from explain import YES  # tests/explain.py
 from test_arrays import DISTANCES, ENDS, GRAPH, POTENTIALS, PREDECESSORS
 from test_networkx import pipes
 from test_texts import CLAIMED, CUT, FLOW, LEAST, MAX, MIN, PAIRS, POT, SOURCE, SURPLUS
@@ -21,8 +22,8 @@ PIPES, SHIPS = test_arrays.MAX, test_arrays.MIN
 
 EXAMPLES = Path(__file__).resolve().parents[2] / "examples"
 
-# What tests/explain.py has worked out of the maximum flow of test_texts.py.
-MAXIMUM = "v max 6\n" + YES[0][2]
+# What the second reader of tests/explain.py writes of the maximum flow of test_texts.py.
+MAXIMUM = "v max 6\n" + explained_yes.lines("judge-max I S C", explain.TEXTS.get)
 
 # The same for the pipes of docs/JUDGING.md.
 OF_PIPES = """\
@@ -151,13 +152,31 @@ class Arrays(Explained):
         self.assertEqual(negative[:2], ["x arc 1 NegativeWeight", "arc 1: 1 -> 2, WEIGHT -4"])
 
     def test_what_no_text_says(self):
-        """The source's distance isn't in a text: what the exception says is left."""
+        """The source's distance isn't in a text."""
+        source = "x node 1 NotShortest\nnode 1 is the source: its distance has to be 0, and is 1\n"
         lines = self.refused(dimacs.judge_paths_arrays, *GRAPH, 1, [1, 5, *DISTANCES[2:]], PREDECESSORS)
-        self.assertEqual(lines, "x node 1 NotShortest\nnode 1 NotShortest: the source is at 1\n")
+        self.assertEqual(lines, source)
         if networkx:
             graph = networkx.path_graph("ab", networkx.DiGraph)
             lines = self.refused(dimacs.certify_networkx_paths, graph, "a", {"a": 2, "b": 3})
-            self.assertEqual(lines, "x node 1 NotShortest\nnode 'a' NotShortest: the source is at 2\n")
+            self.assertEqual(lines, source.replace("is 1", "is 2") + "nodes by number: 1 is 'a'\n")
+
+    def test_words_of_arrays(self):
+        """No line speaks of lines, orders or bounds that arrays don't have."""
+        inf, most = float("inf"), 2**63 - 1
+        wide = self.refused(dimacs.judge_max_arrays, 2, 1, 2, [1, 1], [2, 2], [1, inf], [3, -most], [True, False])
+        self.assertEqual(wide, "x arc 1 AboveCap\narc 1: 1 -> 2, CAP 1\narc 1: 1 -> 2, FLOW 3\narc 1 carries 3, more than its CAP, 1\n")
+        far = 4, [1, 2, 3], [2, 3, 4], [5, 4, 0], 1
+        late = self.refused(dimacs.judge_paths_arrays, *far, [0, 5, 10, 10], [0, 1, 2, 3])
+        self.assertEqual(late.splitlines()[:2], ["x node 3 NoTightArc", "node 3: distance 10, predecessor 2"])
+        late = self.refused(dimacs.certify_paths_arrays, *far, [0, 5, 10, 10]).splitlines()
+        self.assertEqual(late[1:3], ["arc 2: 2 -> 3, WEIGHT 4", "node 3: distance 10"])
+        self.assertRegex(late[3], "^arc 2 leads from .*: node 3 is at distance 9 at most, and its distance is 10$")
+        escaped = self.refused(dimacs.certify_paths_arrays, *far, [0, 5, inf, inf]).splitlines()
+        self.assertEqual(escaped[2], "node 2: distance 5")
+        self.assertTrue(escaped[3].endswith(", and has no distance"), escaped)
+        alone = self.refused(dimacs.certify_paths_arrays, 2, [], [], [], 1, [0, 3]).splitlines()
+        self.assertEqual(alone[-1], "if no walk leads to node 2, it has no distance")
 
     def test_units_and_bases(self):
         tens = [Decimal(it) / 10 for it in PIPES[-1]]
@@ -230,6 +249,14 @@ class Graphs(Explained):
         nodes = "nodes by number: 1 is 'spring', 2 is 'mill', 3 is 'farm', 4 is 'fort'"
         arcs = "arcs by number: 1 is ('spring', 'mill'), 3 is ('mill', 'farm'), 4 is ('mill', 'fort')"
         self.assertEqual(lines[-2:], [nodes, arcs])
+
+    def test_amounts_are_no_nodes(self):
+        """Of 7 units, 4 + 2 can leave node 1; node 4 is in no line."""
+        graph = networkx.DiGraph()
+        graph.add_nodes_from([("a", {"demand": -7}), "b", "c", ("d", {"demand": 7})])
+        graph.add_weighted_edges_from([("a", "b", 4), ("a", "c", 2), ("b", "d", 9), ("c", "d", 9)], "capacity")
+        *_, nodes, _ = dimacs.certify_networkx_infeasible(graph).explain().splitlines()
+        self.assertEqual(nodes, "nodes by number: 1 is 'a', 2 is 'b', 3 is 'c'")
 
 
 @unittest.skipUnless(pandas, "pandas isn't there")

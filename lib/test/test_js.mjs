@@ -294,23 +294,28 @@ const CASES = {
         assert.match(negative.explain(), /^x arc 2 NegativeWeight\narc 2: 2 -> 3, WEIGHT -4\n/);
         // A text can't say that the source is at 1.
         const late = thrown(() => dimacs.judgePathsArrays(IN_GRAPH, 1, [1, 5, 9, Infinity], [0, 1, 2, 0]));
-        assert.equal(late.explain(), "x node 1 NotShortest\nnode 1 NotShortest: the source is at 1\n");
+        assert.equal(late.explain(), "x node 1 NotShortest\nnode 1 is the source: its distance has to be 0, and is 1\n");
         throws(() => new dimacs.Verdict("max", 6n).explain(), TypeError);
     },
     "explanations of arrays name no text": () => {
-        const feasible = "x instance 0 0 Feasible\nthe instance has a feasible flow: it is in `flow`\n";
-        assert.equal(thrown(() => dimacs.certifyInfeasibleArrays(IN_MIN)).explain(), feasible);
+        const feasible = /^x instance 0 0 Feasible\nthe instance has a feasible flow, which costs \d+: it is in `flow`\n$/;
+        assert.match(thrown(() => dimacs.certifyInfeasibleArrays(IN_MIN)).explain(), feasible);
         const outside = thrown(() => dimacs.judgeMaxArrays(IN_MAX, [4, 2, 1, 3, 3], [0, 0, 0, 0])).explain();
         const source = "node 1: the source\nnode 1 is the source, and the cut doesn't hold it: it lists the nodes on the source's side, the source among them\n";
-        assert.equal(outside, `x node 1 SourceOutside\n${source}`);
+        const open = "this certificate doesn't show the claim, which may be true all the same: to find out, certify it";
+        assert.equal(outside, `x node 1 SourceOutside\n${source}${open}\n`);
         // Node 1 supplies 4; its arcs have CAP 4 and 2.
         const met = thrown(() => dimacs.judgeInfeasibleArrays(IN_MIN, [1, 0, 0, 0])).explain().split("\n");
         assert.ok(met[1].startsWith("the set supplies 4, and its arcs can carry 0 to 6 out of it: "));
-        assert.equal(met[2], "this certificate doesn't show the claim, which may be true all the same: to find out, certify it");
+        assert.equal(met[2], open);
         // 3 * 2 + 2 + 1 + 2 * 3 + 2 = 17, and the least cost is 14.
         const dear = thrown(() => dimacs.certifyMinArrays(IN_MIN, [3, 1, 1, 2, 2])).explain();
         const less = /^the flow in `better` is feasible, and costs [1-3] less than the 17 that is claimed$/;
         assert.match(dear.split("\n")[1], less);
+        // The line of the distance is that of its node.
+        const late = thrown(() => dimacs.certifyPathsArrays(IN_GRAPH, 1, [0, 5, 10, Infinity])).explain().split("\n");
+        assert.deepEqual(late.slice(0, 3), ["x arc 2 NotShortest", "arc 2: 2 -> 3, WEIGHT 4", "node 3: distance 10"]);
+        assert.ok(late[3].endsWith(": node 3 is at distance 9 at most, and its distance is 10"), late[3]);
     },
     "predecessors that lead to no source are refused as by the judge": () => {
         const graph = {nodes: 4, tails: [1, 4, 3, 2], heads: [4, 3, 2, 2], weights: [5, 4, 1, 0]};

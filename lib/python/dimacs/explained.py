@@ -27,6 +27,9 @@ _NAMES = {
 KINDS = {"query": "query", "solution": "solution", "distances": "distances"}
 KINDS |= dict.fromkeys(("max", "min", "gr"), "instance") | dict.fromkeys(("cut", "pot", "dist"), "certificate")
 
+#: Begins the name of a text that is in no file; twice, of one that stands for arrays.
+_NO_FILE = "\0"
+
 _Answer = TypeVar("_Answer", bound=Explainable)
 
 
@@ -69,13 +72,10 @@ class Asked:
         names = _NAMES[self._call].replace("certificate", self._shown).split()
         if self._call.startswith("certify"):
             names = names[: len(self._texts)]
-        return " ".join([self._call.replace("_", "-"), *names])
+        return " ".join([self._call.replace("_", "-"), *(_NO_FILE + it for it in names)])
 
     def lines(self) -> list[str]:
-        lines = _explanation(self.command(), self._texts)
-        # Nothing was written here: a run of the command empties its files, and writes a flow to one.
-        lines = [it for it in lines if " is empty: a solve run creates" not in it]
-        return [re.sub(r": it goes to (\w+)$", r": it is in `\1`", it) for it in lines]
+        return _explanation(self.command(), self._texts)
 
     def explain(self) -> str:
         return "".join(f"{it}\n" for it in self.lines())
@@ -115,30 +115,9 @@ def _after_predecessors(nodes: Sequence[int], before: Sequence[int]) -> list[int
 
 
 _CHANGED = "the arrays hold other numbers now, and these are refused: the answer isn't theirs"
-_RECORD = re.compile(r"^( *)(\w+):(\d+): (.*)$")
-_MARK = re.compile(r"^ +\^+$")
 
-#: What sentences say of a text, and what they say of arrays: a flow is in the field of the refusal that has it.
-_RETOLD = [
-    (r" \(line \d+\)", ""),
-    (r"\bthe (cut|set) in \w+ ", r"the \1 "),
-    (r"^this flow is feasible,", "the flow in `better` is feasible,"),
-    (r" feasible flow, (which|whose) cost.*$", " feasible flow: it is in `flow`"),
-    (r" better one, whose cost.*$", " better one: it is in `better`"),
-    (r": to find out, run dimacs certify-.*$", ": to find out, certify it"),
-]
-
-#: Where lines have nodes and arcs.
-_NODES = re.compile(
-    r"\b(?:nodes?:?|source|from|to|predecessor|PRED,|inside|sink,) (\d+)|y\((\d+)\)|^(\d+) reaches|that (\d+) reaches"
-    r"|((?:\d+|\.\.)(?: -> (?:\d+|\.\.))+)"
-)
-_LISTED = re.compile(r"(?:nodes|reaches, \d+): ([\d ]+)")
-_ARCS = re.compile(r"\barc (\d+)")
-_LISTED_ARCS = re.compile(r"arcs with r = 0, [^:]*:([\d ]+)")
-
-#: An arc with the greatest capacity.
-_UNLIMITED_CAP = re.compile(rf"\barc (\d+)\b.*?\bCAP,? ({UNLIMITED})\b")
+#: The marks in lines about arrays: before the numbers of arcs and of nodes, and before capacities.
+_ARC, _NODE, _CAP = "\1", "\2", "\3"
 
 
 class AskedOfArrays(Asked):
@@ -195,14 +174,14 @@ class AskedOfArrays(Asked):
             texts = [self._text(it) for it in names]
         except PastLimit:
             return [_CHANGED] if self.printed is None else [self.printed, self.said]
-        written = ["certificate"] if self._call == "solve_paths" else []
-        first, *more = _explanation(" ".join([self._call.replace("_", "-"), *names, *written]), texts)
+        names += ["certificate"] if self._call == "solve_paths" else []
+        command = [self._call.replace("_", "-"), *(2 * _NO_FILE + it for it in names)]
+        first, *more = _explanation(" ".join(command), texts)
         if self.printed is None and first.startswith("x "):
             return [_CHANGED]
         if self.printed is not None and not self._is_same(first):
-            return [self.printed, self.said]
-        retold = [it for line in more for it in self._retold(line, texts)]
-        return [self.printed or first, *retold, *self._notes(retold)]
+            more = [self._own()]
+        return [self.printed or first, *map(self._plain, more), *self._notes("\n".join(more))]
 
     def _is_same(self, first: str) -> bool:
         """Whether texts are refused as the arrays were: for the same arc or node, or as a whole."""
@@ -211,57 +190,28 @@ class AskedOfArrays(Asked):
         mine, found = (library.refusal(it.encode("ascii")) for it in (str(self.printed), first))
         return (mine.reason, mine.arc, mine.node) == (found.reason, found.arc, found.node)
 
-    # ---- without the texts, which the caller never saw
+    def _own(self) -> str:
+        """What explains a refusal that no text has."""
+        no = library.refusal(str(self.printed).encode("ascii"))
+        if no.reason != "NotShortest" or no.node != self._given.number("source"):
+            return self.said
+        return f"node {_NODE}{no.node} is the source: its distance has to be 0, and is {self._column(DISTANCES)[no.node - 1]}"
 
-    def _retold(self, line: str, texts: list[str]) -> Iterator[str]:
-        for words, mine in _RETOLD:
-            line = re.sub(words, mine, line)
-        found = _RECORD.match(line)
-        if found:
-            indent, name, number, record = found.groups()
-            words = self._record(int(number), record.split(), texts[0])
-            if words:
-                yield indent + self._unlimited(words)
-        elif not _MARK.match(line) and "dimacs spread-" not in line and " is empty: " not in line:
-            yield self._unlimited(line)
+    def _plain(self, line: str) -> str:
+        """A line without marks, with inf as the capacity of an arc that has no limit."""
+        arc = re.search(f"{_ARC}(\\d+)", line)
+        if arc and int(arc[1]) - 1 in self._given.limitless():
+            line = line.replace(f"{_CAP}{UNLIMITED}", "inf")
+        return re.sub(f"[{_ARC}{_NODE}{_CAP}]", "", line)
 
-    def _unlimited(self, line: str) -> str:
-        """A line with inf in place of the capacity of an arc that has no limit."""
-        found = _UNLIMITED_CAP.search(line)
-        if found is None or int(found[1]) - 1 not in self._given.limitless():
-            return line
-        return line[: found.start(2)] + "inf" + line[found.end(2) :]
-
-    def _record(self, line: int, words: list[str], instance: str) -> str:
-        letter, *rest = words
-        if letter == "a":
-            named = {MAX: ["CAP"], MIN: ["LOW", "CAP", "COST"]}.get(self._given.form, ["WEIGHT"])
-            numbers = ", ".join(f"{name} {it}" for name, it in zip(named, rest[2:]))
-            before = instance.partition("\na ")[0].count("\n") + 1
-            return f"arc {line - before}: {rest[0]} -> {rest[1]}, {numbers}"
-        if letter == "f":
-            return f"arc {line - 1}: {rest[0]} -> {rest[1]}, FLOW {rest[2]}"
-        if letter == "n":
-            ends = {"s": "the source", "t": "the sink"}
-            return f"node {rest[0]}: {ends.get(rest[1], f'SUPPLY {rest[1]}')}"
-        if letter == "y":
-            return f"node {rest[0]}: potential {rest[1]}"
-        if letter == "u":
-            return f"node {rest[0]}: inside"
-        if letter == "d":
-            return f"node {rest[0]}: distance {rest[1]}" + (f", predecessor {rest[2]}" if rest[2:] else "")
-        return " ".join(words) if letter == "the" else ""
-
-    def _notes(self, lines: list[str]) -> Iterator[str]:
+    def _notes(self, lines: str) -> Iterator[str]:
         """What numbers in these lines are for the caller."""
         names, units = self._given.names, self._given.units
         if units:
             yield f"numbers are whole here: {self._scaled(*units)}"
         if type(names) is not Names:
-            nodes = _numbers(lines, (_NODES, _LISTED), self._given.number("nodes"))
-            yield from _named("node", nodes, names.node)
-            arcs = _numbers(lines, (_ARCS, _LISTED_ARCS), self._given.count(TAILS))
-            yield from _named("arc", arcs, names.arc)
+            yield from _named("node", re.findall(f"{_NODE}(\\d+)", lines), names.node)
+            yield from _named("arc", re.findall(f"{_ARC}(\\d+)", lines), names.arc)
         elif names.base == 0:
             yield "nodes and arcs are numbered from 1 here, and from 0 in the arrays"
 
@@ -275,13 +225,6 @@ class AskedOfArrays(Asked):
         return f"1 is an amount of {amount.shown(1)}, a COST or potential of {cost.shown(1)}, a cost of a flow of {whole}"
 
 
-def _numbers(lines: list[str], forms: Sequence[re.Pattern[str]], most: int) -> list[int]:
-    """The numbers of nodes or arcs in lines, which are at most `most`."""
-    words = [it for line in lines for form in forms for found in form.finditer(line) for it in found.groups() if it]
-    numbers = {int(number) for it in words for number in re.findall(r"\d+", it)}
-    return sorted(it for it in numbers if 0 < it <= most)
-
-
-def _named(what: str, numbers: list[int], name: Any) -> Iterator[str]:
+def _named(what: str, numbers: list[str], name: Any) -> Iterator[str]:
     if numbers:
-        yield f"{what}s by number: " + ", ".join(f"{it} is {name(it - 1)!r}" for it in numbers)
+        yield f"{what}s by number: " + ", ".join(f"{it} is {name(it - 1)!r}" for it in sorted({*map(int, numbers)}))
