@@ -1,10 +1,10 @@
 #!/usr/bin/env python3
 """Has answers explained, a refusal for each reason: tests/explain.py [BINARY [COUNT [SEED]]]
 
-`dimacs explain WORDS ..` has to print first what `dimacs WORDS ..` prints, and to end with its status. Lines follow: of
-those after a refusal the case names parts, after a yes it has all, worked out by hand. No clause fixes the text of these
-lines. Then COUNT random instances, 150 by default, are solved, judged and certified, and a second reader has to write
-the same lines. BINARY is the built program; crates/dimacs/out/dimacs by default.
+`dimacs explain WORDS ..` has to print first what `dimacs WORDS ..` prints, and to end with its status. Lines follow, of
+which a case has parts, worked out by hand; `$` is their end. No clause fixes their text. A second reader has to write the
+same lines after a yes, also of COUNT random instances, 150 by default, that are solved, judged and certified. BINARY is
+the built program; crates/dimacs/out/dimacs by default.
 """
 import contextlib
 import os
@@ -61,21 +61,26 @@ CASES = [
     ("PredUnknown", "convert dist T", {"T": "p dist 3 1\nt 1 1\nd 2 5 3\n"}, ["PRED, 3, is neither the source"]),
     ("PastRadius", "convert dist T", {"T": "p dist 3 1\nt 1 1 4\nd 2 5 1\n"}, ["DIST is 5, above the RADIUS of the block, 4"]),
     ("UnknownArc", "judge-max I S C", {"S": "s 6\nf 1 2 4\nf 4 3 2\n"}, ["S:3: f 4 3 2", "no arc from 4 to 3", "arc 5 leads from 3 to 4"]),
-    ("ArcTwice", "judge-max I S C", {"S": FLOW + "f 3 4 3\n"}, ["S:7: f 3 4 3", "I has 1 arc from 3 to 4", "dimacs spread-max I S OUT"]),
+    ("ArcTwice", "judge-max I S C", {"S": FLOW + "f 3 4 3\n"}, ["S:7: f 3 4 3", "I has 1 arc from 3 to 4", "S:6: f 3 4 3", "the two are the same: remove one\n$"]),
+    ("ArcTwice", "judge-max I S C", {"S": FLOW.replace("f 3 4 3", "f 3 4 2\nf 3 4 1")}, ["S:7: f 3 4 1", "S:6: f 3 4 2", "dimacs spread-max I S OUT\n"]),
+    ("ArcTwice", "judge-max I S C", {"I": "p max 2 2\nn 1 s\nn 2 t\na 1 2 1\na 1 2 3\n", "S": "s 3\n" + "f 1 2 1\n" * 3}, ["I has 2 arcs from 1 to 2", "dimacs spread-max I S OUT\n"]),
     ("BelowLow", "judge-min I S P", {"I": "p min 2 1\na 1 2 1 3 0\n", "S": "s 0\n", "P": "p pot 2 0\n"}, ["I:2: a 1 2 1 3 0", "no entry", "carries 0, less than its LOW, 1"]),
     ("BelowLow", "judge-max I S C", {"S": "s 6\nf 1 2 -1\n"}, ["S:2: f 1 2 -1", "arc 1 carries -1, less than 0\n"]),
     ("AboveCap", "judge-max I S C", {"S": "s 6\nf 1 2 9\n"}, ["I:4: a 1 2 4", "S:2: f 1 2 9", "arc 1 carries 9, more than its CAP, 4"]),
     ("AboveCap", "judge-max I S C", {"I": "p max 2 2\nn 1 s\nn 2 t\na 1 2 1\na 1 2 3\n", "S": "s 3\nf 1 2 3\n", "C": "p cut 2 1\nu 1\n"}, ["2 arcs lead from 1 to 2", "arc 1 is the first of them", "dimacs spread-max I S OUT"]),
     ("AboveCap", "judge-max I S C", {"I": "p max 2 2\nn 1 s\nn 2 t\na 1 2 1\na 1 2 3\n", "S": "s 5\nf 1 2 4\nf 1 2 1\n", "C": "p cut 2 1\nu 1\n"}, ["arc 1 is the first of them", "the f lines with these ends add up to 5, outside of 0 to 4, what these arcs can carry: no order fits\n"]),
     ("Balance", "judge-max I S C", {"S": "s 4\nf 1 2 4\n"}, ["0 leaves node 2, 4 enters it: 4 too little leaves\nentries out of it: 0\nentries into it: 1\n  S:2: f 1 2 4\n"]),
-    ("Balance", "judge-min MI S P", {"S": "s 0\n"}, ["MI:2: n 1 4", "0 leaves node 1, 0 enters it, and it supplies 4: 4 too little leaves\n"]),
+    ("Balance", "judge-min MI S P", {"S": "s 0\n"}, ["MI:2: n 1 4", "0 leaves node 1, 0 enters it, and it supplies 4: 4 too little leaves\n", "entries into it: 0\ndimacs certify-infeasible MI shows whether any flow is feasible\n$"]),
     ("CostRange", "judge-min I S P", {"I": f"p min 1 1\na 1 1 0 {HUGE} {HUGE}\n", "S": f"s 0\nf 1 1 {HUGE}\n", "P": "p pot 1 0\n"}, [f"at a COST of {HUGE}"]),
     ("ValueDiffers", "judge-max I S C", {"S": FLOW.replace("s 6", "s 7")}, ["S:1: s 7", "7 is claimed, and the flow has the value 6"]),
-    ("ValueDiffers", "judge-min MI S P", {"S": LEAST.replace("s 14", "s 13")}, ["S:1: s 13", "13 is claimed, and the flow costs 14"]),
-    ("NodesDiffer", "judge-max I S C", {"C": "p cut 5 1\nu 1\n"}, ["I:1: p max 4 5", "C:1: p cut 5 1"]),
-    ("SourceOutside", "judge-max I S C", {"C": "p cut 4 0\n"}, ["I:2: n 1 s", "doesn't hold it: it lists the nodes on the source's side, the source among them\n"]),
+    ("BadNumber", "judge-max I S C", {"C": "p cut 4 1\nu one\n"}, ["C:2: u one", "ID is a whole number", "may be true all the same: to find out, run dimacs certify-max I S\n$"]),
+    ("TooFew", "judge-infeasible MI C", {"C": "p cut 4 1\n"}, ["to find out, run dimacs certify-infeasible MI\n$"]),
+    ("NodesDiffer", "judge-paths G Q L", {"L": "p dist 5 0\n"}, ["L:1: p dist 5 0", "to find out, run dimacs solve-paths G Q LABELS\n$"]),
+    ("ValueDiffers", "judge-min MI S P", {"S": LEAST.replace("s 14", "s 13")}, ["S:1: s 13", "13 is claimed, and the flow costs 14\nFLOW * COST of the arcs, the greatest in size first:\n  arc 1: 1 -> 2, 2 * 2 = 4\n", "\n4 + 4 + 4 + 2 = 14, the cost\n$"]),
+    ("NodesDiffer", "judge-max I S C", {"C": "p cut 5 1\nu 1\n"}, ["I:1: p max 4 5", "C:1: p cut 5 1", "may be true all the same: to find out, run dimacs certify-max I S\n$"]),
+    ("SourceOutside", "judge-max I S C", {"C": "p cut 4 0\n"}, ["I:2: n 1 s", "doesn't hold it: it lists the nodes on the source's side, the source among them\n", "may be true all the same: to find out, run dimacs certify-max I S\n$"]),
     ("SourceOutside", "judge-max I S C", {"C": "p cut 4 3\nu 2\nu 3\nu 4\n"}, ["C:4: u 4", "this is the sink's side: list the other nodes, those on the source's side\n"]),
-    ("SinkInside", "judge-max I S C", {"C": "p cut 4 2\nu 1\nu 4\n"}, ["I:3: n 4 t", "C:3: u 4", "holds it"]),
+    ("SinkInside", "judge-max I S C", {"C": "p cut 4 2\nu 1\nu 4\n"}, ["I:3: n 4 t", "C:3: u 4", "holds it\n", "may be true all the same: to find out, run dimacs certify-max I S\n$"]),
     ("NotSaturated", "judge-max I S C", {"C": "p cut 4 2\nu 1\nu 2\n"}, ["I:6: a 2 3 2", "S:4: f 2 3 1", "carries 1 of its CAP, 2", "this certificate doesn't show the claim, which may be true all the same: to find out, run dimacs certify-max I S\n"]),
     ("BackFlow", "judge-max I S C", {"I": "p max 4 5\nn 1 s\nn 4 t\na 1 2 1\na 1 3 1\na 2 3 1\na 2 4 1\na 3 4 1\n", "S": "s 1\nf 1 2 1\nf 2 3 1\nf 3 4 1\n", "C": "p cut 4 2\nu 1\nu 3\n"}, ["arc 3 enters the set", "carries 1, not 0", "this certificate doesn't show the claim, which may be true all the same: to find out, run dimacs certify-max I S\n"]),
     ("NotTight", "judge-min MI S P", {"S": LEAST, "P": POT.replace("y 1 4", "y 1 3")}, ["P:2: y 1 3", "P:3: y 2 2", "= 2 - 3 + 2 = 1, above 0", "its LOW, 0, and carries 2", "may be true all the same: to find out, run dimacs certify-min MI S\n"]),
@@ -84,9 +89,22 @@ CASES = [
     ("BlockMissing", "judge-paths G Q L", {"L": "p dist 4 0\n"}, ["L has no block\n"]),
     ("BlockMissing", "judge-paths G Q L", {"Q": "p aux sp ss 1\ns 2\n", "L": "p dist 4 1\nt 1 0\n"}, ["Q:2: s 2", "no block from source 2", "are from 1; 1 in all"]),
     ("NoTightArc", "judge-paths G Q L", {"L": "p dist 4 1\nt 1 1\nd 2 4 1\n"}, ["L:3: d 2 4 1", "node 2 is at distance 4, and its PRED, node 1, at distance 0", "has the WEIGHT 5"]),
-    ("Escapes", "judge-paths G Q L", {"L": "p dist 4 1\nt 1 0\n"}, ["G:2: a 1 2 5", "L:2: the block from source 1", "arc 1 leads from node 1, at distance 0, to node 2 with the WEIGHT 5: node 2 is at distance 5 at most, and has no label\n"]),
-    ("NotShortest", "judge-paths G Q L", {"G": "p sp 2 2\na 1 2 3\na 1 2 1\n", "L": "p dist 2 1\nt 1 1\nd 2 3 1\n"}, ["G:3: a 1 2 1", "node 2 is at distance 1 at most, and its label says 3\n"]),
+    ("Escapes", "judge-paths G Q L", {"L": "p dist 4 1\nt 1 0\n"}, ["G:2: a 1 2 5", "L:2: t 1 0", "in the block from source 1 (line 2) arc 1 leads from node 1, at distance 0, to node 2 with the WEIGHT 5: node 2 is at distance 5 at most, and has no label\n"]),
+    ("NotShortest", "judge-paths G Q L", {"G": "p sp 2 2\na 1 2 3\na 1 2 1\n", "L": "p dist 2 1\nt 1 1\nd 2 3 1\n"}, ["G:3: a 1 2 1", "L:3: d 2 3 1\n", "node 2 is at distance 1 at most, and its label says 3\n"]),
     ("NegativeWeight", "solve-paths G Q L", {"G": "p sp 2 1\na 1 2 -4\n"}, ["G:2: a 1 2 -4", "the WEIGHT -4"]),
+    # The lines are those of the block in question, and without a line of the head that of the tail.
+    ("NotShortest", "certify-paths G D", {"G": NEAR, "D": "p distances 4 2\nt 2 2\nd 3 4\nd 4 4\nt 1 3\nd 3 10\nd 4 9\nd 2 5\n"}, ["G:3: a 2 3 4", "D:6: d 3 10\n", "in the block from source 1 (line 5) arc 2 leads from node 2, at distance 5,", "node 3 is at distance 9 at most, and its d line says 10\n"]),
+    ("Escapes", "judge-paths G Q L", {"G": NEAR, "L": "p dist 4 1\nt 1 1\nd 2 5 1\n"}, ["G:3: a 2 3 4", "L:3: d 2 5 1\n", "node 3 is at distance 9 at most, and has no label\n"]),
+    # Labels that no order or no line mends.
+    ("NodeTwice", "judge-paths G Q L", {"L": "p dist 4 1\nt 1 1\nd 1 0 1\n"}, ["L:3: d 1 0 1", "node 1 is the source of the block: it has the distance 0, and no d line\n", "to find out, run dimacs solve-paths G Q LABELS\n"]),
+    ("NodeTwice", "certify-paths G D", {"D": "p distances 4 1\nt 1 1\nd 1 0\n"}, ["D:3: d 1 0", "node 1 is the source of the block: it has the distance 0, and no d line\n$"]),
+    ("NodeTwice", "convert dist T", {"T": "p dist 4 1\nt 1 2\nd 2 5 1\nd 2 5 1\n"}, ["T:4: d 2 5 1", "line 3 names the node already\n$"]),
+    ("PredUnknown", "judge-paths G Q L", {"L": "p dist 4 1\nt 1 3\nd 2 5 4\nd 4 9 3\nd 3 9 2\n"}, ["L:3: d 2 5 4", "PRED, 4, is neither", "the PREDs lead in a circle, so that no order fits: 2 -> 4 -> 3 -> 2\n", "to find out, run dimacs solve-paths G Q LABELS\n"]),
+    ("PredUnknown", "convert dist T", {"T": "p dist 9 2\nt 2 1\nd 1 5 2\nt 1 8\n" + "".join(f"d {k} 5 {k + 1}\n" for k in range(2, 9)) + "d 9 5 2\n"}, ["T:5: d 2 5 3", "no order fits: 2 -> 3 -> 4 -> 5 -> 6 -> 7 -> 8 -> ..\n"]),
+    ("PredUnknown", "convert dist T", {"T": "p dist 4 1\nt 1 1\nd 2 5 2\n"}, ["no order fits: 2 -> 2\n"]),
+    ("PredUnknown", "convert dist T", {"T": "p dist 4 1\nt 1 2\nd 2 5 3\nd 3 4 1\n"}, ["PRED, 3, is", "order the d lines so that each stands after that of its PRED\n$"]),
+    ("PredUnknown", "convert dist T", {"T": "p dist 4 2\nt 1 2\nd 2 5 3\nd 3 4 4\nt 2 1\nd 4 1 2\n"}, ["PRED, 3, is", "node 4 has no d line in this block\n$"]),
+    ("NoTightArc", "judge-paths G Q L", {"G": "p sp 4 3\na 1 2 5\na 3 4 0\na 4 3 0\n", "L": "p dist 4 1\nt 1 2\nd 2 5 1\nd 3 6 2\n"}, ["L:4: d 3 6 2", "no arc leads from 2 to 3\nif no walk leads to node 3, leave its line out\n$"]),
     # A solver that refuses has emptied what it writes: here the queries, by files in the wrong order.
     ("FieldCount", "solve-paths G L Q", {"L": "p dist 4 1\nt 1 0\n"}, ["L:1: p dist 4 1", "that of distance labels (dist), and queries (query) are wanted", "\nQ is empty: a solve run", "before it reads"]),
     ("NegativeWeight", "solve-paths G Q L", {"G": "p sp 2 1\na 1 2 -4\n"}, ["the WEIGHT -4", "\nL is empty: "]),
@@ -105,13 +123,13 @@ CASES = [
     ("NotShortest", "certify-paths G D", {"G": "p sp 4 4\na 1 2 3\na 2 3 4\na 3 2 -5\na 3 4 1\n", "D": "p distances 4 1\nt 1 3\nd 2 3\nd 3 7\nd 4 8\n"}, ["G:4: a 3 2 -5", "a cycle that the source reaches weighs less than 0; its arcs: 2\n  arc 2: 2 -> 3, WEIGHT 4\n  arc 3: 3 -> 2, WEIGHT -5\n4 - 5 = -1: with each round a walk weighs less, so the nodes that it leads to have no distance\n"]),
     ("NotShortest", "judge-paths G Q L", {"G": "p sp 2 2\na 1 2 3\na 2 1 -4\n", "L": "p dist 2 1\nt 1 1\nd 2 3 1\n"}, ["G:3: a 2 1 -4", "its arcs: 2\n  arc 1: 1 -> 2, WEIGHT 3\n  arc 2: 2 -> 1, WEIGHT -4\n3 - 4 = -1: "]),
     ("Escapes", "certify-paths G D", {"G": "p sp 3 3\na 1 2 3\na 2 3 4\na 3 2 -5\n", "D": "p distances 3 1\nt 1 0\n"}, ["node 2 is at distance 3 at most", "its arcs: 2\n"]),
-    ("NodesDiffer", "certify-paths G D", {"D": "p distances 5 0\n"}, ["G:1: p sp 4 3", "D:1: p distances 5 0"]),
-    ("Escapes", "certify-paths G D", {"D": "p distances 4 2\nt 4 1\nd 3 0\nt 1 0\n"}, ["G:2: a 1 2 5", "D:4: the block from source 1", "node 2 is at distance 5 at most, and has no d line\n"]),
+    ("NodesDiffer", "certify-paths G D", {"D": "p distances 5 0\n"}, ["G:1: p sp 4 3", "D:1: p distances 5 0", "they are not of one instance\n$"]),
+    ("Escapes", "certify-paths G D", {"D": "p distances 4 2\nt 4 1\nd 3 0\nt 1 0\n"}, ["G:2: a 1 2 5", "D:4: t 1 0", "in the block from source 1 (line 4) ", "node 2 is at distance 5 at most, and has no d line\n"]),
     ("NotShortest", "certify-paths G D", {"G": "p sp 3 2\na 1 3 -1\na 3 1 -1\n", "D": "p distances 3 1\nt 1 1\nd 3 -1\n"}, ["node 1 is at distance -2 at most, and is the source, at distance 0\n"]),
-    ("NotShortest", "certify-paths G D", {"G": "p sp 2 2\na 1 2 3\na 1 2 1\n", "D": "p distances 2 1\nt 1 1\nd 2 3\n"}, ["G:3: a 1 2 1", "node 2 is at distance 1 at most, and its d line says 3\n"]),
-    ("NoTightArc", "certify-paths G D", {"D": "p distances 4 1\nt 1 1\nd 2 4\n"}, ["D:3: d 2 4", "from source 1 (line 2) no arc leads to node 2 at distance 4: the nearest leads there at distance 5\n"]),
-    ("NoTightArc", "certify-paths G D", {"D": "p distances 4 1\nt 1 3\nd 2 5\nd 3 0\nd 4 0\n"}, ["come from nodes that no walk from the source reaches"]),
-    ("NoTightArc", "certify-paths G D", {"G": "p sp 3 1\na 3 2 1\n", "D": "p distances 3 1\nt 1 1\nd 2 7\n"}, ["no arc leads to node 2 at distance 7: none comes from a node that has a distance"]),
+    ("NotShortest", "certify-paths G D", {"G": "p sp 2 2\na 1 2 3\na 1 2 1\n", "D": "p distances 2 1\nt 1 1\nd 2 3\n"}, ["G:3: a 1 2 1", "D:3: d 2 3\n", "node 2 is at distance 1 at most, and its d line says 3\n"]),
+    ("NoTightArc", "certify-paths G D", {"D": "p distances 4 1\nt 1 1\nd 2 4\n"}, ["D:3: d 2 4", "from source 1 (line 2) no arc leads to node 2 at distance 4: the nearest leads there at distance 5\n$"]),
+    ("NoTightArc", "certify-paths G D", {"D": "p distances 4 1\nt 1 3\nd 2 5\nd 3 0\nd 4 0\n"}, ["come from nodes that no walk from the source reaches at theirs\nif no walk leads to node 3, leave its line out\n$"]),
+    ("NoTightArc", "certify-paths G D", {"G": "p sp 3 1\na 3 2 1\n", "D": "p distances 3 1\nt 1 1\nd 2 7\n"}, ["no arc leads to node 2 at distance 7: none comes from a node that has a distance\nif no walk leads to node 2, leave its line out\n$"]),
     # A spread flow: 2 entries of 9 * 10^18 between nodes with 2 arcs or 1, and of -9 * 10^18.
     ("AboveCap", "spread-max I S O", {"I": "p max 2 2\nn 1 s\nn 2 t\na 1 2 4\na 1 2 3\n", "S": f"s 0\nf 1 2 {HUGE}\nf 1 2 {HUGE}\n"}, ["I:4: a 1 2 4\n2 arcs from 1 to 2: ", f"add up to {2 * HUGE}\n", f"carry their CAP, 3 in all, and {2 * HUGE - 3} is left for the first, arc 1:"]),
     ("AboveCap", "spread-max I S O", {"I": "p max 2 1\nn 1 s\nn 2 t\na 1 2 5\n", "S": f"s 0\nf 1 2 {HUGE}\nf 1 2 {HUGE}\n"}, ["I:4: a 1 2 5\n1 arc from 1 to 2: ", f"add up to {2 * HUGE}\n", f"carry their CAP, 0 in all, and {2 * HUGE} is left for the first, arc 1:"]),
@@ -127,8 +145,11 @@ CASES = [
     ("UnknownLine", "convert gr T", {"T": b"\x28\xb5\x2f\xfd\n"}, ["compressed by zstd: give <(zstdcat FILE) in its place"]),
     ("Balance", "judge-min MI S P", {"S": "s 0\nf 1 2 4\nf 2 4 3\n"}, ["3 leaves node 2, 4 enters it: 1 too little leaves\nentries out of it: 1\n  S:3: f 2 4 3\nentries into it: 1\n  S:2: f 1 2 4\n"]),
     ("Balance", "judge-min I S P", {"I": "p min 2 1\nn 1 4\nn 2 -3\na 1 2 0 9 0\n", "S": "s 0\nf 1 2 4\n"}, ["I:3: n 2 -3", "4 enters node 2, 0 leaves it, and it takes 3: 1 too much arrives\n"]),
-    ("Balance", "judge-min I S P", {"I": "p min 2 1\nn 1 2\nn 2 -3\na 1 2 0 9 0\n", "S": "s 0\nf 1 2 2\n"}, ["2 enters node 2, 0 leaves it, and it takes 3: 1 too little arrives\n"]),
+    ("Balance", "judge-min I S P", {"I": "p min 2 1\nn 1 2\nn 2 -3\na 1 2 0 9 0\n", "S": "s 0\nf 1 2 2\n"}, ["2 enters node 2, 0 leaves it, and it takes 3: 1 too little arrives\n", "the supplies add up to -1, and not to 0: no flow is feasible\ndimacs certify-infeasible I shows"]),
     ("Balance", "judge-min I S P", {"I": "p min 2 1\nn 1 3\nn 2 -3\na 1 2 0 9 0\n", "S": "s 0\nf 1 2 4\n"}, ["I:2: n 1 3", "4 leaves node 1, 0 enters it, and it supplies 3: 1 too much leaves\n"]),
+    ("Balance", "judge-min I S P", {"I": "p min 2 2\nn 1 4\nn 2 -4\na 1 2 0 5 0\na 2 1 2 3 0\n", "S": "s 0\nf 1 2 5\n" "f 2 1 2\n"}, ["the arcs of node 1 can carry -3 to 3 out of it: no flow is feasible\ndimacs certify-infeasible I shows"]),
+    ("BadNumber", "certify-min MI S", {"S": "s infeasible\n"}, ["S:1: s infeasible", "to find out whether none is feasible, run dimacs certify-infeasible MI\n$"]),
+    ("BadNumber", "convert solution T", {"T": "s infeasible\n"}, ["run dimacs certify-infeasible INSTANCE\n$"]),
     # Words that are almost numbers, or too long.
     ("BadNumber", "convert gr T", {"T": "p sp 1 1\na 1 1 \u22125 x\n".replace(" x", "")}, ["T:2: a 1 1 \u22125\n", "           ^^\n", "not `\u22125`\nwrite -5\n"]),
     ("BadNumber", "convert distances T", {"T": "p distances 3 1\nt 1 2\nd 2 5\nd 3 inf\n"}, ["not `inf`\na node that no walk reaches has no line: leave it out\n"]),
@@ -144,140 +165,64 @@ CASES = [
     ("UnknownLine", "convert gr T", {"T": b"\x7fELF\r\0\0"}, ["no line of a graph (gr) begins with"]),
     ("FieldCount", "convert gr T", {"T": "p sp 1 1\ra 1 1 0\r"}, ["lines end by a carriage return alone"]),
     ("BadWord", "convert gr T", {"T": MAX}, ["that of a maximum flow instance (max), and a graph (gr) is wanted"]),
+    # Files in each other's place.
+    ("UnknownLine", "judge-max S I C", {}, ["S:1: s 6", "the line is that of a solution (solution), and a maximum flow instance (max) is wanted\nthe files S and I are exchanged\n$"]),
+    ("UnknownLine", "certify-max S I", {"S": "c a flow\nf 1 2 4\ns 6\n"}, ["S:2: f 1 2 4", "the files S and I are exchanged\n$"]),
+    ("UnknownLine", "judge-max I C S", {}, ["C:1: p cut 4 1", "the files C and S are exchanged\n$"]),
+    ("UnknownLine", "judge-max I C C", {}, ["that of a set of nodes (cut), and a solution (solution) is wanted\nno line of a solution"]),
+    ("BadWord", "judge-paths L Q G", {"L": "p dist 4 0\n"}, ["the files L and G are exchanged\n$"]),
+    ("UnknownLine", "judge-max I S T", {"T": FLOW}, ["that of a solution (solution), and a set of nodes (cut) is wanted\nno line of a set", "may be true all the same: to find out, run dimacs certify-max I S\n$"]),
+    ("UnknownLine", "convert gr T", {"T": "p sp 1 1\ns 1\n"}, ["     ^\nno line of a graph (gr) begins with `s`\n"]),
+    ("BadWord", "certify-paths G L", {"L": "p dist 4 0\n"}, ["that of distance labels (dist), and distances (distances) are wanted\nto judge labels, run dimacs judge-paths GRAPH QUERY LABELS\n"]),
     ("UnknownLine", "convert gr T", {"T": "p sp 1 1\nx" + "y" * 1000 + "\n"}, ["T:2: xyy", ".."]),
 ]
 
-# The same of a better flow whose file can't be read again, or is the claim's. The command of the package for Python says
-# more of these: it keeps what it reads and makes.
+# The same of a text whose file can't be read again, or is the claim's. The command of the package for Python says more of
+# these: it keeps what it reads and makes.
 UNREAD = [
     ("NotMaximum", "certify-max I S S", {"S": "s 0\n"}, ["the flow is feasible, and a better one has the value 6: it goes to S\n"]),
     ("NotMaximum", "certify-max I S ./S", {"S": "s 0\n"}, ["the flow is feasible, and a better one has the value 6: it goes to ./S\n"]),
     ("NotLeast", "certify-min MI S S", {"S": DEAR}, ["the flow is feasible, and a better one costs 14: it goes to S\n"]),
     ("NotMaximum", "certify-max I S /dev/null", {"S": "s 0\n"}, ["S:1: s 0", "a better one has the value 6: it goes to /dev/null\n"]),
+    ("", "certify-max I S ./S", {}, ["the numbers are left out: the certificate has taken the place of S\n$"]),
 ]
 
 # Reasons that no case gives: one that no text is refused for, and one of 10^12 lines.
 LEFT_OUT = {"ParallelArc", "LineLimit"}
 
 
-# Words, texts of this case, and all lines that explain its yes.
 FAR = "p sp 9 9\n" + "".join(f"a {k} {k + 1} {k}\n" for k in range(1, 9)) + "a 1 9 99\n"
 FAR_CLAIM = "p distances 9 1\nt 1 8\n" + "".join(f"d {k + 1} {k * (k + 1) // 2}\n" for k in range(1, 9))
 OUT = NEAR.replace("a 3 4 0", "a 4 3 0")
+SURPLUS = "p min 2 2\nn 1 -5\nn 2 5\na 2 1 0 4 0\na 1 2 1 2 0\n"
+LARGE = {"I": f"p min 2 1\nn 1 {2**62}\nn 2 -{2**62}\na 1 2 0 {2**62} 0\n", "S": f"s 0\nf 1 2 {2**62}\n", "P": f"p pot 2 2\ny 1 {10**30}\ny 2 {10**30}\n"}
+
+# The same of a yes: all its lines are those of the second reader, too.
 YES = [
-    ("judge-max I S C", {}, """\
-on the source's side of the cut, 1 of the 4 nodes: 1
-arcs into it, all empty: 0
-arcs out of it, all full: 2
-  arc 1: 1 -> 2, CAP 4
-  arc 2: 1 -> 3, CAP 2
-4 + 2 = 6, the value of the flow: all flow to the sink has to cross these arcs, so none has a greater value
-"""),
+    ("", "judge-max I S C", {}, ["1 of the 4 nodes: 1\n", "arcs out of it, all full: 2\n  arc 1: 1 -> 2, CAP 4\n  arc 2: 1 -> 3, CAP 2\n4 + 2 = 6, the value"]),
     # Arc 2, back into the set, is empty.
-    ("judge-max I S C", {"I": "p max 3 3\nn 1 s\nn 3 t\na 1 2 5\na 3 1 7\na 2 3 2\n", "S": "s 2\nf 1 2 2\nf 2 3 2\n", "C": "p cut 3 2\nu 1\nu 2\n"}, """\
-on the source's side of the cut, 2 of the 3 nodes: 1 2
-arcs into it, all empty: 1
-  arc 2: 3 -> 1, FLOW 0
-arcs out of it, all full: 1
-  arc 3: 2 -> 3, CAP 2
-2, the value of the flow: all flow to the sink has to cross these arcs, so none has a greater value
-"""),
+    ("", "judge-max I S C", {"I": "p max 3 3\nn 1 s\nn 3 t\na 1 2 5\na 3 1 7\na 2 3 2\n", "S": "s 2\nf 1 2 2\nf 2 3 2\n", "C": "p cut 3 2\nu 1\nu 2\n"}, ["all empty: 1\n  arc 2: 3 -> 1, FLOW 0\n", "  arc 3: 2 -> 3, CAP 2\n2, the value"]),
     # Eight arcs leave: two of them aren't shown, and carry 7 + 8.
-    ("certify-max I S", {"I": "p max 2 8\nn 1 s\nn 2 t\n" + "".join(f"a 1 2 {k}\n" for k in range(1, 9)), "S": "s 36\n" + "".join(f"f 1 2 {k}\n" for k in range(1, 9))}, """\
-on the source's side of the cut, 1 of the 2 nodes: 1
-arcs into it, all empty: 0
-arcs out of it, all full: 8
-  arc 1: 1 -> 2, CAP 1
-  arc 2: 1 -> 2, CAP 2
-  arc 3: 1 -> 2, CAP 3
-  arc 4: 1 -> 2, CAP 4
-  arc 5: 1 -> 2, CAP 5
-  arc 6: 1 -> 2, CAP 6
-  all others: 15
-1 + 2 + 3 + 4 + 5 + 6 + 15 = 36, the value of the flow: all flow to the sink has to cross these arcs, so none has a greater value
-"""),
-    ("judge-min MI S P", {"S": LEAST}, f"""\
-FLOW * COST of the arcs, the greatest in size first:
-  arc 1: 1 -> 2, 2 * 2 = 4
-  arc 2: 1 -> 3, 2 * 2 = 4
-  arc 5: 3 -> 4, 4 * 1 = 4
-  arc 3: 2 -> 3, 2 * 1 = 2
-4 + 4 + 4 + 2 = 14, the cost
-{explained_yes.BOUND}
-{explained_yes.SAME}: 1
-  node 1: 4 * 4
-16
-{explained_yes.LEAST}: 1
-  arc 2: 1 -> 3, r = 2 - 4 + 1 = -1, CAP 2
--2
-16 - 2 = 14: no flow costs less
-another flow of this cost can differ only on arcs with r = 0, 3 of 5: 1 3 5
-"""),
-    ("judge-min I S P", {"I": f"p min 2 1\nn 1 {2**62}\nn 2 -{2**62}\na 1 2 0 {2**62} 0\n", "S": f"s 0\nf 1 2 {2**62}\n", "P": f"p pot 2 2\ny 1 {10**30}\ny 2 {10**30}\n"}, f"""\
-no arc with flow has a COST: the cost is 0
-{explained_yes.BOUND}
-some of these numbers don't fit 128 bits, so they are left out
-another flow of this cost can differ only on arcs with r = 0, 1 of 1: 1
-"""),
-    ("judge-infeasible I C", {"I": "p min 3 3\nn 1 5\nn 3 -5\na 1 2 0 4 0\na 2 1 1 2 0\na 2 3 0 9 0\n", "C": CUT.replace("4", "3")}, """\
-in the set, 1 of the 3 nodes: 1
-its supply: 5
-arcs out of it: 1
-  arc 1: 1 -> 2, CAP 4
-arcs into it: 1
-  arc 2: 2 -> 1, LOW 1
-these bounds add up to 4 out of it, and 1 into it
-so what leaves it, less what enters it, is at most 4 - 1 = 3, but has to be its supply, 5: no flow is feasible
-"""),
+    ("", "certify-max I S A", {"I": "p max 2 8\nn 1 s\nn 2 t\n" + "".join(f"a 1 2 {k}\n" for k in range(1, 9)), "S": "s 36\n" + "".join(f"f 1 2 {k}\n" for k in range(1, 9))}, ["  arc 6: 1 -> 2, CAP 6\n  all others: 15\n1 + 2 + 3 + 4 + 5 + 6 + 15 = 36, the value"]),
+    ("", "judge-min MI S P", {"S": LEAST}, ["  arc 5: 3 -> 4, 4 * 1 = 4\n", "4 + 4 + 4 + 2 = 14, the cost\n", "  node 1: 4 * 4\n16\n", "  arc 2: 1 -> 3, r = 2 - 4 + 1 = -1, CAP 2\n-2\n16 - 2 = 14: no flow costs less\n", "3 of 5: 1 3 5\n$"]),
+    ("", "judge-infeasible I C", {"I": "p min 3 3\nn 1 5\nn 3 -5\na 1 2 0 4 0\na 2 1 1 2 0\na 2 3 0 9 0\n", "C": "p cut 3 1\nu 1\n"}, ["its supply: 5\n", "  arc 1: 1 -> 2, CAP 4\n", "  arc 2: 2 -> 1, LOW 1\n", "is at most 4 - 1 = 3, but has to be its supply, 5: no flow is feasible\n$"]),
     # Node 1 takes 5, and at most 4 can come.
-    ("certify-infeasible I", {"I": "p min 2 2\nn 1 -5\nn 2 5\na 2 1 0 4 0\na 1 2 1 2 0\n"}, """\
-in the set, 1 of the 2 nodes: 2
-its supply: 5
-arcs out of it: 1
-  arc 1: 2 -> 1, CAP 4
-arcs into it: 1
-  arc 2: 1 -> 2, LOW 1
-these bounds add up to 4 out of it, and 1 into it
-so what leaves it, less what enters it, is at most 4 - 1 = 3, but has to be its supply, 5: no flow is feasible
-"""),
-    ("judge-infeasible I C", {"I": "p min 2 2\nn 1 -5\nn 2 5\na 2 1 0 4 0\na 1 2 1 2 0\n", "C": CUT.replace("4", "2")}, """\
-in the set, 1 of the 2 nodes: 1
-its supply: -5
-arcs out of it: 1
-  arc 2: 1 -> 2, LOW 1
-arcs into it: 1
-  arc 1: 2 -> 1, CAP 4
-these bounds add up to 1 out of it, and 4 into it
-so what leaves it, less what enters it, is at least 1 - 4 = -3, but has to be its supply, -5: no flow is feasible
-"""),
-    ("judge-paths G Q L", {"G": OUT, "Q": "p aux sp p2p 3\nq 1 3\nq 1 1\nq 1 4\n", "L": "p dist 4 1\nt 1 2\nd 2 5 1\nd 3 9 2\n"}, f"""\
-1 -> 2 -> 3: 5 + 4 = 9
-1 to itself, without an arc: 0
-no walk from 1 to 4: no arc leads out of the nodes that 1 reaches, 3: 1 2 3
-{explained_yes.SHORTEST}
-"""),
-    ("judge-paths G Q L", {"G": NEAR, "Q": "p aux sp p2p 1\nq 1 3\n", "L": "p dist 4 1\nt 1 1 6\nd 2 5 1\n"}, """\
-no walk from 1 to 3 weighs at most 6, the RADIUS: each arc from a node with a label to one without leads past it, and no WEIGHT is negative
-"""),
-    ("judge-paths G Q L", {"G": OUT, "L": "p dist 4 2\nt 1 2\nd 2 5 1\nd 3 9 2\nt 4 1\nd 3 0 4\n"}, f"""\
-the farthest node from 1, of 2 that it reaches: 1 -> 2 -> 3: 5 + 4 = 9
-the other nodes can't be reached: no arc leads to them from these
-{explained_yes.SHORTEST}
-"""),
+    ("", "certify-infeasible I A", {"I": SURPLUS}, ["1 of the 2 nodes: 2\n", "at most 4 - 1 = 3, but has to be its supply, 5: "]),
+    ("", "judge-infeasible I C", {"I": SURPLUS, "C": "p cut 2 1\nu 1\n"}, ["its supply: -5\n", "  arc 2: 1 -> 2, LOW 1\n", "  arc 1: 2 -> 1, CAP 4\n", "at least 1 - 4 = -3, but has to be its supply, -5: "]),
+    ("", "judge-paths G Q L", {"G": OUT, "Q": "p aux sp p2p 3\nq 1 3\nq 1 1\nq 1 4\n", "L": "p dist 4 1\nt 1 2\nd 2 5 1\nd 3 9 2\n"}, ["1 -> 2 -> 3: 5 + 4 = 9\n1 to itself, without an arc: 0\nno walk from 1 to 4: no arc leads out of the nodes that 1 reaches, 3: 1 2 3\n"]),
+    ("", "judge-paths G Q L", {"G": NEAR, "Q": "p aux sp p2p 1\nq 1 3\n", "L": "p dist 4 1\nt 1 1 6\nd 2 5 1\n"}, ["no walk from 1 to 3 weighs at most 6, the RADIUS: "]),
+    ("", "judge-paths G Q L", {"G": OUT, "L": "p dist 4 2\nt 1 2\nd 2 5 1\nd 3 9 2\nt 4 1\nd 3 0 4\n"}, ["the farthest node from 1, of 2 that it reaches: 1 -> 2 -> 3: 5 + 4 = 9\nthe other nodes can't be reached: "]),
     # Eight arcs: 1 + 2 + 3 + 4 + 5 + 6, then 7 + 8.
-    ("certify-paths G D", {"G": FAR, "D": FAR_CLAIM}, f"""\
-the farthest node from 1, of 8 that it reaches: 1 -> 2 -> 3 -> 4 -> 5 -> 6 -> 7 -> .. -> 9: 1 + 2 + 3 + 4 + 5 + 6 + 15 = 36
-{explained_yes.SHORTEST}
-"""),
-    ("solve-max I S C", {"I": "p max 3 1\nn 1 s\nn 3 t\na 1 2 5\n"}, """\
-on the source's side of the cut, 2 of the 3 nodes: 1 2
-arcs into it, all empty: 0
-arcs out of it, all full: 0
-no flow reaches the sink, so none has a value above 0
-"""),
-    ("certify-paths G D", {"D": "p distances 4 0\n"}, "no distance is claimed: there is no block\n"),
-    ("convert cut C", {}, ""),
-    ("spread-max I S O", {}, ""),
+    ("", "certify-paths G D A", {"G": FAR, "D": FAR_CLAIM}, ["1 -> 2 -> 3 -> 4 -> 5 -> 6 -> 7 -> .. -> 9: 1 + 2 + 3 + 4 + 5 + 6 + 15 = 36\n"]),
+    ("", "solve-max I S C", {"I": "p max 3 1\nn 1 s\nn 3 t\na 1 2 5\n"}, ["2 of the 3 nodes: 1 2\n", "no flow reaches the sink, so none has a value above 0\n"]),
+    ("", "certify-paths G D A", {"D": "p distances 4 0\n"}, ["no distance is claimed: there is no block\n"]),
+]
+
+# What the reader doesn't know: sums of more than 128 bits, and no explanation.
+OTHERS = [
+    ("", "judge-min I S P", LARGE, ["COST: the cost is 0\n", "some of these numbers don't fit 128 bits, so they are left out\n", "1 of 1: 1\n$"]),
+    ("", "convert cut C", {}, ["$"]),
+    ("", "spread-max I S O", {}, ["$"]),
 ]
 
 
@@ -295,36 +240,33 @@ def run(binary, words, place):
     return subprocess.run([binary, *words.split()], capture_output=True, cwd=place.folder, check=False)
 
 
-def explained(binary, words, texts):
-    """A run over the texts of a case, and its explanation."""
+def explained(binary, case):
+    """What a run over the texts of a case prints without and with lines that explain it, and those of the second reader."""
+    _, words, texts, _ = case
     for how in ("", "explain "):
         with place_with({**TEXTS, **texts}) as place:
-            yield run(binary, how + words, place)
+            ran = run(binary, how + words, place)
+            yield ran.returncode, ran.stdout.decode(), explained_yes.lines(words, place.read) if case in YES else ""
 
 
 def fault_of(binary, case):
     """What is wrong with the explanation of a case; none if nothing is."""
-    reason, words, texts, parts = case
-    plain, again = explained(binary, words, texts)
-    if not plain.stdout.decode().rstrip("\n").endswith(" " + reason):
-        return f"prints {plain.stdout} without explain"
-    if again.returncode != plain.returncode or not again.stdout.startswith(plain.stdout):
-        return f"status {again.returncode}, prints {again.stdout}"
-    printed = again.stdout[len(plain.stdout) :].decode()
+    reason, _, _, parts = case
+    (status, plain, _), (explained_status, printed, lines) = explained(binary, case)
+    if status != (reason > "") or not plain.endswith(f" {reason}\n" * (reason > "")):
+        return f"prints {plain} without explain"
+    if explained_status != status or not printed.startswith(plain):
+        return f"status {explained_status}, prints {printed}"
+    explanation = printed[len(plain) :]
+    if case in YES and explanation != lines:
+        return f"prints\n{explanation}instead of\n{lines}"
     place = 0
     for part in parts:
-        found = printed.find(part, place)
+        found = f"{explanation}$".find(part, place)
         if found < 0:
-            return f"lacks {part!r}:\n{printed}"
+            return f"lacks {part!r}:\n{explanation}"
         place = found + len(part)
     return None
-
-
-def yes_fault(binary, words, texts, lines):
-    """What is wrong with the explanation of a yes; none if nothing is."""
-    plain, again = explained(binary, words, texts)
-    is_right = (plain.returncode, again.returncode, again.stdout) == (0, 0, plain.stdout + lines.encode())
-    return None if is_right else f"status {again.returncode}, prints\n{again.stdout.decode()}"
 
 
 # Of a pipe that gives more MB than are kept, the numbers aren't there to be explained.
@@ -364,7 +306,7 @@ its lines are `p sp NODES ARCS`, `a TAIL HEAD WEIGHT`, and comments, which begin
 def shell_runs(binary):
     """Runs that a shell makes: the commands, their status and what they print."""
     for size in (0, 60, 70):
-        lines = LEFT_OUT_NUMBERS if size > MOST_KEPT else YES[0][2]
+        lines = LEFT_OUT_NUMBERS if size > MOST_KEPT else explained_yes.lines("judge-max I S C", TEXTS.get)
         yield PIPE.format(binary, size), 0, f"v max 6\n{lines}"
     yield TWICE.format(binary), 1, f"x solution 1 0 SolutionMissing\n{LEFT_OUT_LINES}"
     yield LONG.format(binary, MOST_KEPT + 6), 1, f"x solution 1 2 NotMaximum\n{LEFT_OUT_LINES}{OF_BETTER}"
@@ -389,26 +331,20 @@ def reader_faults(binary, count, seed):
 
 def texts_faults(binary, place, kind):
     """Solves the instance I, or answers the queries C, then judges and certifies what was written."""
-    first = run(binary, f"explain solve-{kind} I C K", place).stdout.decode()
-    runs = [(f"solve-{kind} I C K", "K"), (f"judge-{kind} I C K", "K")]
-    reader = {"max": explained_yes.maximum, "min": explained_yes.least, "paths": explained_yes.distances}[kind]
-    if first.startswith("v infeasible"):
-        runs = [(f"solve-{kind} I C K", "K"), ("judge-infeasible I K", "K"), ("certify-infeasible I A", "A"), ("certify-infeasible I", "A")]
-        reader = explained_yes.infeasible
+    runs = [f"solve-{kind} I C K", f"judge-{kind} I C K"]
+    if run(binary, runs[0], place).stdout.startswith(b"v infeasible"):
+        runs = [runs[0], "judge-infeasible I K", "certify-infeasible I A"]
     elif kind == "paths":
         place.write("D", explained_yes.distances_text(place.read("K")))
-        place.write("N", "")
-        runs += [("certify-paths I D A", "A"), ("certify-paths I D", "A")]
+        runs += ["certify-paths I D A"]
     else:
-        runs += [(f"certify-{kind} I C A", "A"), (f"certify-{kind} I C", "A")]
-    for words, certificate in runs:
+        runs += [f"certify-{kind} I C A"]
+    # The last once more without a name for its certificate, which is the same.
+    for words, named in [*zip(runs, runs), (runs[-1].removesuffix(" A"), runs[-1])]:
         plain = run(binary, words, place).stdout.decode()
         printed = run(binary, f"explain {words}", place).stdout.decode()
-        claim = "N" if words.startswith("certify-paths") else "C"
-        names = ["I", certificate] if reader is explained_yes.infeasible else ["I", claim, certificate]
-        texts = [*map(place.read, names)]
-        lines = "".join(f"{line}\n" for line in reader(*texts))
-        yield None if printed == plain + lines else f"{words}: {texts}\n{printed}instead of\n{plain}{lines}"
+        lines = explained_yes.lines(named, place.read)
+        yield None if printed == plain + lines else f"{words}:\n{printed}instead of\n{plain}{lines}"
 
 
 def reasons():
@@ -420,8 +356,7 @@ def reasons():
 def main():
     binary, count, seed = [*sys.argv[1:], *[BINARY, "150", "1"][len(sys.argv) - 1 :]]
     binary = os.path.abspath(binary)
-    faults = [(f"{case[0]}: explain {case[1]}", fault_of(binary, case)) for case in CASES + UNREAD]
-    faults += [(f"explain {case[0]}", yes_fault(binary, *case)) for case in YES]
+    faults = [(f"{case[0]}: explain {case[1]}", fault_of(binary, case)) for case in CASES + UNREAD + YES + OTHERS]
     faults += [(it[0], shell_fault(*it)) for it in shell_runs(binary)]
     faults += [("explain", fault) for fault in reader_faults(binary, int(count), int(seed))]
     missing = reasons() - {case[0] for case in CASES} - LEFT_OUT

@@ -1,6 +1,6 @@
-"""Expected explanations of yeses, worked out by hand, and a second reader of such explanations.
+"""A second reader of texts that writes the lines which explain a yes.
 
-The reader knows the forms of the lines. It computes each number anew by its definition, from the texts alone.
+It knows the forms of the lines. It computes each number anew by its definition, from the texts alone.
 """
 import random
 
@@ -265,6 +265,21 @@ def farthest(arcs, nodes, source, radius, by_node):
         yield f"{source} reaches no other node: no arc leads from it to another"
     else:
         yield f"no other node is within {radius}, the RADIUS, of {source}: each arc from it to another leads past it"
+
+
+READERS = {"max": maximum, "min": least, "infeasible": infeasible, "paths": distances}
+
+
+def lines(words, read):
+    """What explains the yes of a command over texts, which `read` reads by their names."""
+    command, *names = words.split()
+    kind = command.partition("-")[2]
+    texts = [*map(read, names)]
+    if command == "solve-min" and texts[-1].startswith("p cut"):
+        kind, texts = "infeasible", [texts[0], texts[-1]]
+    if command == "certify-paths":
+        texts[1] = ""
+    return "".join(f"{it}\n" for it in READERS[kind](*texts))
 
 
 def random_texts(rng):
