@@ -123,8 +123,9 @@ no file.",
     Note {
         of: &["certify"],
         text: "\
-A certify run needs no certificate. It writes one to CERTIFICATE or LABELS, if
-it is named, or a better or a feasible solution, once the other files are read.",
+A certify run needs no certificate. It WRITES one to CERTIFICATE or LABELS, if
+it is named, or a better or a feasible solution, once the other files are read:
+what is there is replaced. To judge by a certificate, give it to a judge run.",
     },
     Note {
         of: &["solve"],
