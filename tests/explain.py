@@ -165,6 +165,7 @@ CASES = [
     ("UnknownLine", "convert gr T", {"T": b"\x7fELF\r\0\0"}, ["no line of a graph (gr) begins with"]),
     ("FieldCount", "convert gr T", {"T": "p sp 1 1\ra 1 1 0\r"}, ["lines end by a carriage return alone"]),
     ("BadWord", "convert gr T", {"T": MAX}, ["that of a maximum flow instance (max), and a graph (gr) is wanted"]),
+    ("ProblemMissing", "convert query T", {"T": "s 1\n"}, ["T:1: s 1\na line `p aux sp ss|p2p K` has to stand first"]),
     # Files in each other's place.
     ("UnknownLine", "judge-max S I C", {}, ["S:1: s 6", "the line is that of a solution (solution), and a maximum flow instance (max) is wanted\nthe files S and I are exchanged\n$"]),
     ("UnknownLine", "certify-max S I", {"S": "c a flow\nf 1 2 4\ns 6\n"}, ["S:2: f 1 2 4", "the files S and I are exchanged\n$"]),

@@ -105,11 +105,11 @@ impl<'a> FaultLine<'a> {
 
     /// Takes the line of the fault.
     fn see(&mut self, alloc: Global, line: &[u8], field: u32) -> Result<(), Memory> {
-        if !self.before.has_record {
+        self.form = form_of(self.text.kind, text_at(line, 1)).unwrap_or("p");
+        if !self.before.has_record && self.form.starts_with('p') {
             self.found = kind_of(line).filter(|kind| *kind != self.text.kind);
             self.other = self.found.map(kind_words).or(unread_kind(line));
         }
-        self.form = form_of(self.text.kind, text_at(line, 1)).unwrap_or("p");
         self.name = field_name(self.form, field);
         self.fields = count_fields(line);
         let whole = text_at(line, field);
