@@ -89,7 +89,8 @@ export class AskedOfArrays {
         const [verb, kind] = command.split("-"), count = command === "certify-infeasible" ? 1 : VERBS[verb][0];
         const made = namesOf(command).slice(0, count).map((name) => this.#text(kind, name));
         if (this.arrays.better) made.push(this.#solution(this.arrays.better));
-        const [first, ...more] = made.includes(null) ? ["x"] : explanation(command, made, "better", NO_FILE + NO_FILE).split("\n");
+        const told = made.includes(null) ? "x" : explanation(command, made, "better", NO_FILE + NO_FILE);
+        const [first, ...more] = told.split("\n");
         if (!printed && first.startsWith("x ")) return CHANGED;
         if (printed && !isSame(first, printed)) return `${printed}\n${this.#own(printed) ?? said}\n`;
         return [printed ?? first, ...more].join("\n").replace(MARKS, "");

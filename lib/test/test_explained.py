@@ -165,7 +165,9 @@ class Arrays(Explained):
         """No line speaks of lines, orders or bounds that arrays don't have."""
         inf, most = float("inf"), 2**63 - 1
         wide = self.refused(dimacs.judge_max_arrays, 2, 1, 2, [1, 1], [2, 2], [1, inf], [3, -most], [True, False])
-        self.assertEqual(wide, "x arc 1 AboveCap\narc 1: 1 -> 2, CAP 1\narc 1: 1 -> 2, FLOW 3\narc 1 carries 3, more than its CAP, 1\n")
+        ends = "arc 1: 1 -> 2"
+        carries = "arc 1 carries 3, more than its CAP, 1"
+        self.assertEqual(wide, f"x arc 1 AboveCap\n{ends}, CAP 1\n{ends}, FLOW 3\n{carries}\n")
         far = 4, [1, 2, 3], [2, 3, 4], [5, 4, 0], 1
         late = self.refused(dimacs.judge_paths_arrays, *far, [0, 5, 10, 10], [0, 1, 2, 3])
         self.assertEqual(late.splitlines()[:2], ["x node 3 NoTightArc", "node 3: distance 10, predecessor 2"])

@@ -128,7 +128,6 @@ static void explains(void) {
     explained("explain judge-max I S C", flow, 2, "");
     explained("help", flow, 2, "");
     explained("", flow, 2, "");
-    uint32_t status = dimacs_explain(TEXT("judge-max a a a"), TEXT(max), TEXT(flow), TEXT(cut), OUT);
     static const char of_arrays[] = "judge-max \0\0I \0\0S \0\0C";
     CHECK("texts that stand for arrays", dimacs_explain((const uint8_t *)of_arrays, sizeof of_arrays - 1, TEXT(max),
           TEXT("s 4\nf 1 2 4\n"), TEXT(cut), OUT), 1,
@@ -137,6 +136,7 @@ static void explains(void) {
           "entries out of it: 0\n"
           "entries into it: 1\n"
           "  arc \0011: \0021 -> \0022, FLOW 4\n");
+    uint32_t status = dimacs_explain(TEXT("judge-max a a a"), TEXT(max), TEXT(flow), TEXT(cut), OUT);
     static const char quoted[] = "x solution 1 1 UnknownLine\na:1: p max 4 5\n";
     check_that("a name that stands twice has its first text", status == 1 && !memcmp(out, quoted, strlen(quoted)));
     status = dimacs_explain(NULL, 0, NULL, 0, NULL, 0, NULL, 0, NULL, 0, &needed);

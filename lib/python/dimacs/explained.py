@@ -195,7 +195,8 @@ class AskedOfArrays(Asked):
         no = library.refusal(str(self.printed).encode("ascii"))
         if no.reason != "NotShortest" or no.node != self._given.number("source"):
             return self.said
-        return f"node {_NODE}{no.node} is the source: its distance has to be 0, and is {self._column(DISTANCES)[no.node - 1]}"
+        distance = self._column(DISTANCES)[no.node - 1]
+        return f"node {_NODE}{no.node} is the source: its distance has to be 0, and is {distance}"
 
     def _plain(self, line: str) -> str:
         """A line without marks, with inf as the capacity of an arc that has no limit."""
