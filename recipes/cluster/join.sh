@@ -1,8 +1,12 @@
 #!/bin/sh
-# The end of slurm.sh and of parallel.sh, joins the tables that are there: join.sh DIMACS_BATCH SHARDS TABLE
-batch=$1 shards=$2 table=$3
+# The end of slurm.sh and of parallel.sh, joins the tables that are there: join.sh DIMACS_BATCH PARTS TABLE
+batch=$1 parts=$2 table=$3
 set --
-for shard in $(seq "$shards"); do
-    [ ! -e "$table.$shard" ] || set -- "$@" "$table.$shard"
+for part in $(seq "$parts"); do
+    [ ! -e "$table.$part" ] || set -- "$@" "$table.$part"
 done
+if [ $# = 0 ]; then
+    echo "$table: no part has written a table" >&2
+    exit 2
+fi
 exec "$batch" --join --output "$table" "$@"
