@@ -80,7 +80,8 @@ def cases():
             for name, message in warnings(os.path.join(out, page)):
                 yield f"{page}: {name}: {message}", not message
     for page, what, words in wanted():
-        yield f"{page}: no {what} {words}", words in pages[page]
+        text = re.sub("[,:] ", " ", pages[page]) if what == "column" else pages[page]
+        yield f"{page}: no {what} {words}", words in text
 
 
 if __name__ == "__main__":

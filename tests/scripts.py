@@ -29,7 +29,7 @@ nothing | 400    | tests/links.py
 nothing | 14     | tests/theorem.py
 nothing | 110    | tests/man_pages.py
 program | 11400  | tests/referee.py {program}
-program | 51     | tests/batch.py {program}
+program | 290    | tests/batch.py {program}
 program | 150    | tests/large_runs.py {program}
 program | 40     | tests/malicious.py {program} 50000
 program | 101    | tests/refusals.py {program}
