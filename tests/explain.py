@@ -295,7 +295,7 @@ v max 6
 on the"""
 
 # A line of what a pipe gave, which is empty the second time.
-GIVEN = "mkfifo pipe; printf 'p sp 1 1\\ne 1 1 0\\n' >pipe & timeout 20 '{}' explain show gr pipe"
+GIVEN = "mkfifo pipe; printf 'p sp 1 1\\ne 1 1 0\\n' >pipe & timeout 600 '{}' explain show gr pipe"
 OF_PIPE = """x instance 2 1 UnknownLine
 pipe:2: e 1 1 0
         ^
