@@ -1,4 +1,4 @@
-// The kinds of text, and what the answers are called.
+// The kinds of text, the commands over them, and what the answers are called.
 
 /** The kinds of text: their names, where each belongs, and what the numbers of a problem line are. */
 export const FORMATS = {
@@ -13,8 +13,120 @@ export const FORMATS = {
     dist: {name: "labels", slot: "certificate", counts: ["nodes", "sources"]},
 };
 
+// ---- texts
+
+/** A longer text is shown in part, since it would make the page slow. In bytes. */
+export const MOST_SHOWN = 2 ** 16;
+
+/** The most bytes in which the first lines are looked for, and those of a line that are looked at. */
+const MOST_OF_HEAD = 2 ** 24, MOST_OF_LINE = 2 ** 20;
+const NEWLINE = 10;
+
+const latin = new TextDecoder("latin1"), unicode = new TextDecoder(), utf8 = new TextEncoder();
+
+/** How often a text has a byte. */
+function countOf(byte, bytes) {
+    let count = 0;
+    for (let at = bytes.indexOf(byte); at >= 0; at = bytes.indexOf(byte, at + 1)) count++;
+    return count;
+}
+
+/** So many of something. */
+const many = (count, name) => `${count.toLocaleString("en")} ${name}${count === 1 ? "" : "s"}`;
+
+/** What is shown of a text, whole lines if it has any, and how much more there is. */
+export function shown(bytes) {
+    const lines = bytes.lastIndexOf(NEWLINE, MOST_SHOWN - 1) + 1;
+    const end = bytes.length <= MOST_SHOWN ? bytes.length : lines || MOST_SHOWN, rest = bytes.subarray(end);
+    const unended = rest.length > 0 && rest.at(-1) !== NEWLINE ? 1 : 0;
+    const more = lines ? many(countOf(NEWLINE, rest) + unended, "more line") : many(rest.length, "more byte");
+    return {text: unicode.decode(bytes.subarray(0, end)), more: rest.length ? more : ""};
+}
+
+/** The place after the end of the line that begins at a place. */
+function afterLine(bytes, at) {
+    const end = bytes.indexOf(NEWLINE, at);
+    return end < 0 ? bytes.length : end + 1;
+}
+
+/** Whether a byte separates fields. */
+const isBlank = (byte) => byte === 32 || (byte > 8 && byte < 14 && byte !== NEWLINE);
+
+/** The first byte of a line that isn't blank: a comment is passed by it ten times as fast as by its fields. */
+function firstByte(bytes, at, end) {
+    while (at < end && isBlank(bytes[at])) at++;
+    return at < end ? bytes[at] : NEWLINE;
+}
+
+/** The fields of the first two lines that are neither blank nor comments. */
+function firstRecords(bytes) {
+    const records = [], most = Math.min(bytes.length, MOST_OF_HEAD);
+    for (let at = 0; at < most && records.length < 2; at = afterLine(bytes, at)) {
+        const end = Math.min(afterLine(bytes, at), at + MOST_OF_LINE), first = firstByte(bytes, at, end);
+        if (first === NEWLINE || first === 99) continue;
+        records.push(latin.decode(bytes.subarray(at, end)).split(/\s+/).filter(Boolean));
+    }
+    return records;
+}
+
+/** The kind of each word of a problem line. */
+const WORDS = {sp: "gr", aux: "query"};
+for (const it of ["max", "min", "cut", "pot", "dist", "distances"]) WORDS[it] = it;
+
+/** The kind of a text by its first record, or null. */
+function kindOf([letter, word] = []) {
+    if (letter === "s" || letter === "f") return "solution";
+    return letter === "p" && Object.hasOwn(WORDS, word ?? "") ? WORDS[word] : null;
+}
+
+/** What there is to say of a text. */
+function described(kind, fields, size) {
+    const numbers = fields.slice(kind === "query" ? 4 : 2);
+    const counts = (FORMATS[kind]?.counts ?? []).map((it, i) => `${numbers[i] ?? "?"} ${it}`);
+    const name = kind ? FORMATS[kind].name : "no kind of text that is known here";
+    return [name, ...counts, size < 10000 ? `${size} bytes` : `${(size / 1e6).toFixed(1)} MB`].join(", ");
+}
+
+/** A text, with the name of the file that it came from. */
+export function textOf(source, file = "") {
+    const bytes = typeof source === "string" ? utf8.encode(source) : source, records = firstRecords(bytes);
+    const kind = kindOf(records[0]), about = described(kind, records[0] ?? [], bytes.length);
+    return {bytes, file, records, kind, about, bad: "", ...shown(bytes)};
+}
+
+// ---- commands
+
+/** The kinds of instance, claim and certificate for each kind of claim. */
+const NEEDED = {
+    max: ["max", "solution", "cut"],
+    min: ["min", "solution", "pot"],
+    infeasible: ["min", null, "cut"],
+    paths: ["gr", "distances", "dist"],
+};
+
+/** The command for what is asked, the texts that it reads, and what is missing. A certificate may be left out. */
+export function planned({what, kind, isAlone}, slots) {
+    const [instance, claim, certificate] = NEEDED[kind], given = slots.claim.kind, isSolved = what === "solve";
+    const has = (slot) => slots[slot].bytes.length > 0;
+    const isJudged = !isSolved && !isAlone && has("certificate") && given !== "distances";
+    const isAsked = kind === "paths" && (isSolved || isJudged || given === "query");
+    const name = isAsked ? "query" : claim;
+    const reads = [{name: "instance", slot: "instance", wanted: instance}];
+    if (isAsked || (claim && !isSolved)) reads.push({name, slot: "claim", wanted: name});
+    if (isJudged) reads.push({name: "certificate", slot: "certificate", wanted: certificate});
+    const verb = isSolved ? "solve" : isJudged ? "judge" : "certify";
+    const lacked = reads.find((it) => !has(it.slot))?.wanted;
+    const isUnasked = isSolved && isAsked && given !== "query", isUnlabelled = isAsked && verb === "certify";
+    let missing = lacked && FORMATS[lacked].name;
+    if (!missing && isUnlabelled) missing = "labels as the certificate, which Solve makes";
+    if (has("instance") && isUnasked) missing = "queries, as p aux sp ss 1 and s 1 on two lines";
+    return {verb, kind: isSolved && kind === "infeasible" ? "min" : kind, certificate, reads, missing};
+}
+
+// ---- answers
+
 /** What the reasons of refusals say of a claim. All others are faults of a text. */
-export const REASONS = {
+const REASONS = {
     wrong: "UnknownArc ArcTwice BelowLow AboveCap Balance ValueDiffers NotMaximum NotLeast Feasible Escapes NotShortest",
     notShown: "SourceOutside SinkInside NotSaturated BackFlow NotTight NotViolated NoTightArc NodesDiffer BlockMissing",
     unfit: "QueryNode NodesDiffer",
@@ -34,13 +146,38 @@ function faultOf(reason, text) {
     return `${title} ${isMany ? "have" : "has"} a fault`;
 }
 
+/** The first byte of "more", which no other answer to a pair has. */
+const M = 109;
+
+/** What answers to pairs say, of which some may only say that the distance is more than a radius; or nothing. */
+function claimedOfPairs(line, {certificate}, pairs, far) {
+    const [, from, to] = line.split(" "), [problem, block] = certificate?.records ?? [];
+    if (far === pairs) return "";
+    if (pairs === 1) return `the distance from ${from} to ${to}`;
+    if (!far) return `the distances of ${many(pairs, "pair")}`;
+    const within = Number(problem[3]) === 1 ? `from ${from} within ${BigInt(block[3])}` : "within their radius";
+    return `the distances ${within}, of ${pairs - far} of ${many(pairs, "pair")}`;
+}
+
+/** What a yes says, or nothing. */
+function claimed({line, judged, printed}) {
+    const [, kind, value, sources] = line.split(" "), texts = Object.fromEntries(judged.map((it) => [it.slot, it]));
+    if (Number(kind)) return claimedOfPairs(line, texts, countOf(NEWLINE, printed), countOf(M, printed));
+    if (kind === "max") return `the flow of value ${value} is maximum`;
+    if (kind === "min") return `the flow of cost ${value} costs least`;
+    if (kind === "infeasible") return "no flow is feasible";
+    if (Number(sources) > 1) return `the distances from ${many(Number(sources), "source")}`;
+    return sources === "1" && `the distances from ${Number(texts.claim.records[1][1])}`;
+}
+
 /** The heading of an answer, whether it is a yes or a no, and whether a claim may hold without the certificate given. */
-export function headed({what, command, status, line, judged}) {
-    const isSolved = what === "solve";
-    if (status === 0 && /^(v sp \w+ 0)?$/.test(line)) {
-        return {heading: isSolved ? "Nothing was asked" : "Nothing was claimed", state: "open"};
+export function headed(answer) {
+    const {what, command, status, line, judged} = answer, isSolved = what === "solve";
+    if (status === 0) {
+        const claim = claimed(answer), state = claim && !isSolved ? "yes" : "open";
+        if (!claim) return {heading: isSolved ? "Nothing was asked" : "Nothing was claimed", state};
+        return {heading: `${isSolved ? "Solved" : "Yes"}: ${claim}`, state};
     }
-    if (status === 0) return {heading: isSolved ? "Solved." : "Yes.", state: "yes"};
     if (status !== 1) {
         return {heading: "Undecided: the solver reached its limit, or the cost is out of range", state: "open"};
     }

@@ -1,5 +1,5 @@
-// The page: shows texts and answers, and asks the worker.
-import {FORMATS, headed} from "./kinds.js";
+// The page: keeps the texts, shows them and the answers, and asks the worker.
+import {FORMATS, MOST_SHOWN, headed, planned, shown, textOf} from "./kinds.js";
 
 const $ = (id) => document.getElementById(id);
 const SLOTS = ["instance", "claim", "certificate"];
@@ -7,176 +7,16 @@ const SLOTS = ["instance", "claim", "certificate"];
 const PROVED = "Every function that decides here is proved. Its translation to WebAssembly, this page and your browser aren't.";
 const UNPROVED = "This page was built of code that is not proved.";
 
-/** The longest that typing pauses before a text is read, in milliseconds. */
-const PAUSE = 250;
-
 const TITLE = document.title;
 const NO_SUM = "no SHA-256, which a browser computes for pages from a file, https or localhost";
 
-/** What stands in each slot: the string or file, its name, whether the worker has it, and with which texts it came. */
-const slots = Object.fromEntries(SLOTS.map((slot) => [slot, {source: "", name: "", isHeld: true, came: 0}]));
-let worker, waiting, running = false, pending = Promise.resolve();
-
-/** Ends a run that waits for its texts. */
-let halt;
+/** The text in each slot, and at which change it came. */
+const slots = Object.fromEntries(SLOTS.map((slot) => [slot, {...textOf(""), at: 0}]));
 
 /** The answer that is shown, and how often texts or the claim have changed. */
 let answered = null, changes = 0;
 
-// ---- the worker
-
-function startWorker() {
-    const code = new Blob([$("worker").textContent], {type: "text/javascript"}), url = URL.createObjectURL(code);
-    worker = new Worker(url);
-    waiting = new Map();
-    worker.onmessage = ({data}) => {
-        if (data.reading) return showReading(data);
-        const {good, bad} = waiting.get(data.id);
-        waiting.delete(data.id);
-        if (data.bad) bad(new Error(data.bad));
-        else good(data.good);
-    };
-    worker.onerror = (why) => fail(`This browser can't run it: ${why.message ?? "no worker"}`);
-    return ask("start", {module: $("module").textContent});
-}
-
-let count = 0;
-
-function ask(what, words) {
-    return new Promise((good, bad) => {
-        waiting.set(++count, {good, bad});
-        worker.postMessage({id: count, ask: what, ...words});
-    });
-}
-
-/** Ends a run: the worker can't be asked while it computes. The texts are held again, those that were just read at once. */
-async function stop() {
-    worker.terminate();
-    for (const it of Object.values(slots)) it.isHeld = it.source === "";
-    const message = answered ? "It was stopped before it was explained." : "Stopped: undecided.";
-    halt(new Error(message));
-    for (const {bad} of waiting.values()) bad(new Error(message));
-    await startWorker();
-}
-
-// ---- the texts
-
-function about(slot, text, isBad = false) {
-    const place = $(`about-${slot}`);
-    place.dataset.first ??= place.textContent;
-    place.textContent = text || place.dataset.first;
-    place.classList.toggle("bad", isBad);
-}
-
-/**
- * Hands a text to the worker, and shows what it says of it, unless another one was typed after `at` changes. With another
- * instance the last one's certificate goes.
- */
-async function hold({source, name, slot, came, at}) {
-    const by = worker;
-    try {
-        const got = await ask("hold", {source, file: name, slot}), {instance, certificate} = slots;
-        if (slots[got.slot].typed > at) return;
-        const isNext = got.slot === "instance" && instance.source !== "" && instance.came !== came;
-        slots[got.slot] = {source, name, isHeld: true, came};
-        show(got, source, name);
-        if (isNext && certificate.source !== "" && certificate.came !== came) {
-            await hold({source: "", name: "", slot: "certificate", came, at});
-            about("certificate", "The last instance's certificate was removed.");
-        }
-    } catch (why) {
-        if (by !== worker) return hold({source, name, slot, came, at});
-        if (slot && slots[slot].source === source) {
-            slots[slot] = {...slots[slot], source: "", isHeld: true};
-            $(slot).value = "";
-        }
-        about(slot ?? "instance", why.message, true);
-    }
-    ready();
-}
-
-function show({slot, kind, about: text, text: shown, isWhole}, source, name) {
-    const area = $(slot), isWrong = kind ? FORMATS[kind].slot !== slot : name !== "";
-    if (area.value !== (shown ?? source)) area.value = shown ?? source;
-    if (name) area.scrollTop = 0;
-    area.readOnly = !isWhole;
-    const notes = [isWrong && kind && "It doesn't belong here.", !isWhole && "Only its first lines are shown."];
-    about(slot, text && [`${name ? `${name}: ` : ""}${text}.`, ...notes].filter(Boolean).join(" "), isWrong);
-    if (slot === "certificate" && source !== "") $("more").open = true;
-    const claims = FORMATS[kind]?.claims ?? [];
-    if (slot === "instance" && claims.length && !claims.includes($("kind").value)) $("kind").value = claims[0];
-}
-
-/** Hands over one text after the other, so that the last one stays. */
-function take(source, name, slot, came) {
-    const at = changes, work = () => hold({source, name, slot, came, at});
-    pending = pending.then(work, work);
-    return pending;
-}
-
-/** Hands over what the worker doesn't have yet, as what was typed just now. */
-function flush() {
-    for (const slot of SLOTS) {
-        const {source, name, isHeld, came, timer} = slots[slot];
-        clearTimeout(timer);
-        if (!isHeld) take(source, name, slot, came);
-    }
-    return pending;
-}
-
-/** Texts that are given at once. Several files, or one beside the texts, go where their kinds belong. */
-function give(files, slot) {
-    flush();
-    const came = changed();
-    for (const it of files) take(it, it.name, files.length > 1 ? undefined : slot, came);
-}
-
-function typed(slot) {
-    clearTimeout(slots[slot].timer);
-    const now = {source: $(slot).value, name: "", isHeld: false, typed: changed()};
-    slots[slot] = {...slots[slot], ...now, timer: setTimeout(flush, PAUSE)};
-    ready();
-}
-
-function clear(slot) {
-    clearTimeout(slots[slot].timer);
-    slots[slot].isHeld = true;
-    $(slot).value = "";
-    return take("", "", slot, changed());
-}
-
-// ---- progress
-
-function showReading({reading, part}) {
-    $("progress").hidden = false;
-    $("progress").value = part;
-    $("doing").textContent = `Reading ${reading}: ${Math.round(100 * part)} %`;
-    if (part > 0.97 && !running) quiet();
-}
-
-function quiet() {
-    $("progress").hidden = true;
-    $("doing").textContent = "";
-}
-
-function ready() {
-    const isThere = slots.instance.source !== "";
-    $("check").disabled = $("solve").disabled = running || !isThere;
-    $("stop").hidden = !running;
-    if (!running) quiet();
-}
-
-function watch() {
-    const begun = performance.now();
-    $("progress").removeAttribute("value");
-    return setInterval(() => {
-        const seconds = Math.floor((performance.now() - begun) / 1000);
-        $("progress").hidden = false;
-        if (seconds > 0) $("doing").textContent = `Computing: ${seconds} s`;
-    }, 300);
-}
-
-// ---- the answer
+let running = false, reading = 0;
 
 function element(name, properties = {}, ...inside) {
     const it = Object.assign(document.createElement(name), properties);
@@ -184,9 +24,207 @@ function element(name, properties = {}, ...inside) {
     return it;
 }
 
-function button(text, run) {
-    return element("button", {type: "button", textContent: text, onclick: run});
+const button = (onclick, ...inside) => element("button", {type: "button", onclick}, ...inside);
+
+/** The name of a file, whose letters may run from right to left. */
+const bdi = (name) => element("bdi", {textContent: name});
+
+// ---- the worker
+
+/** The worker, and what ends the wait for its answer, or for a file. */
+let worker = null, stopped = () => {}, halted = new AbortController();
+
+/** Asks the worker, which answers one request after the other. */
+function ask(what, words) {
+    return new Promise((good, bad) => {
+        stopped = bad;
+        worker.onmessage = ({data}) => (data.bad ? bad(new Error(data.bad)) : good(data.good));
+        worker.onerror = ({message}) => bad(new Error(`No answer: ${message ?? "no worker"}.`));
+        worker.postMessage({what, ...words});
+    });
 }
+
+function startWorker() {
+    if (worker) return null;
+    worker = new Worker(URL.createObjectURL(new Blob([$("worker").textContent], {type: "text/javascript"})));
+    return ask("start", {module: $("module").textContent});
+}
+
+/** Ends a run: the worker can't be asked while it computes. */
+function stop() {
+    halted.abort();
+    halted = new AbortController();
+    if (!running) return;
+    worker.terminate();
+    worker = null;
+    stopped(new Error(answered ? "It was stopped before it was explained." : "Stopped: undecided."));
+}
+
+// ---- files
+
+/** Texts of more bytes are refused: an array of bytes can't be longer everywhere. */
+const MOST_BYTES = 2 ** 31 - 1;
+const TOO_LONG = "it has more than 2 GB, which is too much for this page. Use the command dimacs.";
+
+/** How compressed files begin. Those by gzip are unpacked. */
+const GZIP = [0x1f, 0x8b];
+const PACKED = {
+    bzip2: [0x42, 0x5a, 0x68],
+    xz: [0xfd, 0x37, 0x7a, 0x58, 0x5a],
+    zstd: [0x28, 0xb5, 0x2f, 0xfd],
+    zip: [0x50, 0x4b, 3, 4],
+};
+
+/** What is wrong with a file, in a sentence for the reader. */
+class Unreadable extends Error {}
+
+async function gathered(stream) {
+    const parts = [], reader = stream.getReader();
+    for (let length = 0; ; ) {
+        const {done, value} = await reader.read();
+        if (done) return new Uint8Array(await new Blob(parts).arrayBuffer());
+        length += value.length;
+        if (length > MOST_BYTES) throw new Unreadable(TOO_LONG);
+        parts.push(value);
+    }
+}
+
+/** The stream of a file, which shows how much has gone through. */
+function watched(file) {
+    let passed = 0;
+    const watch = new TransformStream({
+        transform(chunk, to) {
+            passed += chunk.length;
+            $("progress").value = passed / file.size;
+            $("doing").replaceChildren("Reading ", bdi(file.name));
+            to.enqueue(chunk);
+        },
+    });
+    return file.stream().pipeThrough(watch, {signal: halted.signal});
+}
+
+async function contentOf(file) {
+    if (file.size > MOST_BYTES) throw new Unreadable(TOO_LONG);
+    const head = new Uint8Array(await file.slice(0, 6).arrayBuffer());
+    const begins = (bytes) => bytes.every((it, i) => it === head[i]);
+    const packed = Object.keys(PACKED).find((it) => begins(PACKED[it]));
+    if (packed) throw new Unreadable(`it is packed by ${packed}: unpack it first. Only .gz is unpacked here.`);
+    if (!begins(GZIP)) return gathered(watched(file));
+    return gathered(watched(file).pipeThrough(new DecompressionStream("gzip")));
+}
+
+/** The text of a file; an empty one, and what is wrong, if it can't be read. */
+async function read(file) {
+    const name = file.name.replace(/[\p{Cc}\p{Zl}\p{Zp}]/gu, "\ufffd"), {signal} = halted;
+    try {
+        const bytes = await contentOf(file);
+        return {...textOf(bytes, name), bad: bytes.length ? "" : "it is empty."};
+    } catch (why) {
+        const isBroken = why instanceof TypeError ? "it can't be unpacked: it isn't whole, or no .gz file." : "";
+        const own = why instanceof Unreadable ? why.message : isBroken;
+        const bad = signal.aborted ? "it was stopped." : own || "it can't be read: it isn't a file, or has changed.";
+        return {...textOf("", name), bad};
+    }
+}
+
+/** Where a file goes: where its kind belongs, or if that isn't known, its name, or where no other came with it. */
+function slotOf({kind, file}, at) {
+    const kinds = [kind, ...file.split(".")].map((it) => FORMATS[it]?.slot);
+    return kinds.find(Boolean) ?? SLOTS.find((it) => slots[it].at !== at) ?? SLOTS[0];
+}
+
+/** Takes files that came at once. Several, or one beside the texts, go where their kinds belong. */
+async function give(files, slot) {
+    const at = changed(), texts = [];
+    reading++;
+    ready();
+    for (const it of files) texts.push(await read(it));
+    texts.sort((one, other) => Boolean(other.kind) - Boolean(one.kind));
+    for (const it of texts) put((texts.length === 1 && slot) || slotOf(it, at), it, at);
+    reading--;
+    ready();
+}
+
+// ---- texts
+
+function about(slot, isBad, ...parts) {
+    const place = $(`about-${slot}`);
+    place.dataset.first ??= place.textContent;
+    place.replaceChildren(...(parts.length ? parts : [place.dataset.first]));
+    place.classList.toggle("bad", isBad);
+}
+
+/**
+ * Puts a text into its slot, unless another one came after the change `at`. With another instance the last one's
+ * certificate goes.
+ */
+function put(slot, text, at) {
+    const last = slots[slot], {certificate} = slots;
+    if (last.at > at) return;
+    hold(slot, text, at);
+    if (last.at === at && last.file) $(`about-${slot}`).append(" Not ", bdi(last.file), ", which came with it.");
+    const isNext = slot === "instance" && last.bytes.length > 0 && last.at !== at;
+    if (!isNext || !certificate.bytes.length || certificate.at === at) return;
+    hold("certificate", textOf(""), at);
+    about("certificate", false, "The last instance's certificate was removed.");
+}
+
+function hold(slot, it, at) {
+    const {file, bytes, kind, text, more, bad} = it, area = $(slot), isOther = kind && FORMATS[kind].slot !== slot;
+    slots[slot] = {...it, at};
+    if (area.value !== text) area.value = text;
+    if (file) area.scrollTop = 0;
+    area.readOnly = more !== "";
+    const notes = [`${it.about}.`, isOther && "It doesn't belong here.", more && `${more} aren't shown.`].filter(Boolean);
+    const words = bad || (bytes.length ? notes.join(" ") : "");
+    about(slot, Boolean(bad || isOther || (file && !kind)), ...(file ? [bdi(file), ": "] : []), ...(words ? [words] : []));
+    if (slot === "certificate" && bytes.length) $("more").open = true;
+    const claims = FORMATS[kind]?.claims ?? [];
+    if (slot === "instance" && claims.length && !claims.includes($("kind").value)) $("kind").value = claims[0];
+    ready();
+}
+
+/** Takes files, or a text for an area that can't take it by itself. */
+function take(event, {files}, slot, text) {
+    const isOwn = slot && text && (text.length > MOST_SHOWN || $(slot).readOnly);
+    if (files.length) give([...files], slot);
+    else if (isOwn) put(slot, textOf(text), changed());
+    if (files.length || isOwn) event.preventDefault();
+}
+
+/** A paste makes a text of what is there. One that is shown in part it only replaces as a whole. */
+function pasted(event, slot) {
+    const {value, selectionStart: from, selectionEnd: to, readOnly} = $(slot), isPart = readOnly && to - from < value.length;
+    const added = event.clipboardData.getData("text/plain");
+    take(event, event.clipboardData, slot, !isPart && added && value.slice(0, from) + added + value.slice(to));
+}
+
+// ---- progress
+
+/** Offers what can be done now, and says what it needs. */
+function ready() {
+    const isBusy = running || reading > 0, needs = [];
+    for (const what of ["check", "solve"]) {
+        const {missing} = planned({what, kind: $("kind").value}, slots);
+        if (missing) needs.push(`${what === "check" ? "Check" : "Solve"} needs ${missing}.`);
+        $(what).disabled = Boolean(missing);
+        $(what).setAttribute("aria-disabled", isBusy);
+    }
+    $("needs").textContent = needs.join(" ");
+    $("stop").hidden = $("progress").hidden = !isBusy;
+    if (!isBusy) $("doing").textContent = "";
+}
+
+function watch() {
+    const begun = performance.now();
+    $("progress").removeAttribute("value");
+    return setInterval(() => {
+        const seconds = Math.floor((performance.now() - begun) / 1000);
+        if (seconds > 0) $("doing").textContent = `Computing: ${seconds} s`;
+    }, 300);
+}
+
+// ---- the answer
 
 /** A quoted line with its field marked, as the marks below it say. A press shows it where it stands. */
 function quoted(line, marks, judged) {
@@ -194,9 +232,10 @@ function quoted(line, marks, judged) {
     const begin = marks.lastIndexOf(" ") + 1, end = marks.length;
     const field = marks ? [element("mark", {textContent: line.slice(begin, end)})] : [];
     const parts = [line.slice(0, begin), ...field, line.slice(end)];
-    if (!place) return element("p", {className: "quote"}, ...parts);
-    const show = (isPressed) => select(place.slot, Number(number), isPressed);
-    return element("button", {type: "button", className: "quote", onclick: () => show(true), show}, ...parts);
+    const found = place && answered.state !== "past" && lineIn(place, Number(number));
+    if (!found) return element("p", {className: "quote"}, ...parts);
+    const show = (isPressed) => select(place.slot, found, isPressed);
+    return Object.assign(button(() => show(true), ...parts), {className: "quote", show});
 }
 
 /** The lines that explain an answer. */
@@ -210,21 +249,34 @@ function explained(text, judged) {
     });
 }
 
-/** Selects a line in its text. */
-function select(slot, line, isPressed) {
-    const area = $(slot), lines = area.value.split("\n");
-    if (line > lines.length) return;
-    const at = lines.slice(0, line - 1).reduce((sum, it) => sum + it.length + 1, 0);
-    if (isPressed) area.closest("details")?.setAttribute("open", "");
-    if (isPressed) area.focus();
-    area.setSelectionRange(at, at + lines[line - 1].length);
-    area.scrollTop = Math.max(0, (line - 4) * (area.scrollHeight / lines.length));
+/** Where a line of a text stands in its area, which has a line feed for each carriage return; null if it isn't shown. */
+function lineIn({text}, line) {
+    const lines = text.split("\n"), inArea = (some) => some.join("\n").replace(/\r\n?/g, "\n").length;
+    if (line > lines.length || (line === lines.length && lines[line - 1] === "")) return null;
+    const begin = inArea([...lines.slice(0, line - 1), ""]), end = inArea([...lines.slice(0, line - 1), lines[line - 1].trimEnd()]);
+    return [begin, end];
 }
 
-function download(name, bytes) {
-    const url = URL.createObjectURL(new Blob([bytes], {type: "text/plain"}));
+/** Selects a line in its text. */
+function select(slot, [begin, end], isPressed) {
+    const area = $(slot), rowsTo = (at) => area.value.slice(0, at).split("\n").length;
+    if (isPressed) area.closest("details")?.setAttribute("open", "");
+    if (isPressed) area.focus();
+    area.setSelectionRange(begin, end);
+    area.scrollTop = Math.max(0, (rowsTo(begin) - 4) * (area.scrollHeight / rowsTo(area.value.length)));
+}
+
+function download(name, ...parts) {
+    const url = URL.createObjectURL(new Blob(parts, {type: "text/plain"}));
     element("a", {href: url, download: name}).click();
     setTimeout(() => URL.revokeObjectURL(url), 10000);
+}
+
+/** A text that the program wrote, and how much of it isn't shown. */
+function written(bytes, title) {
+    const {text, more} = shown(bytes), lines = element("pre", {tabIndex: 0, textContent: text});
+    lines.setAttribute("aria-label", title);
+    return [...(text ? [lines] : []), ...(more ? [element("p", {className: "about", textContent: `and ${more}`})] : [])];
 }
 
 const CERTIFICATES = {max: "a minimum cut", min: "potentials", infeasible: "a set of nodes", paths: "labels"};
@@ -235,19 +287,16 @@ function named(ending) {
     return `${(file || "instance").replace(/\.gz$/i, "").replace(/\.[^.]*$/, "")}${ending}`;
 }
 
-function made({name, bytes, text, isWhole}, {what, kind, status}) {
-    const isBetter = what === "check" && status === 1;
+function made({name, bytes}, {what, kind, status}) {
+    const isOther = what === "check" && status === 1, other = kind === "infeasible" ? "feasible" : "better";
     const certificate = CERTIFICATES[kind === "min" && name === "cut" ? "infeasible" : kind];
     const own = name === "solution" ? "The solution" : `What shows it: ${certificate}`;
-    const title = isBetter ? "A better solution" : own;
-    const file = named(`${isBetter ? "-better" : ""}.${name}`);
+    const title = isOther ? `A ${other} solution` : own, file = named(`${isOther ? `-${other}` : ""}.${name}`);
     const row = element("div", {className: "row"}, element("h3", {textContent: title}));
-    row.append(button(`Download ${file}`, () => download(file, bytes)));
-    const use = () => give([new File([bytes], file)], "claim");
-    if (name === "solution") row.append(button("Use it as the solution", use));
-    const shown = element("pre", {tabIndex: 0, textContent: isWhole ? text : `${text}..`});
-    shown.setAttribute("aria-label", title);
-    return element("div", {className: "made"}, row, shown);
+    row.append(button(() => download(file, bytes), "Download ", bdi(file)));
+    const use = () => put("claim", textOf(bytes, file), changed());
+    if (name === "solution") row.append(button(use, "Use it as the solution"));
+    return element("div", {className: "made"}, row, ...written(bytes, title));
 }
 
 function clearAnswer() {
@@ -260,57 +309,64 @@ function clearAnswer() {
 /** An answer is of the texts that were judged. After any change it isn't one any more of those that are shown. */
 function changed() {
     if (!answered) clearAnswer();
-    else if ($("answer").className !== "past") head({heading: "Changed since: check again", state: "past"});
+    else head({heading: "Changed since: check again", state: "past"});
+    for (const it of document.querySelectorAll("button.quote")) {
+        it.replaceWith(element("p", {className: "quote"}, ...it.childNodes));
+    }
     return ++changes;
 }
 
 function head({heading, state}) {
+    if (answered) answered.state = state;
     $("answer").className = state;
     $("verdict").textContent = heading;
     document.title = `${heading} (dimacs)`;
     $("answer").hidden = false;
 }
 
-/** What was judged, in lines: the claim, the command, and each text with its sum. */
-function judgedIn({what, claim, command, took, judged}) {
+/** What was judged, in lines: the claim, each text with its sum, what wasn't read, and the command. */
+function judgedIn({what, claim, command, took, judged, unread, sums}) {
     const time = took < 1000 ? `${Math.ceil(took)} ms` : `${(took / 1000).toFixed(1)} s`;
-    const texts = judged.map(({name, file, bytes, sum}) => {
-        const packed = /\.gz$/i.test(file) && "unpacked";
-        return `${name}: ${[file, packed, `${bytes} bytes`, sum ? `SHA-256 ${sum}` : NO_SUM].filter(Boolean).join(", ")}`;
+    const line = (title, file, ...words) => [`${title}: `, ...(file ? [bdi(file), ", "] : []), words.filter(Boolean).join(", ")];
+    const texts = judged.map(({name, file, bytes}, i) => {
+        return line(name, file, /\.gz$/i.test(file) && "unpacked", `${bytes.length} bytes`, sums[i] ? `SHA-256 ${sums[i]}` : NO_SUM);
     });
-    return [...(what === "check" ? [`claim: ${claim}`] : []), ...texts, `by ${command}, in ${time}`];
+    const others = unread.map(({file, about: words}) => line("not read", file, words));
+    return [...(what === "check" ? [[`claim: ${claim}`]] : []), ...texts, ...others, [`by ${command}, in ${time}`]];
 }
 
 /** What can be done if a certificate doesn't show a claim. */
 function offered({command}, {isOpen}) {
     if (!isOpen) return [];
-    if (command === "judge-paths") return [button("Solve the queries", () => run("solve"))];
-    return [button("Check without this certificate", () => run("check", true))];
+    if (command === "judge-paths") return [button(() => run("solve"), "Solve the queries")];
+    return [button(() => run("check", true), "Check without this certificate")];
 }
 
 /** Shows an answer, and then what explains it; a reader of the screen hears both at once. */
 function answer(got) {
     const heading = headed(got);
-    answered = {...got, ...heading, lines: judgedIn(got)};
+    answered = {...got, ...heading};
     $("said").setAttribute("aria-busy", "true");
     head(heading);
-    $("line").textContent = got.output.trimEnd();
-    $("judged").replaceChildren(...answered.lines.map((it) => element("li", {textContent: it})));
-    $("offers").replaceChildren(...offered(got, heading), button("Save this answer", save));
+    $("line").replaceChildren(...written(got.printed, "The lines that the command prints"));
+    $("judged").replaceChildren(...judgedIn(got).map((it) => element("li", {}, ...it)));
+    $("offers").replaceChildren(...offered(got, heading), button(save, "Save this answer"));
     $("made").replaceChildren(...got.files.map((it) => made(it, got)));
 }
 
 function explain(text) {
-    answered.text = text;
+    answered.explanation = text;
     $("meaning").replaceChildren(...explained(text, answered.judged));
     $("said").setAttribute("aria-busy", "false");
     $("answer").scrollIntoView({block: "nearest"});
 }
 
+/** Saves the whole answer: the program's lines too that aren't shown. */
 function save() {
-    const {heading, output, text, lines} = answered;
-    const parts = [heading, output.trimEnd(), text.trimEnd(), lines.join("\n"), $("proof").textContent].filter(Boolean);
-    download(named("-answer.txt"), `${parts.join("\n\n")}\n`);
+    const {heading, printed, explanation = ""} = answered, lines = [...$("judged").children].map((it) => `${it.textContent}\n`);
+    const parts = [[`${heading}\n`], [printed], [explanation], lines, [`${$("proof").textContent}\n`]];
+    const filled = parts.filter((it) => it.some((part) => part.length));
+    download(named("-answer.txt"), ...filled.flatMap((it, i) => (i ? ["\n", ...it] : it)));
 }
 
 function fail(message) {
@@ -319,15 +375,19 @@ function fail(message) {
 }
 
 async function run(what, isAlone = false) {
-    if (running || slots.instance.source === "") return;
+    const kind = $("kind").value, claim = $("kind").selectedOptions[0].textContent, before = changes;
+    const {missing, ...plan} = planned({what, kind, isAlone}, slots);
+    if (running || reading || missing) return;
+    const judged = plan.reads.map((it) => ({...it, ...slots[it.slot]}));
+    const unread = SLOTS.filter((it) => !judged.some(({slot}) => slot === it)).map((it) => slots[it]);
     running = true;
     clearAnswer();
     ready();
-    const watching = watch(), before = changes;
+    const watching = watch();
     try {
-        await Promise.race([flush(), new Promise((_, bad) => (halt = bad))]);
-        const kind = $("kind").value, claim = $("kind").selectedOptions[0].textContent;
-        answer({...(await ask("run", {what, kind, isAlone})), claim});
+        await startWorker();
+        const got = await ask("run", {...plan, given: judged.map((it) => it.bytes)}), [line] = shown(got.printed).text.split("\n");
+        answer({...got, line, what, kind: plan.kind, claim, judged, unread: unread.filter((it) => it.bytes.length)});
         if (changes !== before) changed();
         explain(await ask("explain"));
     } catch (why) {
@@ -337,22 +397,18 @@ async function run(what, isAlone = false) {
     clearInterval(watching);
     running = false;
     ready();
-    const quotes = changes === before ? [...document.querySelectorAll("button.quote")] : [];
-    for (const it of quotes.reverse()) it.show(false);
+    for (const it of [...document.querySelectorAll("button.quote")].reverse()) it.show(false);
+    if (document.activeElement === document.body) $("check").focus({preventScroll: true});
 }
 
 // ---- examples, files and keys
 
-async function example({kind, texts}) {
-    flush();
+function example({kind, texts}) {
     clearAnswer();
-    const came = changed();
-    for (const slot of SLOTS) {
-        const [name, text] = texts[slot] ?? ["", ""];
-        take(text, name, slot, came);
-    }
-    await pending;
+    const at = changed();
+    for (const slot of SLOTS) put(slot, textOf(...(texts[slot] ?? [""])), at);
     $("kind").value = kind;
+    ready();
 }
 
 function openFile(slot) {
@@ -361,41 +417,40 @@ function openFile(slot) {
     input.click();
 }
 
-function drop(event, slot) {
-    const files = [...(event.dataTransfer?.files ?? [])];
-    if (!files.length) return;
-    event.preventDefault();
-    give(files, slot);
+function wire(pane) {
+    const {slot} = pane.dataset, title = pane.querySelector("label").textContent;
+    const opens = pane.querySelector("[data-open]"), clears = pane.querySelector("[data-clear]");
+    opens.onclick = () => openFile(slot);
+    opens.setAttribute("aria-label", `Open a file: ${title}`);
+    clears.onclick = () => put(slot, textOf(""), changed());
+    clears.setAttribute("aria-label", `Clear: ${title}`);
+    $(slot).oninput = () => hold(slot, textOf($(slot).value), changed());
+    $(slot).onpaste = (event) => pasted(event, slot);
+    pane.ondragenter = pane.ondragover = () => pane.classList.add("over");
+    pane.ondragleave = pane.ondrop = () => pane.classList.remove("over");
 }
 
-function wire() {
-    for (const pane of document.querySelectorAll(".pane")) {
-        const slot = pane.dataset.slot, title = pane.querySelector("label").textContent;
-        const opens = pane.querySelector("[data-open]"), clears = pane.querySelector("[data-clear]");
-        opens.onclick = () => openFile(slot);
-        opens.setAttribute("aria-label", `Open a file: ${title}`);
-        clears.onclick = () => clear(slot);
-        clears.setAttribute("aria-label", `Clear: ${title}`);
-        $(slot).oninput = () => typed(slot);
-        pane.ondragenter = pane.ondragover = () => pane.classList.add("over");
-        pane.ondragleave = pane.ondrop = () => pane.classList.remove("over");
-    }
+function wireAll() {
+    document.querySelectorAll(".pane").forEach(wire);
     document.ondragover = (event) => event.preventDefault();
-    document.ondrop = (event) => drop(event, event.target.closest?.(".pane")?.dataset.slot);
+    document.ondrop = (event) => {
+        const {dataTransfer, target} = event;
+        take(event, dataTransfer, target.closest?.(".pane")?.dataset.slot, dataTransfer.getData("text/plain"));
+    };
     document.onkeydown = (event) => {
         if (event.key === "Enter" && (event.ctrlKey || event.metaKey)) run("check");
-        if (event.key === "Escape" && running) stop();
+        if (event.key === "Escape") stop();
     };
-    $("kind").onchange = changed;
+    $("kind").onchange = () => ready(changed());
     $("check").onclick = () => run("check");
     $("solve").onclick = () => run("solve");
     $("stop").onclick = stop;
     const examples = JSON.parse($("examples-of").textContent);
-    $("examples").append(...examples.map((it) => button(it.title, () => example(it))));
+    $("examples").append(...examples.map((it) => button(() => example(it), it.title)));
 }
 
 async function start() {
-    wire();
+    wireAll();
     ready();
     try {
         const {version, proved} = await startWorker();

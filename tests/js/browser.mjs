@@ -86,6 +86,15 @@ class ChromiumPage {
         return result.value;
     }
 
+    /** Gives a file to the dialog that an act opens. */
+    async choosing(path, act) {
+        await this.send("Page.setInterceptFileChooserDialog", {enabled: true});
+        await act();
+        const opened = () => this.connection.events.find((it) => it.method === "Page.fileChooserOpened");
+        while (!opened()) await sleep(50);
+        await this.send("DOM.setFileInputFiles", {files: [path], backendNodeId: opened().params.backendNodeId});
+    }
+
     size(width, height) {
         const mobile = width < 600;
         return this.send("Emulation.setDeviceMetricsOverride", {width, height, deviceScaleFactor: 1, mobile});

@@ -2,7 +2,7 @@
 // and what failed.
 import assert from "node:assert/strict";
 import {createHash} from "node:crypto";
-import {existsSync, readFileSync} from "node:fs";
+import {existsSync, readFileSync, writeFileSync} from "node:fs";
 import {createServer} from "node:http";
 import {join, resolve} from "node:path";
 import {pathToFileURL} from "node:url";
@@ -17,13 +17,22 @@ const quoted = JSON.stringify;
 const button = (text) => `[...document.querySelectorAll("button")].find((it) => it.textContent.startsWith(${quoted(text)}))`;
 const element = (id) => `document.getElementById(${quoted(id)})`;
 const text = (id) => `${element(id)}.textContent`;
-const settled = `!document.getElementById("check").disabled && document.getElementById("stop").hidden`;
+const settled = `${element("stop")}.hidden`;
+const CHOSEN = (slot) => `((it) => it.value.slice(it.selectionStart, it.selectionEnd))(${element(slot)})`;
 
 /** An expression that types a text, or chooses a claim. */
 const typing = (id, content, event = "input") => `void ((it) => {
     it.value = ${quoted(content)};
     it.dispatchEvent(new Event(${quoted(event)}, {bubbles: true}));
 })(${element(id)})`;
+
+/** Expressions for files, by their names: each has a text, bytes, or parts that an expression gives. */
+const files = (named) => `[${Object.entries(named).map(([name, content]) => {
+    const bytes = Array.isArray(content) ? `[new Uint8Array(${quoted(content)})]` : `[${quoted(content)}]`;
+    return `new File(${content.parts ?? bytes}, ${quoted(name)})`;
+})}]`;
+
+const pause = (person) => person.page.evaluate("new Promise((good) => setTimeout(good, 200))");
 
 class Person {
     constructor(page, folder) {
@@ -42,58 +51,76 @@ class Person {
 
     async example(name) {
         await this.click(name);
-        await until(this.page, settled);
         await this.read();
     }
 
     /** Waits until what was given is read. */
     async read() {
-        await this.page.evaluate("new Promise((good) => setTimeout(good, 400))");
+        await until(this.page, settled);
     }
 
-    /** Types texts, by the places where they belong. */
-    async write(texts) {
-        for (const [slot, content] of Object.entries(texts)) await this.page.evaluate(typing(slot, content));
+    /** Types texts, by the places where they belong; all others are empty. */
+    async write(texts, claim) {
+        if (claim) await this.choose(claim);
+        const all = claim ? {instance: "", claim: "", certificate: "", ...texts} : texts;
+        for (const [slot, content] of Object.entries(all)) await this.page.evaluate(typing(slot, content));
+        if (claim) await this.choose(claim);
+    }
+
+    /** Drops files on a text or beside all, or pastes. */
+    async give(event, filled, slot) {
+        const place = slot ? element(slot) : "document.body";
+        const transfer = event === "paste" ? "clipboardData" : "dataTransfer", made = {drop: "DragEvent", paste: "ClipboardEvent"};
+        await this.page.evaluate(`(async () => {
+            const ${transfer} = new DataTransfer();
+            ${filled(transfer)};
+            ${place}.dispatchEvent(new ${made[event]}("${event}", {${transfer}, bubbles: true, cancelable: true}));
+        })()`);
         await this.read();
     }
 
-    /** Drops a file that an expression makes, on a text or beside all. */
-    async drop(files, slot) {
-        const place = slot ? element(slot) : "document.body";
-        await this.page.evaluate(`(async () => {
-            const dataTransfer = new DataTransfer();
-            for (const it of await ${files}) dataTransfer.items.add(it);
-            ${place}.dispatchEvent(new DragEvent("drop", {dataTransfer, bubbles: true, cancelable: true}));
-        })()`);
+    drop(named, slot) {
+        return this.give("drop", (to) => `for (const it of ${files(named)}) ${to}.items.add(it)`, slot);
+    }
+
+    paste(expression, slot) {
+        return this.give("paste", (to) => `${to}.setData("text/plain", ${expression})`, slot);
+    }
+
+    /** Opens a file by the system's dialog. */
+    async openFile(path) {
+        await this.page.choosing(path, () => this.click("Open a file"));
         await this.read();
     }
 
     /** Presses a button that asks for an answer, and gives it. */
     async ask(name) {
-        await this.page.evaluate(`void (document.getElementById("answer").hidden = true, ${button(name)}.click())`);
+        await this.page.evaluate(`void (${element("answer")}.hidden = true, ${button(name)}.click())`);
         return this.answered();
     }
 
     /** Waits for an answer, and gives it. */
     async answered() {
-        await until(this.page, `!document.getElementById("answer").hidden && ${settled}`, 120);
+        await until(this.page, `!${element("answer")}.hidden && ${settled}`, 120);
         return this.answer();
     }
 
     answer() {
-        return this.page.evaluate(`({verdict: ${text("verdict")}, meaning: ${text("meaning")}, line: ${text("line")},
-            marked: [...document.querySelectorAll(".quote")].map((it) => it.textContent),
-            fields: [...document.querySelectorAll(".quote mark")].map((it) => it.textContent)})`);
+        const all = (selector) => `[...document.querySelectorAll(${quoted(selector)})].map((it) => it.textContent)`;
+        return this.page.evaluate(`({verdict: ${text("verdict")}, state: ${element("answer")}.className,
+            meaning: ${text("meaning")}, lines: ${text("line")}, line: document.querySelector("#line pre")?.textContent.trimEnd() ?? "",
+            marked: ${all(".quote")}, fields: ${all(".quote mark")}, judged: ${all("#judged li")}, titles: ${all(".made h3")}})`);
+    }
+
+    /** What stands in the texts and beside them, and whether Check is off. */
+    texts() {
+        const of = (make) => `Object.fromEntries(["instance", "claim", "certificate"].map((it) => [it, ${make}]))`;
+        return this.page.evaluate(`({values: ${of("document.getElementById(it).value")}, needs: ${text("needs")},
+            about: ${of("document.getElementById(`about-${it}`).textContent")}, isOff: ${element("check")}.disabled})`);
     }
 
     async clear(slot) {
         await this.page.evaluate(`void document.querySelector('[data-slot="${slot}"] [data-clear]').click()`);
-        await this.read();
-    }
-
-    /** What the answer is about. */
-    judged() {
-        return this.page.evaluate(`[...document.querySelectorAll("#judged li")].map((it) => it.textContent)`);
     }
 
     choose(kind) {
@@ -106,12 +133,8 @@ class Person {
     }
 
     async saved(name) {
-        for (let tries = 0; tries < 100 && !existsSync(join(this.folder, name)); tries++) await this.read();
+        for (let tries = 0; tries < 100 && !existsSync(join(this.folder, name)); tries++) await pause(this);
         return readFileSync(join(this.folder, name), "latin1");
-    }
-
-    about(slot) {
-        return this.page.evaluate(text(`about-${slot}`));
     }
 }
 
@@ -119,15 +142,76 @@ class Person {
 
 const MAX = "p max 2 1\nn 1 s\nn 2 t\na 1 2 4\n";
 const PARALLEL = "p max 3 3\nn 1 s\nn 3 t\na 1 2 9\na 2 3 3\na 2 3 5\n";
+const MIN = "p min 2 1\nn 1 2\nn 2 -2\na 1 2 0 3 5\n";
 const MANY = "9000000000000000000", DEAR = `p min 2 1\nn 1 ${MANY}\nn 2 -${MANY}\na 1 2 0 ${MANY} ${MANY}\n`;
 const FLOW = "s 4\nf 1 2 4\n";
-const GRAPH = "p sp 2 1\na 1 2 5\n", LABELS = "p dist 2 1\nt 1 1\nd 2 5 1\n";
+const GRAPH = "p sp 2 1\na 1 2 5\n", LABELS = "p dist 2 1\nt 1 1\nd 2 5 1\n", NEAR = "p dist 2 1\nt 1 0 0\n";
+const PAIR = "p aux sp p2p 1\nq 1 2\n", PAIRS = "p aux sp p2p 2\nq 1 1\nq 1 2\n";
 const EXAMPLES = new URL("../../examples", import.meta.url).pathname;
-const CHOSEN = (slot) => `((it) => it.value.slice(it.selectionStart, it.selectionEnd))(${element(slot)})`;
 const CUT = "p cut 5 3\nu 1\nu 2\nu 3\n";  // the only minimum cut of the example
 
+const FAULT = "Nothing was judged: the instance has a fault", UNFIT = "Nothing was judged: the texts don't fit together";
+const UNSHOWN = "Not shown: this certificate doesn't show it", UNCLAIMED = "Nothing was claimed", NO = "No: the answer is wrong";
+
+/** Of examples: what is pressed, the heading, the line, what explains it, and a file that is handed out. */
+const OF_EXAMPLES = [
+    ["a maximum flow", "Check", "Yes: the flow of value 12 is maximum", "v max 12", /4 \+ 8 = 12/, "pipes.cut", CUT],
+    ["a flow that can grow", "Check", NO, "x solution 2 2 NotMaximum", /s 10.*s 12/, "pipes-better.solution", /^s 12\n/],
+    ["a flow of least cost", "Check", "Yes: the flow of cost 55 costs least", "v min 55", /55/],
+    ["a flow of least cost", "Solve", "Solved: the flow of cost 55 costs least", "v min 55", /55/, "freight.solution", /^s 55\n/],
+    ["no feasible flow", "Check", "Yes: no flow is feasible", "v infeasible", /its supply: 5/],
+    ["no feasible flow", "Solve", "Solved: no flow is feasible", "v infeasible", /its supply: 5/],
+    ["distances", "Check", "Yes: the distances from 2 sources", "v sp distances 2", /140 \+ 80 \+ 97 \+ 101/],
+    ["queries and labels", "Check", "Yes: the distances of 3 pairs", "v 1 5 1400\nv 1 6 unreachable\nv 6 3 1400", /1400/],
+    ["queries and labels", "Solve", "Solved: the distances of 3 pairs", "v 1 5 1400\nv 1 6 unreachable\nv 6 3 1400", /1400/],
+    ["a fault in a text", "Check", FAULT, "x instance 12 4 BadNumber", /500\.5/],
+];
+
+/** Of typed texts: the claim, the instance, the claim's text, the certificate, and the heading. */
+const TYPED = [
+    ["max", MAX.replace("4\n", "4.5\n"), FLOW, "", FAULT],
+    ["max", MAX, "s 4\nf 1 2\n", "", "Nothing was judged: the solution has a fault"],
+    ["max", MAX, FLOW, "p cut 2 1\nu 3\n", "Nothing was judged: the certificate has a fault"],
+    ["max", FLOW, MAX, "", "Nothing was judged: the instance is a solution"],
+    ["max", MAX, "p distances 2 0\n", "", "Nothing was judged: the solution is distances"],
+    ["max", GRAPH, FLOW, "", "Nothing was judged: the instance is a graph"],
+    ["max", MAX, "s 4\nf 2 1 4\n", "", NO],
+    ["min", MIN, "s 10\nf 1 2 2\n", "p pot 2 1\ny 1 9\n", UNSHOWN],
+    ["min", DEAR, `s 0\nf 1 2 ${MANY}\n`, "", "Undecided: the cost is out of range"],
+    ["infeasible", `${DEAR}c typed\n`, "", "", NO],
+    ["paths", GRAPH, "p aux sp ss 1\ns 9\n", LABELS, UNFIT],
+    ["paths", GRAPH, "p aux sp ss 1\ns 2\n", LABELS, UNSHOWN],
+    ["paths", GRAPH, "p distances 3 0\n", "", UNFIT],
+    ["paths", GRAPH, "p distances 2 0\n", "", UNCLAIMED],
+    ["paths", GRAPH, "p aux sp ss 0\n", "p dist 2 0\n", UNCLAIMED],
+    ["paths", GRAPH, "p aux sp p2p 0\n", "p dist 2 0\n", UNCLAIMED],
+    ["paths", GRAPH, PAIR, NEAR, UNCLAIMED],
+    ["paths", GRAPH, PAIR, LABELS, "Yes: the distance from 1 to 2"],
+    ["paths", GRAPH, PAIRS, NEAR, "Yes: the distances from 1 within 0, of 1 of 2 pairs"],
+    ["paths", GRAPH, PAIRS, "p dist 2 2\nt 1 0 0\nt 2 0 0\n", "Yes: the distances within their radius, of 1 of 2 pairs"],
+    ["paths", GRAPH, "p aux sp ss 1\ns 1\n", LABELS, "Yes: the distances from 1"],
+    ["paths", GRAPH, "p distances 2 1\nt +01 1\nd 2 5\n", "", "Yes: the distances from 1"],
+];
+
+const MIXED = {"new.max.gz": [31, 139, 8, 0, 1, 2], "new.sol": "s 1\n"};
+
+/** Files that are dropped on a text or beside all, over an example: what is left, what is said where, and what Check needs. */
+const DROPPED = {
+    "a packed claim": ["claim", {"student17.sol.zip": [80, 75, 3, 4]}, "claim", /^student17\.sol\.zip: it is packed by zip/, "a solution"],
+    "a broken instance with its solution": [null, MIXED, "instance", /^new\.max\.gz: it can't be unpacked/, "an instance of maximum flow"],
+    "a broken solution with its instance": [null, {"a.sol.gz": MIXED["new.max.gz"], "b.max": MAX}, "claim", /^a\.sol\.gz: it can't/, "a solution"],
+    "an empty file": ["claim", {"empty.sol": ""}, "claim", /^empty\.sol: it is empty/, "a solution"],
+    "more than 2 GB": ["instance", {"big.max": {parts: "Array(33).fill(new Blob([new Uint8Array(2 ** 26)]))"}}, "instance",
+        /^big\.max: it has more than 2 GB/, "an instance of maximum flow"],
+    "two solutions": [null, {"a.sol": FLOW, "b.sol": "s 5\n"}, "claim", /^b\.sol: a solution, .*\. Not a\.sol, which came with it\.$/, ""],
+    "a name with lines": ["claim", {"a\nv max 12.sol": FLOW}, "claim", /^a\ufffdv max 12\.sol: a solution/, ""],
+    "an instance and its solution": [null, {"one.sol": FLOW, "one.max": MAX}, "instance", /^one\.max: an instance of maximum flow, 2 nodes, 1 arcs/, ""],
+    "a .gz": ["instance", {"one.max.gz": {parts: `[await new Response(new Blob([${quoted(MAX)}]).stream().pipeThrough(
+        new CompressionStream("gzip"))).blob()]`}}, "instance", /^one\.max\.gz: an instance of maximum flow, 2 nodes/, ""],
+};
+
 /** A network of many arcs, which takes long to solve: each of its layers of 300 nodes has arcs into the next one. */
-const LONG = `(() => {
+const LONG = {parts: `(() => {
     let seed = 7;
     const random = (most) => 1 + ((seed = Math.imul(seed, 1664525) + 1013904223) >>> 8) % most;
     const lines = ["p max 120000 400000\\nn 1 s\\nn 120000 t\\n"];
@@ -137,189 +221,153 @@ const LONG = `(() => {
         lines.push("a " + tail + " " + head + " " + random(1000000) + "\\n");
     }
     return lines;
-})()`;
+})()`};
 
-/** Requests that a script may try; each gives whether it went through. */
-const REQUESTS = {
-    "a fetch": (url) => `fetch("${url}", {mode: "no-cors"}).then(() => true, () => false)`,
-    "a picture": (url) => `new Promise((good) => {
-        Object.assign(new Image(), {onload: () => good(true), onerror: () => good(false), src: "${url}"});
-    })`,
-    "a beacon": (url) => `Promise.resolve(navigator.sendBeacon("${url}")).catch(() => false)`,
-    "a request from a worker": (url) => `new Promise((good) => {
-        const code = 'fetch("${url}", {mode: "no-cors"}).then(() => postMessage(true), () => postMessage(false))';
-        const worker = new Worker(URL.createObjectURL(new Blob([code])));
-        Object.assign(worker, {onmessage: ({data}) => good(data), onerror: () => good(false)});
-    })`,
-};
+/** A path of 40,000 nodes whose arcs weigh 7. */
+const PATH = 40000, pathLines = (line) => Array.from({length: PATH - 1}, (_, i) => line(i + 1)).join("");
+const PATH_GRAPH = `p sp ${PATH} ${PATH - 1}\n${pathLines((it) => `a ${it} ${it + 1} 7\n`)}`;
+const PATH_PAIRS = `p aux sp p2p ${PATH - 1}\n${pathLines((it) => `q 1 ${it + 1}\n`)}`;
+const PATH_LINES = pathLines((it) => `v 1 ${it + 1} ${7 * it}\n`);
+const PATH_LABELS = `p dist ${PATH} 1\nt 1 ${PATH - 1}\n${pathLines((it) => `d ${it + 1} ${7 * it} ${it}\n`)}`;
 
 const TESTS = {
-    "a yes, with its certificate and its sum": async (person) => {
-        await person.example("a maximum flow");
-        const {verdict, meaning, line} = await person.ask("Check");
-        assert.deepEqual([verdict, line], ["Yes.", "v max 12"]);
-        assert.match(meaning, /4 \+ 8 = 12/);
-        if (person.downloads) assert.equal(await person.downloaded("pipes.cut"), CUT);
-    },
-    "a no, with its line marked and a better flow": async (person) => {
-        await person.example("a flow that can grow");
-        const {verdict, line, marked, fields} = await person.ask("Check");
-        assert.deepEqual([verdict, line], ["No: the answer is wrong", "x solution 2 2 NotMaximum"]);
-        assert.deepEqual([marked, fields], [["solution:2: s 10", "better:1: s 12"], ["10"]]);
-        if (person.downloads) assert.match(await person.downloaded("pipes-better.solution"), /^s 12\n/);
-        await person.click("Use it as the solution");
-        await person.read();
-        assert.equal((await person.ask("Check")).line, "v max 12");
+    "a long verdict is shown in whole lines, and saved whole": async (person) => {
+        await person.drop({"path.gr": PATH_GRAPH, "path.query": PATH_PAIRS, "path.dist": PATH_LABELS});
+        const {verdict, line, lines} = await person.ask("Check"), shown = line.split("\n").length;
+        assert.equal(verdict, "Yes: the distances of 39,999 pairs");
+        assert.ok(PATH_LINES.startsWith(`${line}\n`));
+        assert.ok(lines.endsWith(`and ${(PATH - 1 - shown).toLocaleString("en")} more lines`), lines.slice(-90));
+        await person.click("Save this answer");
+        if (person.downloads) assert.ok((await person.saved("path-answer.txt")).includes(`\n\n${PATH_LINES}\n`));
     },
     "an answer is of the texts that were judged": async (person) => {
         const changes = {
             typing: () => person.write({claim: "s 11\n"}),
             "another claim": () => person.choose("min"),
-            "another file": () => person.drop(`[new File([${quoted(MAX)}], "one.max")]`, "instance"),
+            "another file": () => person.drop({"one.max": MAX}, "instance"),
             "clearing a text": () => person.clear("claim"),
         };
         for (const [name, change] of Object.entries(changes)) {
             await person.example("a maximum flow");
-            assert.equal((await person.ask("Check")).verdict, "Yes.", name);
+            assert.match((await person.ask("Check")).verdict, /^Yes/, name);
             await change();
-            await person.read();
-            assert.doesNotMatch((await person.answer()).verdict, /Yes/, name);
-            assert.notEqual(await person.page.evaluate(`${element("answer")}.className`), "yes", name);
+            const {verdict, state} = await person.answer();
+            assert.deepEqual([verdict, state], ["Changed since: check again", "past"], name);
             assert.doesNotMatch(await person.page.evaluate("document.title"), /Yes/, name);
         }
     },
     "an answer to what was changed meanwhile": async (person) => {
-        await person.example("a maximum flow");
+        await person.example("a flow that can grow");
         await person.page.evaluate(`(${button("Check")}.click(), ${typing("claim", "s 1\n")})`);
         assert.match((await person.answered()).verdict, /^Changed since/);
+        assert.equal(await person.page.evaluate(`document.querySelectorAll("button.quote").length`), 0);
     },
-    "what is typed while a text is read": async (person) => {
-        await person.write({instance: MAX});
-        await person.drop(`[new File([${quoted(FLOW)}], "one.solution")]`, "claim");
-        const pause = "await new Promise((good) => setTimeout(good, 251))";
-        for (let tries = 0; tries < 5; tries++) {
-            await person.page.evaluate(`(${typing("claim", FLOW)}, ${pause}, ${typing("claim", "s 3\n")})`);
-            await person.read();
-            assert.equal((await person.ask("Check")).line, "x solution 1 2 ValueDiffers");
-        }
+    "an example that is checked at once": async (person) => {
+        await person.example("a flow of least cost");
+        await person.page.evaluate(`void (${button("a maximum flow")}.click(), ${button("Check")}.click())`);
+        assert.equal((await person.answered()).line, "v max 12");
     },
     "what was judged is named": async (person) => {
         await person.example("a maximum flow");
+        await person.write({certificate: CUT});
         await person.ask("Check");
         const sumOf = (bytes) => `, SHA-256 ${createHash("sha256").update(bytes).digest("hex")}`;
-        const [claim, ...texts] = (await person.judged()).slice(0, 3);
+        const [claim, instance, solution, cut] = (await person.answer()).judged;
+        const read = (name) => readFileSync(`${EXAMPLES}/${name}`);
         assert.equal(claim, "claim: the flow is maximum");
-        for (const [i, name] of ["pipes.max", "pipes.solution"].entries()) {
-            assert.ok(texts[i].includes(`: ${name}, `), texts[i]);
-            assert.ok(texts[i].endsWith(sumOf(readFileSync(`${EXAMPLES}/${name}`))), texts[i]);
-        }
-        await person.write({claim: "s 12\n"});
-        await person.ask("Check");
-        assert.equal((await person.judged())[2], `solution: 5 bytes${sumOf("s 12\n")}`);
+        assert.equal(instance, `instance: pipes.max, 148 bytes${sumOf(read("pipes.max"))}`);
+        assert.equal(solution, `solution: pipes.solution, ${read("pipes.solution").length} bytes${sumOf(read("pipes.solution"))}`);
+        assert.equal(cut, `certificate: ${CUT.length} bytes${sumOf(CUT)}`);
+        assert.equal(await person.page.evaluate(`document.querySelector("#judged bdi").textContent`), "pipes.max");
+    },
+    "a wrong solution beside an answer": async (person) => {
+        await person.write({instance: MAX, claim: "s 1\n"}, "max");
+        const {verdict, state, judged} = await person.ask("Solve");
+        assert.deepEqual([verdict, state], ["Solved: the flow of value 4 is maximum", "open"]);
+        assert.equal(judged[1], "not read: a solution, 4 bytes");
     },
     "the arc and the line that are wrong, of parallel ones": async (person) => {
-        await person.write({instance: PARALLEL, claim: "s 8\nf 1 2 8\nf 2 3 3\nf 2 3 6\n"});
+        await person.write({instance: PARALLEL, claim: "s 8\nf 1 2 8\nf 2 3 3\nf 2 3 6\n"}, "max");
         const {marked, line} = await person.ask("Check");
         assert.deepEqual([line, marked], ["x arc 3 AboveCap", ["instance:6: a 2 3 5", "solution:4: f 2 3 6"]]);
         await person.page.evaluate(`void document.querySelectorAll(".quote")[1].click()`);
         assert.equal(await person.page.evaluate(CHOSEN("claim")), "f 2 3 6");
         assert.equal(await person.page.evaluate("document.activeElement.id"), "claim");
     },
-    "a right flow and a certificate that doesn't show it": async (person) => {
-        await person.write({instance: MAX, claim: FLOW, certificate: "p cut 2 2\nu 1\nu 2\n"});
-        const {verdict, line} = await person.ask("Check");
-        assert.deepEqual([verdict, line], ["Not shown: this certificate doesn't show it", "x node 2 SinkInside"]);
-        assert.notEqual(await person.page.evaluate(`${element("answer")}.className`), "no");
-        assert.equal((await person.ask("Check without this certificate")).verdict, "Yes.");
-        assert.match((await person.judged()).join("\n"), /^claim: .*\ninstance: .*\nsolution: .*\nby certify-max, .*$/);
+    "a marked field": async (person) => {
+        await person.example("a fault in a text");
+        const {marked, fields} = await person.ask("Check");
+        assert.deepEqual([marked, fields], [["instance:12: a 3 4  500.5"], ["500.5"]]);
+        assert.equal(await person.page.evaluate(CHOSEN("instance")), "a 3 4  500.5");
     },
-    "what isn't the answer's fault": async (person) => {
-        const rows = [
-            ["max", MAX.replace("4\n", "4.5\n"), FLOW, "", "Nothing was judged: the instance has a fault"],
-            ["max", MAX, "s 4\nf 1 2\n", "", "Nothing was judged: the solution has a fault"],
-            ["max", MAX, FLOW, "p cut 2 1\nu 3\n", "Nothing was judged: the certificate has a fault"],
-            ["max", FLOW, MAX, "", "Nothing was judged: the instance is a solution"],
-            ["max", MAX, "p distances 2 0\n", "", "Nothing was judged: the solution is distances"],
-            ["max", GRAPH, FLOW, "", "Nothing was judged: the instance is a graph"],
-            ["paths", GRAPH, "p aux sp ss 1\ns 9\n", LABELS, "Nothing was judged: the texts don't fit together"],
-            ["paths", GRAPH, "p aux sp ss 1\ns 2\n", LABELS, "Not shown: this certificate doesn't show it"],
-            ["paths", GRAPH, "p distances 3 0\n", "", "Nothing was judged: the texts don't fit together"],
-            ["max", MAX, "s 4\nf 2 1 4\n", "", "No: the answer is wrong"],
-            ["min", DEAR, `s 0\nf 1 2 ${MANY}\n`, "", "Undecided: the cost is out of range"],
-        ];
-        for (const [kind, instance, claim, certificate, wanted] of rows) {
-            await person.write({instance, claim, certificate});
-            await person.choose(kind);
-            assert.equal((await person.ask("Check")).verdict, wanted);
-        }
+    "a line after carriage returns, of an answer that is changed": async (person) => {
+        const lines = ["p max 2 1", "c one\rtwo\r", "n 1 s\r", "n 2 t", "a 1 2 4.5\r", ""];
+        await person.write({claim: FLOW}, "max");
+        await person.drop({"odd.max": lines.join("\n")}, "instance");
+        assert.equal((await person.ask("Check")).line, "x instance 5 4 BadNumber");
+        assert.equal(await person.page.evaluate(CHOSEN("instance")), "a 1 2 4.5");
+        await person.write({instance: `c first\n${MAX}`});
+        assert.equal(await person.page.evaluate(`document.querySelector(".quote").tagName`), "P");
+    },
+    "a certificate that doesn't show a right flow": async (person) => {
+        await person.write({instance: MAX, claim: FLOW, certificate: "p cut 2 2\nu 1\nu 2\n"}, "max");
+        const {verdict, line, state} = await person.ask("Check");
+        assert.deepEqual([verdict, line, state], [UNSHOWN, "x node 2 SinkInside", "open"]);
+        const {verdict: next, judged} = await person.ask("Check without this certificate");
+        assert.equal(next, "Yes: the flow of value 4 is maximum");
+        assert.match(judged.join("\n"), /^claim: .*\ninstance: .*\nsolution: .*\nnot read: a set of nodes, .*\nby certify-max, .*$/);
+    },
+    "a solver that gives up": async (person) => {
+        await person.write({instance: DEAR}, "min");
         assert.match((await person.ask("Solve")).verdict, /^Undecided: the solver reached its limit, or/);
-        await person.choose("infeasible");
-        await person.write({instance: `${DEAR}c typed\n`});
-        assert.equal((await person.ask("Check")).line, "x instance 0 0 Feasible");
     },
-    "what claims or asks nothing": async (person) => {
-        await person.write({instance: GRAPH});
-        await person.choose("paths");
-        for (const [claim, certificate, line] of [
-            ["p distances 2 0\n", "", "v sp distances 0"],
-            ["p aux sp ss 0\n", "p dist 2 0\n", "v sp ss 0"],
-            ["p aux sp p2p 0\n", "p dist 2 0\n", ""],
-        ]) {
-            await person.write({claim, certificate});
-            const answer = await person.ask("Check");
-            assert.deepEqual([answer.verdict, answer.line], ["Nothing was claimed", line]);
-            assert.equal(await person.page.evaluate(`${element("answer")}.className`), "open");
+    "a better and a feasible flow": async (person) => {
+        await person.example("a flow that can grow");
+        assert.deepEqual((await person.ask("Check")).titles, ["A better solution"]);
+        await person.click("Use it as the solution");
+        assert.equal((await person.ask("Check")).line, "v max 12");
+        await person.write({instance: MIN, claim: "s 10\nf 1 2 2\n"}, "infeasible");
+        const {line, titles} = await person.ask("Check");
+        assert.deepEqual([line, titles], ["x instance 0 0 Feasible", ["A feasible solution"]]);
+    },
+    "what Check and Solve need": async (person) => {
+        const rows = [
+            [{}, "max", "Check needs an instance of maximum flow. Solve needs an instance of maximum flow."],
+            [{instance: MAX}, "max", "Check needs a solution."],
+            [{instance: MIN}, "infeasible", ""],
+            [{instance: GRAPH, claim: "p distances 2 0\n"}, "paths", "Solve needs queries, as p aux sp ss 1 and s 1 on two lines."],
+            [{instance: GRAPH, claim: PAIR}, "paths", "Check needs labels as the certificate, which Solve makes."],
+        ];
+        for (const [texts, claim, wanted] of rows) {
+            await person.write(texts, claim);
+            const {needs, isOff} = await person.texts();
+            assert.deepEqual([needs, isOff], [wanted, wanted.includes("Check")]);
         }
-        assert.equal((await person.ask("Solve")).verdict, "Nothing was asked");
-    },
-    "a run that is stopped while a text is read": async (person) => {
-        await person.write({instance: MAX, claim: FLOW});
-        const long = `[new File([${quoted(MAX)}, ...Array(20).fill(("c " + "x".repeat(997) + "\\n").repeat(1e4))], "long.max")]`;
-        await person.page.evaluate(`void (async () => {
-            const dataTransfer = new DataTransfer();
-            dataTransfer.items.add(${long}[0]);
-            ${element("instance")}.dispatchEvent(new DragEvent("drop", {dataTransfer, bubbles: true, cancelable: true}));
-            ${button("Check")}.click();
-            setTimeout(() => ${button("Stop")}.click(), 50);
-        })()`);
-        assert.equal((await person.answered()).verdict, "Stopped: undecided.");
-        await until(person.page, `${text("about-instance")}.startsWith("long.max: an instance of maximum flow")`);
-        assert.equal((await person.ask("Check")).line, "v max 4");
-        assert.match((await person.judged())[1], /^instance: long\.max, 200000030 bytes/);
     },
     "texts that a browser would put back": async (person) => {
-        await person.write({instance: MAX, claim: FLOW});
-        await person.choose("infeasible");
+        await person.write({instance: MAX, claim: FLOW}, "infeasible");
         await person.page.load("about:blank");
         await person.page.evaluate("void history.back()");
         await until(person.page, "document.documentElement.dataset.ready");
-        await person.read();
-        const shown = `[${element("instance")}.value, ${element("claim")}.value, ${element("kind")}.value]`;
-        assert.deepEqual(await person.page.evaluate(shown), ["", "", "max"]);
+        assert.deepEqual((await person.texts()).values, {instance: "", claim: "", certificate: ""});
+        assert.equal(await person.page.evaluate(`${element("kind")}.value`), "max");
     },
     "a certificate of the last instance goes": async (person) => {
-        await person.example("queries and labels");
-        await person.drop(`[new File([${quoted(MAX)}], "one.max")]`, "instance");
-        assert.equal(await person.page.evaluate(`${element("certificate")}.value`), "");
-        await person.example("queries and labels");
-        await person.clear("instance");
-        assert.equal(await person.page.evaluate(`${element("certificate")}.value`), "");
-        const texts = {"one.cut": "p cut 2 1\nu 1\n", "one.max": MAX, "one.solution": FLOW};
-        const files = Object.entries(texts).map(([name, content]) => `new File([${quoted(content)}], ${quoted(name)})`);
-        await person.drop(`[${files}]`);
-        await person.ask("Check");
-        assert.match((await person.judged()).at(-1), /^by judge-max/);
+        for (const change of [() => person.drop({"one.max": MAX}, "instance"), () => person.clear("instance")]) {
+            await person.example("queries and labels");
+            await change();
+            const {values, about} = await person.texts();
+            assert.deepEqual([values.certificate, about.certificate], ["", "The last instance's certificate was removed."]);
+        }
+        await person.drop({"one.cut": "p cut 2 1\nu 1\n", "one.max": MAX, "one.solution": FLOW});
+        assert.match((await person.ask("Check")).judged.at(-1), /^by judge-max/);
     },
     "a binary file as the instance": async (person) => {
-        for (const claim of ["", FLOW]) {
-            await person.choose("max");
-            const bytes = "new Uint8Array(400).map((_, i) => (i * 89 + 7) % 256)";
-            await person.drop(`[new File([${bytes}], "a.bin")]`, "instance");
-            await person.write({claim});
-            const {verdict, meaning} = await person.ask("Check");
-            assert.equal(verdict, "Nothing was judged: the instance has a fault");
-            assert.match(meaning, /instance:1: /);
-        }
+        await person.write({claim: FLOW}, "max");
+        await person.drop({"a.bin": Array.from({length: 400}, (_, i) => (i * 89 + 7) % 256)}, "instance");
+        const {verdict, meaning} = await person.ask("Check");
+        assert.equal(verdict, FAULT);
+        assert.match(meaning, /instance:1: /);
     },
     "an answer is saved": async (person) => {
         await person.example("a flow that can grow");
@@ -330,91 +378,50 @@ const TESTS = {
         assert.match(saved, /^No: the answer is wrong\n\nx solution 2 2 NotMaximum\n\nsolution:2: s 10\n/);
         assert.match(saved, /\ninstance: pipes.max, 148 bytes, SHA-256 .*\n[^]*\n\ndimacs /);
     },
-    "a fault in a text": async (person) => {
-        await person.example("a fault in a text");
-        const {line, marked, fields} = await person.ask("Check");
-        assert.deepEqual([line, marked, fields], ["x instance 12 4 BadNumber", ["instance:12: a 3 4  500.5"], ["500.5"]]);
-        assert.equal(await person.page.evaluate(CHOSEN("instance")), "a 3 4  500.5");
-    },
-    "nothing to check, and nothing to solve": async (person) => {
-        await person.write({instance: MAX, claim: ""});
-        assert.match((await person.ask("Check")).verdict, /^There is nothing to check yet/);
+    "a long paste": async (person) => {
+        await person.write({instance: "c before after\n", claim: ""}, "max");
+        await person.page.evaluate(`${element("instance")}.setSelectionRange(9, 15)`);
+        await person.paste(`"\\n" + "c 78 letters ............................................................\\n".repeat(2 ** 14) + ${quoted(MAX)}`, "instance");
+        const {values, about} = await person.texts();
+        assert.ok(values.instance.startsWith("c before \nc 78") && values.instance.length <= 2 ** 16);
+        assert.match(about.instance, /^an instance of maximum flow, 2 nodes, 1 arcs, .*\. [\d,]+ more lines aren't shown\.$/);
+        assert.ok(await person.page.evaluate(`${element("instance")}.readOnly`));
+        await person.paste(`"lost"`, "instance");
         assert.equal((await person.ask("Solve")).line, "v max 4");
-        await person.example("distances");
-        assert.match((await person.ask("Solve")).verdict, /^Solve answers queries/);
+        await person.page.evaluate(`${element("instance")}.select()`);
+        await person.paste(quoted(PARALLEL), "instance");
+        assert.equal((await person.texts()).values.instance, PARALLEL);
     },
-    "least cost, solved": async (person) => {
-        await person.example("a flow of least cost");
-        assert.equal((await person.ask("Check")).line, "v min 55");
-        assert.deepEqual(Object.values(await person.ask("Solve")).slice(0, 1), ["Solved."]);
-        if (person.downloads) assert.match(await person.downloaded("freight.solution"), /^s 55\n/);
+    "a run that is stopped": async (person) => {
+        await person.write({claim: "s 0\n"}, "max");
+        await person.drop({"long.max": LONG}, "instance");
+        assert.match((await person.texts()).about.instance, /^long\.max: an instance of maximum flow, 120000 nodes.*more lines aren't/);
+        for (const heading of ["Stopped: undecided.", "Stopped: undecided."]) {
+            await person.page.evaluate(`void (${element("answer")}.hidden = true, ${button("Solve")}.click())`);
+            await person.click("Stop");
+            assert.equal((await person.answered()).verdict, heading);
+        }
+        assert.equal((await person.ask("Check")).line, "x solution 1 2 NotMaximum");
     },
-    "no feasible flow": async (person) => {
-        await person.example("no feasible flow");
-        assert.match((await person.ask("Check")).meaning, /its supply: 5/);
-        assert.equal((await person.ask("Solve")).line, "v infeasible");
-    },
-    "queries judged by labels": async (person) => {
-        await person.example("queries and labels");
-        assert.equal((await person.ask("Check")).line, "v 1 5 1400\nv 1 6 unreachable\nv 6 3 1400");
-    },
-    "queries without labels": async (person) => {
-        await person.click("Clear");
-        await person.example("queries and labels");
-        await person.clear("certificate");
-        assert.match((await person.ask("Check")).verdict, /press Solve/);
-        assert.equal((await person.ask("Solve")).verdict, "Solved.");
-    },
-    "files go where their kinds belong": async (person) => {
-        await person.example("distances");
-        const files = [`new File([${quoted(FLOW)}], "one.solution")`, `new File([${quoted(MAX)}], "one.max")`];
-        await person.drop(`[${files}]`);
-        assert.match(await person.about("instance"), /^one\.max: an instance of maximum flow, 2 nodes, 1 arcs/);
-        assert.equal((await person.ask("Check")).line, "v max 4");
-    },
-    "a .gz is unpacked": async (person) => {
-        const packed = `new Blob([${quoted(MAX)}]).stream().pipeThrough(new CompressionStream("gzip"))`;
-        await person.drop(`(async () => [new File([await new Response(${packed}).blob()], "two.max.gz")])()`, "instance");
-        await person.write({claim: FLOW});
-        assert.match(await person.about("instance"), /^two\.max\.gz: an instance of maximum flow/);
-        assert.equal((await person.ask("Check")).line, "v max 4");
-    },
-    "a broken .gz is refused": async (person) => {
-        await person.drop(`[new File([new Uint8Array([31, 139, 8, 0, 1, 2])], "bad.gz")]`, "instance");
-        assert.match(await person.about("instance"), /^bad\.gz can't be unpacked/);
-    },
-    "a file over 2 GB is refused": async (person) => {
-        await person.drop(`[new File(Array(33).fill(new Blob([new Uint8Array(2 ** 26)])), "big.max")]`, "instance");
-        assert.match(await person.about("instance"), /^big\.max has more than 2 GB/);
-    },
-    "a long text is shown in part, and a run is stopped": async (person) => {
-        await person.drop(`[new File(${LONG}, "long.max")]`, "instance");
-        await until(person.page, `${text("about-instance")}.startsWith("long.max: an instance of maximum flow, 120000 nodes")`);
-        assert.ok((await person.page.evaluate(`${element("instance")}.value.split("\\n").length`)) < 200);
-        await person.page.evaluate(`void (${element("answer")}.hidden = true, ${button("Solve")}.click())`);
-        await until(person.page, `!document.getElementById("stop").hidden`);
-        await person.click("Stop");
-        assert.equal((await person.answered()).verdict, "Stopped: undecided.");
-        await person.write({claim: "s 0\n"});
-        assert.match((await person.ask("Check")).line, /^x solution 1 2 NotMaximum$/);
+    "a file that changes after it was read": async (person) => {
+        if (!person.downloads) return;
+        const path = join(person.folder, "changing.max");
+        writeFileSync(path, MAX);
+        await person.write({claim: FLOW}, "max");
+        await person.openFile(path);
         await person.page.evaluate(`void ${button("Solve")}.click()`);
-        await until(person.page, `!document.getElementById("stop").hidden`);
-        await person.click("Stop");
+        await person.page.evaluate(`void document.dispatchEvent(new KeyboardEvent("keydown", {key: "Escape"}))`);
         await until(person.page, settled);
-        await person.clear("instance");
-        assert.equal(await person.page.evaluate(`${element("instance")}.value`), "");
+        writeFileSync(path, "p max 0 0\nc another text\n");
+        assert.equal((await person.ask("Check")).line, "v max 4");
     },
-    "an example that is checked before it is read": async (person) => {
-        await person.example("a flow of least cost");
-        await person.page.evaluate(`void (${button("a maximum flow")}.click(), ${button("Check")}.click())`);
-        assert.equal((await person.answered()).line, "v max 12");
-    },
-    "keys and labels": async (person) => {
+    "keys, labels and focus": async (person) => {
         await person.example("a maximum flow");
-        const pressed = `new KeyboardEvent("keydown", {key: "Enter", ctrlKey: true})`;
-        await person.page.evaluate(`void document.dispatchEvent(${pressed})`);
+        await person.page.evaluate(`void ${element("check")}.focus()`);
+        await person.page.evaluate(`void document.dispatchEvent(new KeyboardEvent("keydown", {key: "Enter", ctrlKey: true}))`);
         const said = `document.querySelector("[role=alert][aria-busy=false]")?.textContent`;
-        await until(person.page, `/^\\s*Yes[.][^]*4 [+] 8 = 12/.test(${said})`);
+        await until(person.page, `/^\\s*Yes: [^]*4 [+] 8 = 12/.test(${said}) && ${settled}`);
+        assert.equal(await person.page.evaluate("document.activeElement.id"), "check");
         assert.match(await person.page.evaluate("document.body.innerText"), /Ctrl\+Enter/);
         const isNamed = `it.getAttribute("aria-label") || it.labels?.length || (it.matches("button") && it.textContent.trim())`;
         const all = `[...document.querySelectorAll("button, textarea, select, progress")]`;
@@ -432,7 +439,47 @@ const TESTS = {
     },
 };
 
+async function ofExample(person, [name, pressed, heading, line, meaning, made, content]) {
+    await person.example(name);
+    const answer = await person.ask(pressed);
+    assert.deepEqual([answer.verdict, answer.line], [heading, line]);
+    assert.equal(answer.state, heading.startsWith("Yes") ? "yes" : heading === NO ? "no" : "open");
+    assert.match(answer.meaning, meaning);
+    if (made && person.downloads) assert.match(await person.downloaded(made), new RegExp(content));
+}
+
+async function ofTyped(person, [claim, instance, given, certificate, heading]) {
+    await person.write({instance, claim: given, certificate}, claim);
+    const {verdict, state} = await person.ask("Check");
+    assert.equal(verdict, heading);
+    assert.equal(state, heading.startsWith("Yes") ? "yes" : heading === NO ? "no" : "open");
+}
+
+/** A file that fails leaves nothing in its place, and no old text is checked instead. */
+async function ofDropped(person, [slot, named, place, about, needed]) {
+    await person.example("a maximum flow");
+    await person.drop(named, slot);
+    const found = await person.texts();
+    assert.match(found.about[place], about);
+    assert.deepEqual([found.needs.startsWith(`Check needs ${needed}.`), found.isOff], [needed !== "", needed !== ""]);
+    assert.equal(found.values[place] === "", needed !== "");
+}
+
 // ---- the network
+
+/** Requests that a script may try; each gives whether it went through. */
+const REQUESTS = {
+    "a fetch": (url) => `fetch("${url}", {mode: "no-cors"}).then(() => true, () => false)`,
+    "a picture": (url) => `new Promise((good) => {
+        Object.assign(new Image(), {onload: () => good(true), onerror: () => good(false), src: "${url}"});
+    })`,
+    "a beacon": (url) => `Promise.resolve(navigator.sendBeacon("${url}")).catch(() => false)`,
+    "a request from a worker": (url) => `new Promise((good) => {
+        const code = 'fetch("${url}", {mode: "no-cors"}).then(() => postMessage(true), () => postMessage(false))';
+        const worker = new Worker(URL.createObjectURL(new Blob([code])));
+        Object.assign(worker, {onmessage: ({data}) => good(data), onerror: () => good(false)});
+    })`,
+};
 
 /** Counts what reaches a server here, which has the page and an empty one without a policy. */
 async function served(run) {
@@ -460,7 +507,7 @@ async function requests(person) {
         for (const [name, request] of Object.entries(REQUESTS)) {
             await counted(`${name} from an empty page`, async () => {
                 await person.page.evaluate(request(`${address}/plain-${name.replaceAll(" ", "-")}`));
-                for (let tries = 0; tries < 20 && !reached.length; tries++) await person.read();
+                for (let tries = 0; tries < 40 && !reached.length; tries++) await pause(person);
                 assert.equal(reached.splice(0).length, 1);
             });
         }
@@ -468,7 +515,7 @@ async function requests(person) {
         for (const [name, request] of Object.entries(REQUESTS)) {
             await counted(`${name} is refused`, async () => {
                 await person.page.evaluate(request(`${address}/${name.replaceAll(" ", "-")}`));
-                await person.read();
+                await pause(person);
                 assert.deepEqual(reached, []);
             });
         }
@@ -480,8 +527,7 @@ async function requests(person) {
         await counted("a page from a server without https", async () => {
             await person.open(`${address.replace("127.0.0.1", "0.0.0.0")}/page`);
             await person.example("a maximum flow");
-            assert.equal((await person.ask("Check")).verdict, "Yes.");
-            assert.match((await person.judged())[1], /, no SHA-256, which a browser computes for /);
+            assert.match((await person.ask("Check")).judged[1], /, no SHA-256, which a browser computes for /);
         });
     });
 }
@@ -490,6 +536,9 @@ await withPage(kind, program, async (page, folder) => {
     const person = Object.assign(new Person(page, folder), {downloads: kind === "chromium"});
     await page.size(1100, 900);
     await counted("the page opens from a file", () => person.open(pathToFileURL(resolve(file)).href));
+    for (const row of OF_EXAMPLES) await counted(`${row[1]} of ${row[0]}`, () => ofExample(person, row));
+    for (const row of TYPED) await counted(`${row[0]}: ${row[4]}`, () => ofTyped(person, row));
+    for (const [name, row] of Object.entries(DROPPED)) await counted(`${name} is dropped`, () => ofDropped(person, row));
     await countedAll(TESTS, person);
     await requests(person);
 });

@@ -44,7 +44,7 @@ def in_script(text):
 def examples():
     found = []
     for title, kind, names in SHOWN:
-        texts = {slot: [name, read(f"{EXAMPLES}/{name}")] for slot, name in zip(SLOTS, names)}
+        texts = {slot: [read(f"{EXAMPLES}/{name}"), name] for slot, name in zip(SLOTS, names)}
         found.append({"title": title, "kind": kind, "texts": texts})
     return json.dumps(found)
 
@@ -63,7 +63,7 @@ def page(module):
         "STYLE": style,
         "EXAMPLES": in_script(examples()),
         "MODULE": base64.b64encode(gzip.compress(module, 9, mtime=0)).decode(),
-        "WORKER": in_script(joined(*calls, f"{PAGE}/kinds.js", f"{PAGE}/worker.js")),
+        "WORKER": in_script(joined(*calls, f"{PAGE}/worker.js")),
         "SCRIPT": script,
     }
     if "</script" in script:
