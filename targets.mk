@@ -1,6 +1,7 @@
 # Builds for other systems, of the module kept beside what was built for this one: in build/TARGET, or with UNPROVED=1 in
 # build/quick/TARGET. The Makefile includes it.
 CALLS = $(shell grep -o '^uint32_t dimacs_[a-z_]*' lib/include/dimacs.h | cut -d' ' -f2)
+PAGE_CALLS = $(addprefix dimacs_,proved version_text judge certify solve explain)
 TOOLCHAIN = $(or $(KIT),kit-is-missing)/toolchain/bin
 
 ## make wasm: builds build/wasm/dimacs.wasm, which is not proved but compiled from what is; UNPROVED=1 takes what isn't
@@ -16,18 +17,21 @@ WASM_LINK = $(TOOLCHAIN)/ld.lld -flavor wasm -mwasm64 --no-entry --stack-first -
 	mkdir -p $(@D)
 	tools/targets/compile.py wasm $< $@
 
-%/wasm/dimacs64.wasm: %/wasm/dimacs.o lib/glue/heap.c lib/glue/wasm_heap.c lib/glue/wasm_int128.c lib/include/dimacs.h \
-    targets.mk
+# The page's module has the calls that the page makes.
+%/wasm/dimacs64.wasm %/wasm/page64.wasm: %/wasm/dimacs.o lib/glue/heap.c lib/glue/wasm_heap.c lib/glue/wasm_int128.c \
+    lib/include/dimacs.h targets.mk
 	$(WASM_CC) -c lib/glue/heap.c -o $(@D)/heap.o
 	$(WASM_CC) -c lib/glue/wasm_heap.c -o $(@D)/malloc.o
 	$(WASM_CC) -c lib/glue/wasm_int128.c -o $(@D)/int128.o
-	$(WASM_LINK) $(CALLS:%=--export=%) $< $(@D)/heap.o $(@D)/malloc.o $(@D)/int128.o -o $@
+	$(WASM_LINK) $(CALLS:%=--export=%) $< $(@D)/heap.o $(@D)/malloc.o $(@D)/int128.o -o $(@D)/dimacs64.wasm
+	$(WASM_LINK) $(PAGE_CALLS:%=--export=%) $< $(@D)/heap.o $(@D)/malloc.o $(@D)/int128.o -o $(@D)/page64.wasm
 
-%/wasm/dimacs.wasm: %/wasm/dimacs64.wasm tools/targets/lower_addresses.py
+%.wasm: %64.wasm tools/targets/lower_addresses.py
 	tools/targets/lower_addresses.py $< $@
 
 ## make npm: packs the module with its calls and its command for node, as build/npm/dimacs.tgz
 npm: $(FROM)/npm/dimacs.tgz
+	@echo 'Try:  npm install $<'
 
 JS = $(filter-out lib/js/package.json,$(wildcard lib/js/*.js lib/js/*.ts lib/js/*.json lib/js/README.md))
 
@@ -42,7 +46,7 @@ JS = $(filter-out lib/js/package.json,$(wildcard lib/js/*.js lib/js/*.ts lib/js/
 ## make page: makes build/page/dimacs.html, one file that checks and solves in a browser, and needs no server
 page: $(FROM)/page/dimacs.html
 
-%/page/dimacs.html: %/wasm/dimacs.wasm tools/targets/page.py $(JS) $(wildcard lib/page/* examples/*)
+%/page/dimacs.html: %/wasm/page.wasm tools/targets/page.py $(JS) $(wildcard lib/page/* examples/*)
 	mkdir -p $(@D)
 	tools/targets/page.py $< $@
 
@@ -101,5 +105,6 @@ check-targets:
 	tests/lower_addresses.py
 	tests/targets.py --build $(FROM) --all
 
-.PRECIOUS: %/wasm/dimacs.o %/wasm/dimacs64.wasm %/aarch64/heap.o %/windows/calls.o %/windows/heap.o
+.PRECIOUS: %/wasm/dimacs.o %/wasm/dimacs64.wasm %/wasm/page64.wasm %.wasm %/aarch64/heap.o %/windows/calls.o \
+    %/windows/heap.o
 .PHONY: wasm npm page aarch64 windows check-targets

@@ -18,8 +18,8 @@ export const FORMATS = {
 /** A longer text is shown in part, since it would make the page slow. In bytes. */
 export const MOST_SHOWN = 2 ** 16;
 
-/** The most bytes in which the first lines are looked for, and those of a line that are looked at. */
-const MOST_OF_HEAD = 2 ** 24, MOST_OF_LINE = 2 ** 20;
+/** The most bytes in which the first lines are looked for. */
+const MOST_OF_HEAD = 2 ** 24;
 const NEWLINE = 10;
 
 const latin = new TextDecoder("latin1"), unicode = new TextDecoder(), utf8 = new TextEncoder();
@@ -38,35 +38,15 @@ const many = (count, name) => `${count.toLocaleString("en")} ${name}${count === 
 export function shown(bytes) {
     const lines = bytes.lastIndexOf(NEWLINE, MOST_SHOWN - 1) + 1;
     const end = bytes.length <= MOST_SHOWN ? bytes.length : lines || MOST_SHOWN, rest = bytes.subarray(end);
-    const unended = rest.length > 0 && rest.at(-1) !== NEWLINE ? 1 : 0;
-    const more = lines ? many(countOf(NEWLINE, rest) + unended, "more line") : many(rest.length, "more byte");
+    const count = countOf(NEWLINE, rest) + (rest.at(-1) === NEWLINE ? 0 : 1);
+    const more = lines ? many(count, "more line") : many(rest.length, "more byte");
     return {text: unicode.decode(bytes.subarray(0, end)), more: rest.length ? more : ""};
 }
 
-/** The place after the end of the line that begins at a place. */
-function afterLine(bytes, at) {
-    const end = bytes.indexOf(NEWLINE, at);
-    return end < 0 ? bytes.length : end + 1;
-}
-
-/** Whether a byte separates fields. */
-const isBlank = (byte) => byte === 32 || (byte > 8 && byte < 14 && byte !== NEWLINE);
-
-/** The first byte of a line that isn't blank: a comment is passed by it ten times as fast as by its fields. */
-function firstByte(bytes, at, end) {
-    while (at < end && isBlank(bytes[at])) at++;
-    return at < end ? bytes[at] : NEWLINE;
-}
-
-/** The fields of the first two lines that are neither blank nor comments. */
+/** The first fields of the first two lines that are neither blank nor comments. */
 function firstRecords(bytes) {
-    const records = [], most = Math.min(bytes.length, MOST_OF_HEAD);
-    for (let at = 0; at < most && records.length < 2; at = afterLine(bytes, at)) {
-        const end = Math.min(afterLine(bytes, at), at + MOST_OF_LINE), first = firstByte(bytes, at, end);
-        if (first === NEWLINE || first === 99) continue;
-        records.push(latin.decode(bytes.subarray(at, end)).split(/\s+/).filter(Boolean));
-    }
-    return records;
+    const found = latin.decode(bytes.subarray(0, MOST_OF_HEAD)).matchAll(/(?:^|\n)[ \t\v\f\r]*([^c\s][^\n]*)/g);
+    return [found.next(), found.next()].filter((it) => !it.done).map((it) => it.value[1].split(/\s+/, 6));
 }
 
 /** The kind of each word of a problem line. */
@@ -90,7 +70,7 @@ function described(kind, fields, size) {
 /** A text, with the name of the file that it came from. */
 export function textOf(source, file = "") {
     const bytes = typeof source === "string" ? utf8.encode(source) : source, records = firstRecords(bytes);
-    const kind = kindOf(records[0]), about = described(kind, records[0] ?? [], bytes.length);
+    const kind = kindOf(records[0]), about = bytes.length ? described(kind, records[0] ?? [], bytes.length) : "";
     return {bytes, file, records, kind, about, bad: "", ...shown(bytes)};
 }
 

@@ -64,18 +64,12 @@ function stop() {
 
 /** Texts of more bytes are refused: an array of bytes can't be longer everywhere. */
 const MOST_BYTES = 2 ** 31 - 1;
-const TOO_LONG = "it has more than 2 GB, which is too much for this page. Use the command dimacs.";
+const TOO_LONG = "it has more than 2 GB, which is too much for this page. Use the command dimacs";
 
 /** How compressed files begin. Those by gzip are unpacked. */
-const GZIP = [0x1f, 0x8b];
-const PACKED = {
-    bzip2: [0x42, 0x5a, 0x68],
-    xz: [0xfd, 0x37, 0x7a, 0x58, 0x5a],
-    zstd: [0x28, 0xb5, 0x2f, 0xfd],
-    zip: [0x50, 0x4b, 3, 4],
-};
+const PACKED = {gzip: "\x1f\x8b", bzip2: "BZh", xz: "\xfd7zXZ", zstd: "(\xb5/\xfd", zip: "PK\x03\x04"};
 
-/** What is wrong with a file, in a sentence for the reader. */
+/** What is wrong with a file, in words for the reader. */
 class Unreadable extends Error {}
 
 async function gathered(stream) {
@@ -105,12 +99,11 @@ function watched(file) {
 
 async function contentOf(file) {
     if (file.size > MOST_BYTES) throw new Unreadable(TOO_LONG);
-    const head = new Uint8Array(await file.slice(0, 6).arrayBuffer());
-    const begins = (bytes) => bytes.every((it, i) => it === head[i]);
-    const packed = Object.keys(PACKED).find((it) => begins(PACKED[it]));
-    if (packed) throw new Unreadable(`it is packed by ${packed}: unpack it first. Only .gz is unpacked here.`);
-    if (!begins(GZIP)) return gathered(watched(file));
-    return gathered(watched(file).pipeThrough(new DecompressionStream("gzip")));
+    const head = String.fromCharCode(...new Uint8Array(await file.slice(0, 6).arrayBuffer()));
+    const packed = Object.keys(PACKED).find((it) => head.startsWith(PACKED[it]));
+    if (!packed) return gathered(watched(file));
+    if (packed === "gzip") return gathered(watched(file).pipeThrough(new DecompressionStream("gzip")));
+    throw new Unreadable(`it is packed by ${packed}: unpack it first. Only .gz is unpacked here`);
 }
 
 /** The text of a file; an empty one, and what is wrong, if it can't be read. */
@@ -118,11 +111,11 @@ async function read(file) {
     const name = file.name.replace(/[\p{Cc}\p{Zl}\p{Zp}]/gu, "\ufffd"), {signal} = halted;
     try {
         const bytes = await contentOf(file);
-        return {...textOf(bytes, name), bad: bytes.length ? "" : "it is empty."};
+        return {...textOf(bytes, name), bad: bytes.length ? "" : "it is empty"};
     } catch (why) {
-        const isBroken = why instanceof TypeError ? "it can't be unpacked: it isn't whole, or no .gz file." : "";
+        const isBroken = why instanceof TypeError ? "it can't be unpacked: it isn't whole, or no .gz file" : "";
         const own = why instanceof Unreadable ? why.message : isBroken;
-        const bad = signal.aborted ? "it was stopped." : own || "it can't be read: it isn't a file, or has changed.";
+        const bad = signal.aborted ? "it was stopped" : own || "it can't be read: it isn't a file, or has changed";
         return {...textOf("", name), bad};
     }
 }
@@ -147,13 +140,6 @@ async function give(files, slot) {
 
 // ---- texts
 
-function about(slot, isBad, ...parts) {
-    const place = $(`about-${slot}`);
-    place.dataset.first ??= place.textContent;
-    place.replaceChildren(...(parts.length ? parts : [place.dataset.first]));
-    place.classList.toggle("bad", isBad);
-}
-
 /**
  * Puts a text into its slot, unless another one came after the change `at`. With another instance the last one's
  * certificate goes.
@@ -165,21 +151,21 @@ function put(slot, text, at) {
     if (last.at === at && last.file) $(`about-${slot}`).append(" Not ", bdi(last.file), ", which came with it.");
     const isNext = slot === "instance" && last.bytes.length > 0 && last.at !== at;
     if (!isNext || !certificate.bytes.length || certificate.at === at) return;
-    hold("certificate", textOf(""), at);
-    about("certificate", false, "The last instance's certificate was removed.");
+    hold("certificate", {...textOf(""), about: "The last instance's certificate was removed"}, at);
 }
 
 function hold(slot, it, at) {
-    const {file, bytes, kind, text, more, bad} = it, area = $(slot), isOther = kind && FORMATS[kind].slot !== slot;
+    const {file, bytes, kind, text, more, bad} = it, area = $(slot), place = $(`about-${slot}`);
+    const isOther = kind && FORMATS[kind].slot !== slot, claims = FORMATS[kind]?.claims ?? [];
     slots[slot] = {...it, at};
     if (area.value !== text) area.value = text;
     if (file) area.scrollTop = 0;
     area.readOnly = more !== "";
-    const notes = [`${it.about}.`, isOther && "It doesn't belong here.", more && `${more} aren't shown.`].filter(Boolean);
-    const words = bad || (bytes.length ? notes.join(" ") : "");
-    about(slot, Boolean(bad || isOther || (file && !kind)), ...(file ? [bdi(file), ": "] : []), ...(words ? [words] : []));
+    const notes = [bad || it.about, isOther && "It doesn't belong here", more && `${more} aren't shown`].filter(Boolean);
+    place.dataset.first ??= place.textContent;
+    place.replaceChildren(...(file ? [bdi(file), ": "] : []), notes.length ? `${notes.join(". ")}.` : place.dataset.first);
+    place.classList.toggle("bad", Boolean(bad || isOther || (file && !kind)));
     if (slot === "certificate" && bytes.length) $("more").open = true;
-    const claims = FORMATS[kind]?.claims ?? [];
     if (slot === "instance" && claims.length && !claims.includes($("kind").value)) $("kind").value = claims[0];
     ready();
 }
@@ -418,12 +404,9 @@ function openFile(slot) {
 }
 
 function wire(pane) {
-    const {slot} = pane.dataset, title = pane.querySelector("label").textContent;
-    const opens = pane.querySelector("[data-open]"), clears = pane.querySelector("[data-clear]");
+    const {slot} = pane.dataset, [opens, clears] = pane.querySelectorAll("button");
     opens.onclick = () => openFile(slot);
-    opens.setAttribute("aria-label", `Open a file: ${title}`);
     clears.onclick = () => put(slot, textOf(""), changed());
-    clears.setAttribute("aria-label", `Clear: ${title}`);
     $(slot).oninput = () => hold(slot, textOf($(slot).value), changed());
     $(slot).onpaste = (event) => pasted(event, slot);
     pane.ondragenter = pane.ondragover = () => pane.classList.add("over");

@@ -120,7 +120,7 @@ class Person {
     }
 
     async clear(slot) {
-        await this.page.evaluate(`void document.querySelector('[data-slot="${slot}"] [data-clear]').click()`);
+        await this.page.evaluate(`void document.querySelector('[data-slot="${slot}"] [aria-label^=Clear]').click()`);
     }
 
     choose(kind) {
