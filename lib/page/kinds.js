@@ -1,16 +1,16 @@
 // The kinds of text, the commands over them, and what the answers are called.
 
-/** The kinds of text: their names, where each belongs, and what the numbers of a problem line are. */
+/** The kinds of text: their names, where each belongs, what its problem line counts, and how it is given. */
 export const FORMATS = {
     max: {name: "an instance of maximum flow", slot: "instance", claims: ["max"], counts: ["nodes", "arcs"]},
     min: {name: "an instance of least cost", slot: "instance", claims: ["min", "infeasible"], counts: ["nodes", "arcs"]},
     gr: {name: "a graph", slot: "instance", claims: ["paths"], counts: ["nodes", "arcs"]},
     solution: {name: "a solution", slot: "claim"},
-    query: {name: "queries", slot: "claim", counts: ["queries"]},
+    query: {name: "queries", slot: "claim", counts: ["queries"], how: ", as p aux sp ss 1 and s 1 on two lines"},
     distances: {name: "distances", slot: "claim", counts: ["nodes", "sources"]},
     cut: {name: "a set of nodes", slot: "certificate", counts: ["nodes", "inside"]},
     pot: {name: "potentials", slot: "certificate", counts: ["nodes", "potentials"]},
-    dist: {name: "labels", slot: "certificate", counts: ["nodes", "sources"]},
+    dist: {name: "labels", slot: "certificate", counts: ["nodes", "sources"], how: " as the certificate, which Solve makes"},
 };
 
 // ---- texts
@@ -49,14 +49,11 @@ function firstRecords(bytes) {
     return [found.next(), found.next()].filter((it) => !it.done).map((it) => it.value[1].split(/\s+/, 6));
 }
 
-/** The kind of each word of a problem line. */
-const WORDS = {sp: "gr", aux: "query"};
-for (const it of ["max", "min", "cut", "pot", "dist", "distances"]) WORDS[it] = it;
-
 /** The kind of a text by its first record, or null. */
-function kindOf([letter, word] = []) {
+function kindOf([letter, word = ""] = []) {
     if (letter === "s" || letter === "f") return "solution";
-    return letter === "p" && Object.hasOwn(WORDS, word ?? "") ? WORDS[word] : null;
+    const kind = {sp: "gr", aux: "query"}[word] ?? word;
+    return letter === "p" && Object.hasOwn(FORMATS, kind) ? kind : null;
 }
 
 /** What there is to say of a text. */
@@ -95,11 +92,9 @@ export function planned({what, kind, isAlone}, slots) {
     if (isAsked || (claim && !isSolved)) reads.push({name, slot: "claim", wanted: name});
     if (isJudged) reads.push({name: "certificate", slot: "certificate", wanted: certificate});
     const verb = isSolved ? "solve" : isJudged ? "judge" : "certify";
-    const lacked = reads.find((it) => !has(it.slot))?.wanted;
     const isUnasked = isSolved && isAsked && given !== "query", isUnlabelled = isAsked && verb === "certify";
-    let missing = lacked && FORMATS[lacked].name;
-    if (!missing && isUnlabelled) missing = "labels as the certificate, which Solve makes";
-    if (has("instance") && isUnasked) missing = "queries, as p aux sp ss 1 and s 1 on two lines";
+    const lacked = reads.find((it) => !has(it.slot))?.wanted ?? (isUnasked ? "query" : isUnlabelled && "dist");
+    const missing = lacked && `${FORMATS[lacked].name}${FORMATS[lacked].how ?? ""}`;
     return {verb, kind: isSolved && kind === "infeasible" ? "min" : kind, certificate, reads, missing};
 }
 
@@ -140,7 +135,7 @@ function claimedOfPairs(line, {certificate}, pairs, far) {
 }
 
 /** What a yes says, or nothing. */
-function claimed({line, judged, printed}) {
+function claimed(line, {judged, printed}) {
     const [, kind, value, sources] = line.split(" "), texts = Object.fromEntries(judged.map((it) => [it.slot, it]));
     if (Number(kind)) return claimedOfPairs(line, texts, countOf(NEWLINE, printed), countOf(M, printed));
     if (kind === "max") return `the flow of value ${value} is maximum`;
@@ -152,9 +147,10 @@ function claimed({line, judged, printed}) {
 
 /** The heading of an answer, whether it is a yes or a no, and whether a claim may hold without the certificate given. */
 export function headed(answer) {
-    const {what, command, status, line, judged} = answer, isSolved = what === "solve";
+    const {what, command, status, judged, printed} = answer, isSolved = what === "solve";
+    const [line] = shown(printed).text.split("\n");
     if (status === 0) {
-        const claim = claimed(answer), state = claim && !isSolved ? "yes" : "open";
+        const claim = claimed(line, answer), state = claim && !isSolved ? "yes" : "open";
         if (!claim) return {heading: isSolved ? "Nothing was asked" : "Nothing was claimed", state};
         return {heading: `${isSolved ? "Solved" : "Yes"}: ${claim}`, state};
     }

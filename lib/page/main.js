@@ -4,21 +4,18 @@ import {FORMATS, MOST_SHOWN, headed, planned, shown, textOf} from "./kinds.js";
 const $ = (id) => document.getElementById(id);
 const SLOTS = ["instance", "claim", "certificate"];
 
-const PROVED = "Every function that decides here is proved. Its translation to WebAssembly, this page and your browser aren't.";
+const PROVED = "Every function that decides here is proved. What translates it, this page and your browser aren't.";
 const UNPROVED = "This page was built of code that is not proved.";
-
 const TITLE = document.title;
 const NO_SUM = "no SHA-256, which a browser computes for pages from a file, https or localhost";
 
 /** The text in each slot, and at which change it came. */
 const slots = Object.fromEntries(SLOTS.map((slot) => [slot, {...textOf(""), at: 0}]));
 
-/** The answer that is shown, and how often texts or the claim have changed. */
-let answered = null, changes = 0;
+/** The answer that is shown, how often texts or the claim have changed, and what is under way. */
+let answered = null, changes = 0, running = false, reading = 0;
 
-let running = false, reading = 0;
-
-function element(name, properties = {}, ...inside) {
+function element(name, properties, ...inside) {
     const it = Object.assign(document.createElement(name), properties);
     it.append(...inside);
     return it;
@@ -26,8 +23,11 @@ function element(name, properties = {}, ...inside) {
 
 const button = (onclick, ...inside) => element("button", {type: "button", onclick}, ...inside);
 
+/** The quotes that can be shown where they stand. */
+const quotes = () => [...document.querySelectorAll("button.quote")];
+
 /** The name of a file, whose letters may run from right to left. */
-const bdi = (name) => element("bdi", {textContent: name});
+const bdi = (name) => element("bdi", {}, name);
 
 // ---- the worker
 
@@ -180,9 +180,9 @@ function take(event, {files}, slot, text) {
 
 /** A paste makes a text of what is there. One that is shown in part it only replaces as a whole. */
 function pasted(event, slot) {
-    const {value, selectionStart: from, selectionEnd: to, readOnly} = $(slot), isPart = readOnly && to - from < value.length;
-    const added = event.clipboardData.getData("text/plain");
-    take(event, event.clipboardData, slot, !isPart && added && value.slice(0, from) + added + value.slice(to));
+    const {value, selectionStart: from, selectionEnd: to, readOnly} = $(slot), {clipboardData} = event;
+    const isPart = readOnly && to - from < value.length, added = clipboardData.getData("text/plain");
+    take(event, clipboardData, slot, !isPart && added && value.slice(0, from) + added + value.slice(to));
 }
 
 // ---- progress
@@ -213,39 +213,35 @@ function watch() {
 // ---- the answer
 
 /** A quoted line with its field marked, as the marks below it say. A press shows it where it stands. */
-function quoted(line, marks, judged) {
-    const [, name, number] = /^(\w+):(\d+): /.exec(line), place = judged.find((it) => it.name === name);
+function quoted(line, marks, place, number) {
     const begin = marks.lastIndexOf(" ") + 1, end = marks.length;
-    const field = marks ? [element("mark", {textContent: line.slice(begin, end)})] : [];
+    const field = marks ? [element("mark", {}, line.slice(begin, end))] : [];
     const parts = [line.slice(0, begin), ...field, line.slice(end)];
-    const found = place && answered.state !== "past" && lineIn(place, Number(number));
+    const found = place && answered.state !== "past" && lineIn(place.text, number);
     if (!found) return element("p", {className: "quote"}, ...parts);
-    const show = (isPressed) => select(place.slot, found, isPressed);
+    const show = (isPressed) => select($(place.slot), found, isPressed);
     return Object.assign(button(() => show(true), ...parts), {className: "quote", show});
 }
 
 /** The lines that explain an answer. */
 function explained(text, judged) {
-    const lines = text.split("\n").slice(0, -1), isMarks = (line) => /^ *\^+$/.test(line ?? "");
     const names = [...judged.map((it) => it.name), "certificate", "better", "flow"];
-    return lines.flatMap((line, i) => {
-        if (isMarks(line)) return [];
-        if (!names.includes(/^(\w+):\d+: /.exec(line)?.[1])) return [element("p", {textContent: line})];
-        return [quoted(line, isMarks(lines[i + 1]) ? lines[i + 1] : "", judged)];
+    return [...text.matchAll(/([^\n]*)\n(?:( *\^+)\n)?/g)].map(([, line, marks = ""]) => {
+        const [, name, number] = /^(\w+):(\d+): /.exec(line) ?? [], place = judged.find((it) => it.name === name);
+        return names.includes(name) ? quoted(line, marks, place, Number(number)) : element("p", {}, line);
     });
 }
 
-/** Where a line of a text stands in its area, which has a line feed for each carriage return; null if it isn't shown. */
-function lineIn({text}, line) {
-    const lines = text.split("\n"), inArea = (some) => some.join("\n").replace(/\r\n?/g, "\n").length;
-    if (line > lines.length || (line === lines.length && lines[line - 1] === "")) return null;
-    const begin = inArea([...lines.slice(0, line - 1), ""]), end = inArea([...lines.slice(0, line - 1), lines[line - 1].trimEnd()]);
-    return [begin, end];
+/** Where a line of a text stands in its area, in which each carriage return ends a line; null if it isn't shown. */
+function lineIn(text, number) {
+    const lines = text.split("\n"), before = lines.slice(0, number - 1), line = lines[number - 1];
+    const inArea = (...some) => some.join("\n").replace(/\r\n?/g, "\n").length;
+    return line === undefined ? null : [inArea(...before, ""), inArea(...before, line.trimEnd())];
 }
 
-/** Selects a line in its text. */
-function select(slot, [begin, end], isPressed) {
-    const area = $(slot), rowsTo = (at) => area.value.slice(0, at).split("\n").length;
+/** Selects a line in its area. */
+function select(area, [begin, end], isPressed) {
+    const rowsTo = (at) => area.value.slice(0, at).split("\n").length;
     if (isPressed) area.closest("details")?.setAttribute("open", "");
     if (isPressed) area.focus();
     area.setSelectionRange(begin, end);
@@ -259,13 +255,10 @@ function download(name, ...parts) {
 }
 
 /** A text that the program wrote, and how much of it isn't shown. */
-function written(bytes, title) {
-    const {text, more} = shown(bytes), lines = element("pre", {tabIndex: 0, textContent: text});
-    lines.setAttribute("aria-label", title);
-    return [...(text ? [lines] : []), ...(more ? [element("p", {className: "about", textContent: `and ${more}`})] : [])];
+function written(bytes, ariaLabel) {
+    const {text, more} = shown(bytes), lines = element("pre", {tabIndex: 0, ariaLabel}, text);
+    return [...(text ? [lines] : []), ...(more ? [element("p", {className: "about"}, `and ${more}`)] : [])];
 }
-
-const CERTIFICATES = {max: "a minimum cut", min: "potentials", infeasible: "a set of nodes", paths: "labels"};
 
 /** A name for a file of the answer, by that of its instance. */
 function named(ending) {
@@ -275,13 +268,11 @@ function named(ending) {
 
 function made({name, bytes}, {what, kind, status}) {
     const isOther = what === "check" && status === 1, other = kind === "infeasible" ? "feasible" : "better";
-    const certificate = CERTIFICATES[kind === "min" && name === "cut" ? "infeasible" : kind];
-    const own = name === "solution" ? "The solution" : `What shows it: ${certificate}`;
+    const own = name === "solution" ? "The solution" : `What shows it: ${FORMATS[name].name}`;
     const title = isOther ? `A ${other} solution` : own, file = named(`${isOther ? `-${other}` : ""}.${name}`);
-    const row = element("div", {className: "row"}, element("h3", {textContent: title}));
-    row.append(button(() => download(file, bytes), "Download ", bdi(file)));
-    const use = () => put("claim", textOf(bytes, file), changed());
-    if (name === "solution") row.append(button(use, "Use it as the solution"));
+    const use = button(() => put("claim", textOf(bytes, file), changed()), "Use it as the solution");
+    const buttons = [button(() => download(file, bytes), "Download ", bdi(file)), ...(name === "solution" ? [use] : [])];
+    const row = element("div", {className: "row"}, element("h3", {}, title), ...buttons);
     return element("div", {className: "made"}, row, ...written(bytes, title));
 }
 
@@ -296,9 +287,7 @@ function clearAnswer() {
 function changed() {
     if (!answered) clearAnswer();
     else head({heading: "Changed since: check again", state: "past"});
-    for (const it of document.querySelectorAll("button.quote")) {
-        it.replaceWith(element("p", {className: "quote"}, ...it.childNodes));
-    }
+    for (const it of quotes()) it.replaceWith(element("p", {className: "quote"}, ...it.childNodes));
     return ++changes;
 }
 
@@ -313,30 +302,26 @@ function head({heading, state}) {
 /** What was judged, in lines: the claim, each text with its sum, what wasn't read, and the command. */
 function judgedIn({what, claim, command, took, judged, unread, sums}) {
     const time = took < 1000 ? `${Math.ceil(took)} ms` : `${(took / 1000).toFixed(1)} s`;
-    const line = (title, file, ...words) => [`${title}: `, ...(file ? [bdi(file), ", "] : []), words.filter(Boolean).join(", ")];
+    const line = (title, file, about) => [`${title}: `, ...(file ? [bdi(file), ", "] : []), about];
     const texts = judged.map(({name, file, bytes}, i) => {
-        return line(name, file, /\.gz$/i.test(file) && "unpacked", `${bytes.length} bytes`, sums[i] ? `SHA-256 ${sums[i]}` : NO_SUM);
+        const packed = /\.gz$/i.test(file) ? "unpacked, " : "", sum = sums[i] ? `SHA-256 ${sums[i]}` : NO_SUM;
+        return line(name, file, `${packed}${bytes.length} bytes, ${sum}`);
     });
-    const others = unread.map(({file, about: words}) => line("not read", file, words));
+    const others = unread.map(({file, about}) => line("not read", file, about));
     return [...(what === "check" ? [[`claim: ${claim}`]] : []), ...texts, ...others, [`by ${command}, in ${time}`]];
-}
-
-/** What can be done if a certificate doesn't show a claim. */
-function offered({command}, {isOpen}) {
-    if (!isOpen) return [];
-    if (command === "judge-paths") return [button(() => run("solve"), "Solve the queries")];
-    return [button(() => run("check", true), "Check without this certificate")];
 }
 
 /** Shows an answer, and then what explains it; a reader of the screen hears both at once. */
 function answer(got) {
-    const heading = headed(got);
+    const heading = headed(got), solves = button(() => run("solve"), "Solve the queries");
+    const decides = button(() => run("check", true), "Check without this certificate");
+    const offered = heading.isOpen ? [got.command === "judge-paths" ? solves : decides] : [];
     answered = {...got, ...heading};
     $("said").setAttribute("aria-busy", "true");
     head(heading);
     $("line").replaceChildren(...written(got.printed, "The lines that the command prints"));
     $("judged").replaceChildren(...judgedIn(got).map((it) => element("li", {}, ...it)));
-    $("offers").replaceChildren(...offered(got, heading), button(save, "Save this answer"));
+    $("offers").replaceChildren(...offered, button(save, "Save this answer"));
     $("made").replaceChildren(...got.files.map((it) => made(it, got)));
 }
 
@@ -349,15 +334,9 @@ function explain(text) {
 
 /** Saves the whole answer: the program's lines too that aren't shown. */
 function save() {
-    const {heading, printed, explanation = ""} = answered, lines = [...$("judged").children].map((it) => `${it.textContent}\n`);
-    const parts = [[`${heading}\n`], [printed], [explanation], lines, [`${$("proof").textContent}\n`]];
-    const filled = parts.filter((it) => it.some((part) => part.length));
-    download(named("-answer.txt"), ...filled.flatMap((it, i) => (i ? ["\n", ...it] : it)));
-}
-
-function fail(message) {
-    clearAnswer();
-    head({heading: message, state: ""});
+    const {heading, printed, explanation = ""} = answered, judged = [...$("judged").children].map((it) => it.textContent);
+    const parts = [`${heading}\n`, printed, explanation, `${judged.join("\n")}\n`, `${$("proof").textContent}\n`];
+    download(named("-answer.txt"), ...parts.filter((it) => it.length).flatMap((it, i) => (i ? ["\n", it] : [it])));
 }
 
 async function run(what, isAlone = false) {
@@ -372,18 +351,18 @@ async function run(what, isAlone = false) {
     const watching = watch();
     try {
         await startWorker();
-        const got = await ask("run", {...plan, given: judged.map((it) => it.bytes)}), [line] = shown(got.printed).text.split("\n");
-        answer({...got, line, what, kind: plan.kind, claim, judged, unread: unread.filter((it) => it.bytes.length)});
+        const got = await ask("run", {...plan, given: judged.map((it) => it.bytes)});
+        answer({...got, what, kind: plan.kind, claim, judged, unread: unread.filter((it) => it.bytes.length)});
         if (changes !== before) changed();
         explain(await ask("explain"));
     } catch (why) {
         if (answered) explain(`${why.message}\n`);
-        else fail(why.message);
+        else head({heading: why.message, state: "open"});
     }
     clearInterval(watching);
     running = false;
     ready();
-    for (const it of [...document.querySelectorAll("button.quote")].reverse()) it.show(false);
+    for (const it of quotes().reverse()) it.show(false);
     if (document.activeElement === document.body) $("check").focus({preventScroll: true});
 }
 
@@ -441,7 +420,7 @@ async function start() {
         $("proof").classList.toggle("warning", !proved);
         document.documentElement.dataset.ready = Math.round(performance.now());
     } catch (why) {
-        fail(`This browser can't run it: ${why.message}`);
+        head({heading: `This browser can't run it: ${why.message}`, state: "open"});
     }
 }
 

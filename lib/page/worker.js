@@ -5,9 +5,6 @@ import {DONE, GAVE_UP, Library, Texts} from "../js/library.js";
 /** The calls, and the last run. */
 let texts, last;
 
-/** A command as it is typed. */
-const typed = (verb, kind) => `${verb}-${kind}`;
-
 /** Makes the call of a plan, and keeps what explains it. */
 function called({verb, kind, certificate, given}) {
     const {status, handed: [printed, ...made]} = texts.run(verb, kind, given);
@@ -27,7 +24,7 @@ function explained() {
     const name = status === DONE && !isPaths ? "judge" : verb;
     const better = kind === "infeasible" ? "flow" : "better";
     const shown = verb === "certify" && status !== DONE ? better : "certificate";
-    return explanation(typed(name, kind), [...given, ...made], shown).slice(printed.length);
+    return explanation(`${name}-${kind}`, [...given, ...made], shown).slice(printed.length);
 }
 
 /** The SHA-256 of a text; null where the browser doesn't compute it. */
@@ -48,7 +45,7 @@ const ANSWERS = {
 
     async run(plan) {
         const begun = performance.now(), sums = plan.given.map(sumOf), answer = called(plan);
-        const took = performance.now() - begun, command = typed(plan.verb, plan.kind);
+        const took = performance.now() - begun, command = `${plan.verb}-${plan.kind}`;
         return {...answer, command, took, sums: await Promise.all(sums)};
     },
 
