@@ -18,9 +18,11 @@ export const FORMATS = {
 /** A longer text is shown in part, since it would make the page slow. In bytes. */
 export const MOST_SHOWN = 2 ** 16;
 
-/** The most bytes in which the first lines are looked for. */
-const MOST_OF_HEAD = 2 ** 24;
-const NEWLINE = 10;
+/** The most bytes of a line that is accepted. */
+const MOST_OF_LINE = 2 ** 20;
+
+/** Bytes: the end of a line, the first one of a comment, and the m of "more", which no other answer to a pair has. */
+const NEWLINE = 10, COMMENT = 99, M = 109;
 
 const latin = new TextDecoder("latin1"), unicode = new TextDecoder(), utf8 = new TextEncoder();
 
@@ -45,8 +47,14 @@ export function shown(bytes) {
 
 /** The first fields of the first two lines that are neither blank nor comments. */
 function firstRecords(bytes) {
-    const found = latin.decode(bytes.subarray(0, MOST_OF_HEAD)).matchAll(/(?:^|\n)[ \t\v\f\r]*([^c\s][^\n]*)/g);
-    return [found.next(), found.next()].filter((it) => !it.done).map((it) => it.value[1].split(/\s+/, 6));
+    const records = [];
+    for (let at = 0, end; at < bytes.length && records.length < 2; at = end) {
+        end = bytes.indexOf(NEWLINE, at) + 1 || bytes.length;
+        if (bytes[at] === COMMENT) continue;  // quicker than by its fields
+        const fields = latin.decode(bytes.subarray(at, Math.min(end, at + MOST_OF_LINE))).trim().split(/\s+/, 6);
+        if (!/^(c|$)/.test(fields[0])) records.push(fields);
+    }
+    return records;
 }
 
 /** The kind of a text by its first record, or null. */
@@ -59,7 +67,7 @@ function kindOf([letter, word = ""] = []) {
 /** What there is to say of a text. */
 function described(kind, fields, size) {
     const numbers = fields.slice(kind === "query" ? 4 : 2);
-    const counts = (FORMATS[kind]?.counts ?? []).map((it, i) => `${numbers[i] ?? "?"} ${it}`);
+    const counts = (FORMATS[kind]?.counts ?? []).map((it, i) => `${numbers[i]?.slice(0, 20) ?? "?"} ${it}`);
     const name = kind ? FORMATS[kind].name : "no kind of text that is known here";
     return [name, ...counts, size < 10000 ? `${size} bytes` : `${(size / 1e6).toFixed(1)} MB`].join(", ");
 }
@@ -120,9 +128,6 @@ function faultOf(reason, text) {
     if (kind && kind !== wanted) return `${title} ${isMany ? "are" : "is"} ${FORMATS[kind].name}`;
     return `${title} ${isMany ? "have" : "has"} a fault`;
 }
-
-/** The first byte of "more", which no other answer to a pair has. */
-const M = 109;
 
 /** What answers to pairs say, of which some may only say that the distance is more than a radius; or nothing. */
 function claimedOfPairs(line, {certificate}, pairs, far) {

@@ -161,7 +161,7 @@ function hold(slot, it, at) {
     if (area.value !== text) area.value = text;
     if (file) area.scrollTop = 0;
     area.readOnly = more !== "";
-    const notes = [bad || it.about, isOther && "It doesn't belong here", more && `${more} aren't shown`].filter(Boolean);
+    const notes = [bad || it.about, isOther && "It doesn't belong here", more && `Not shown: ${more}`].filter(Boolean);
     place.dataset.first ??= place.textContent;
     place.replaceChildren(...(file ? [bdi(file), ": "] : []), notes.length ? `${notes.join(". ")}.` : place.dataset.first);
     place.classList.toggle("bad", Boolean(bad || isOther || (file && !kind)));

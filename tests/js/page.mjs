@@ -70,21 +70,21 @@ class Person {
     /** Drops files on a text or beside all, or pastes. */
     async give(event, filled, slot) {
         const place = slot ? element(slot) : "document.body";
-        const transfer = event === "paste" ? "clipboardData" : "dataTransfer", made = {drop: "DragEvent", paste: "ClipboardEvent"};
         await this.page.evaluate(`(async () => {
-            const ${transfer} = new DataTransfer();
-            ${filled(transfer)};
-            ${place}.dispatchEvent(new ${made[event]}("${event}", {${transfer}, bubbles: true, cancelable: true}));
+            const dataTransfer = new DataTransfer(), event = {dataTransfer, clipboardData: dataTransfer, bubbles: true, cancelable: true};
+            ${filled("dataTransfer")};
+            const own = {dataType: "text/plain", data: dataTransfer.getData("text/plain")};  // what Firefox takes
+            ${place}.dispatchEvent(new ${event}{...event, ...own}));
         })()`);
         await this.read();
     }
 
     drop(named, slot) {
-        return this.give("drop", (to) => `for (const it of ${files(named)}) ${to}.items.add(it)`, slot);
+        return this.give(`DragEvent("drop", `, (to) => `for (const it of ${files(named)}) ${to}.items.add(it)`, slot);
     }
 
     paste(expression, slot) {
-        return this.give("paste", (to) => `${to}.setData("text/plain", ${expression})`, slot);
+        return this.give(`ClipboardEvent("paste", `, (to) => `${to}.setData("text/plain", ${expression})`, slot);
     }
 
     /** Opens a file by the system's dialog. */
@@ -384,7 +384,7 @@ const TESTS = {
         await person.paste(`"\\n" + "c 78 letters ............................................................\\n".repeat(2 ** 14) + ${quoted(MAX)}`, "instance");
         const {values, about} = await person.texts();
         assert.ok(values.instance.startsWith("c before \nc 78") && values.instance.length <= 2 ** 16);
-        assert.match(about.instance, /^an instance of maximum flow, 2 nodes, 1 arcs, .*\. [\d,]+ more lines aren't shown\.$/);
+        assert.match(about.instance, /^an instance of maximum flow, 2 nodes, 1 arcs, .*\. Not shown: [\d,]+ more lines\.$/);
         assert.ok(await person.page.evaluate(`${element("instance")}.readOnly`));
         await person.paste(`"lost"`, "instance");
         assert.equal((await person.ask("Solve")).line, "v max 4");
@@ -395,7 +395,7 @@ const TESTS = {
     "a run that is stopped": async (person) => {
         await person.write({claim: "s 0\n"}, "max");
         await person.drop({"long.max": LONG}, "instance");
-        assert.match((await person.texts()).about.instance, /^long\.max: an instance of maximum flow, 120000 nodes.*more lines aren't/);
+        assert.match((await person.texts()).about.instance, /^long\.max: an instance of maximum flow, 120000 nodes.*Not shown: [\d,]+ more lines/);
         for (const heading of ["Stopped: undecided.", "Stopped: undecided."]) {
             await person.page.evaluate(`void (${element("answer")}.hidden = true, ${button("Solve")}.click())`);
             await person.click("Stop");
