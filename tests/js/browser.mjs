@@ -165,9 +165,10 @@ export async function withPage(kind, program, use) {
         await page.open(await connect(browser), room);
         return await use(page, room);
     } finally {
+        const ended = new Promise((good) => browser.on("exit", good));
         process.kill(-browser.pid, "SIGTERM");
-        await sleep(500);
-        rmSync(room, {recursive: true, force: true, maxRetries: 5, retryDelay: 200});
+        await ended;
+        rmSync(room, {recursive: true, force: true, maxRetries: 50, retryDelay: 100});
     }
 }
 

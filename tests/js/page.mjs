@@ -164,7 +164,7 @@ const OF_EXAMPLES = [
     ["distances", "Check", "Yes: the distances from 2 sources", "v sp distances 2", /140 \+ 80 \+ 97 \+ 101/],
     ["queries and labels", "Check", "Yes: the distances of 3 pairs", "v 1 5 1400\nv 1 6 unreachable\nv 6 3 1400", /1400/],
     ["queries and labels", "Solve", "Solved: the distances of 3 pairs", "v 1 5 1400\nv 1 6 unreachable\nv 6 3 1400", /1400/],
-    ["a fault in a text", "Check", FAULT, "x instance 12 4 BadNumber", /500\.5/],
+    ["a fault in a text", "Check", FAULT, "x instance 12 4 BadNumber", /instance:12: a 3 4 {2}500\.5/],
 ];
 
 /** Of typed texts: the claim, the instance, the claim's text, the certificate, and the heading. */
@@ -233,12 +233,17 @@ const PATH_LABELS = `p dist ${PATH} 1\nt 1 ${PATH - 1}\n${pathLines((it) => `d $
 const TESTS = {
     "a long verdict is shown in whole lines, and saved whole": async (person) => {
         await person.drop({"path.gr": PATH_GRAPH, "path.query": PATH_PAIRS, "path.dist": PATH_LABELS});
-        const {verdict, line, lines} = await person.ask("Check"), shown = line.split("\n").length;
+        await person.page.evaluate(`void ${element("check")}.focus()`);
+        const {verdict, line, lines} = await person.ask("Check"), rest = PATH - 1 - line.split("\n").length;
         assert.equal(verdict, "Yes: the distances of 39,999 pairs");
         assert.ok(PATH_LINES.startsWith(`${line}\n`));
-        assert.ok(lines.endsWith(`and ${(PATH - 1 - shown).toLocaleString("en")} more lines`), lines.slice(-90));
+        assert.ok(lines.endsWith(`and ${rest.toLocaleString("en")} more lines`), lines.slice(-90));
+        assert.equal(await person.page.evaluate("document.activeElement.id"), "check");
         await person.click("Save this answer");
-        if (person.downloads) assert.ok((await person.saved("path-answer.txt")).includes(`\n\n${PATH_LINES}\n`));
+        if (!person.downloads) return;
+        const saved = await person.saved("path-answer.txt");
+        assert.ok(saved.startsWith(`${verdict}\n\n${PATH_LINES}\n1 -> 2: 7\n`));
+        assert.match(saved, /\n\nclaim: .*\ninstance: path\.gr, \d+ bytes, SHA-256 .*\n[^]*\n\ndimacs .*\n$/);
     },
     "an answer is of the texts that were judged": async (person) => {
         const changes = {
@@ -262,11 +267,6 @@ const TESTS = {
         assert.match((await person.answered()).verdict, /^Changed since/);
         assert.equal(await person.page.evaluate(`document.querySelectorAll("button.quote").length`), 0);
     },
-    "an example that is checked at once": async (person) => {
-        await person.example("a flow of least cost");
-        await person.page.evaluate(`void (${button("a maximum flow")}.click(), ${button("Check")}.click())`);
-        assert.equal((await person.answered()).line, "v max 12");
-    },
     "what was judged is named": async (person) => {
         await person.example("a maximum flow");
         await person.write({certificate: CUT});
@@ -280,11 +280,13 @@ const TESTS = {
         assert.equal(cut, `certificate: ${CUT.length} bytes${sumOf(CUT)}`);
         assert.equal(await person.page.evaluate(`document.querySelector("#judged bdi").textContent`), "pipes.max");
     },
-    "a wrong solution beside an answer": async (person) => {
+    "a wrong solution beside what Solve answers": async (person) => {
         await person.write({instance: MAX, claim: "s 1\n"}, "max");
         const {verdict, state, judged} = await person.ask("Solve");
         assert.deepEqual([verdict, state], ["Solved: the flow of value 4 is maximum", "open"]);
         assert.equal(judged[1], "not read: a solution, 4 bytes");
+        await person.write({instance: DEAR}, "min");
+        assert.match((await person.ask("Solve")).verdict, /^Undecided: the solver reached its limit, or/);
     },
     "the arc and the line that are wrong, of parallel ones": async (person) => {
         await person.write({instance: PARALLEL, claim: "s 8\nf 1 2 8\nf 2 3 3\nf 2 3 6\n"}, "max");
@@ -294,18 +296,13 @@ const TESTS = {
         assert.equal(await person.page.evaluate(CHOSEN("claim")), "f 2 3 6");
         assert.equal(await person.page.evaluate("document.activeElement.id"), "claim");
     },
-    "a marked field": async (person) => {
-        await person.example("a fault in a text");
-        const {marked, fields} = await person.ask("Check");
-        assert.deepEqual([marked, fields], [["instance:12: a 3 4  500.5"], ["500.5"]]);
-        assert.equal(await person.page.evaluate(CHOSEN("instance")), "a 3 4  500.5");
-    },
     "a line after carriage returns, of an answer that is changed": async (person) => {
-        const lines = ["p max 2 1", "c one\rtwo\r", "n 1 s\r", "n 2 t", "a 1 2 4.5\r", ""];
+        const lines = ["p max 2 1", "c one\rtwo\r", "n 1 s\r", "n 2 t", "a 1 2  4.5\r", ""];
         await person.write({claim: FLOW}, "max");
         await person.drop({"odd.max": lines.join("\n")}, "instance");
-        assert.equal((await person.ask("Check")).line, "x instance 5 4 BadNumber");
-        assert.equal(await person.page.evaluate(CHOSEN("instance")), "a 1 2 4.5");
+        const {line, fields} = await person.ask("Check");
+        assert.deepEqual([line, fields], ["x instance 5 4 BadNumber", ["4.5"]]);
+        assert.equal(await person.page.evaluate(CHOSEN("instance")), "a 1 2  4.5");
         await person.write({instance: `c first\n${MAX}`});
         assert.equal(await person.page.evaluate(`document.querySelector(".quote").tagName`), "P");
     },
@@ -316,10 +313,6 @@ const TESTS = {
         const {verdict: next, judged} = await person.ask("Check without this certificate");
         assert.equal(next, "Yes: the flow of value 4 is maximum");
         assert.match(judged.join("\n"), /^claim: .*\ninstance: .*\nsolution: .*\nnot read: a set of nodes, .*\nby certify-max, .*$/);
-    },
-    "a solver that gives up": async (person) => {
-        await person.write({instance: DEAR}, "min");
-        assert.match((await person.ask("Solve")).verdict, /^Undecided: the solver reached its limit, or/);
     },
     "a better and a feasible flow": async (person) => {
         await person.example("a flow that can grow");
@@ -344,13 +337,14 @@ const TESTS = {
             assert.deepEqual([needs, isOff], [wanted, wanted.includes("Check")]);
         }
     },
-    "texts that a browser would put back": async (person) => {
-        await person.write({instance: MAX, claim: FLOW}, "infeasible");
+    "texts that a browser puts back": async (person) => {
+        await person.write({instance: MIN, claim: FLOW}, "infeasible");
         await person.page.load("about:blank");
         await person.page.evaluate("void history.back()");
         await until(person.page, "document.documentElement.dataset.ready");
-        assert.deepEqual((await person.texts()).values, {instance: "", claim: "", certificate: ""});
-        assert.equal(await person.page.evaluate(`${element("kind")}.value`), "max");
+        const {values, isOff} = await person.texts();
+        assert.equal(isOff, values.instance === "");
+        assert.equal(await person.page.evaluate(`${element("kind")}.value`), isOff ? "max" : "infeasible");
     },
     "a certificate of the last instance goes": async (person) => {
         for (const change of [() => person.drop({"one.max": MAX}, "instance"), () => person.clear("instance")]) {
@@ -368,15 +362,6 @@ const TESTS = {
         const {verdict, meaning} = await person.ask("Check");
         assert.equal(verdict, FAULT);
         assert.match(meaning, /instance:1: /);
-    },
-    "an answer is saved": async (person) => {
-        await person.example("a flow that can grow");
-        await person.ask("Check");
-        if (!person.downloads) return;
-        await person.click("Save this answer");
-        const saved = await person.saved("pipes-answer.txt");
-        assert.match(saved, /^No: the answer is wrong\n\nx solution 2 2 NotMaximum\n\nsolution:2: s 10\n/);
-        assert.match(saved, /\ninstance: pipes.max, 148 bytes, SHA-256 .*\n[^]*\n\ndimacs /);
     },
     "a long paste": async (person) => {
         await person.write({instance: "c before after\n", claim: ""}, "max");
@@ -415,13 +400,11 @@ const TESTS = {
         writeFileSync(path, "p max 0 0\nc another text\n");
         assert.equal((await person.ask("Check")).line, "v max 4");
     },
-    "keys, labels and focus": async (person) => {
+    "keys and labels": async (person) => {
         await person.example("a maximum flow");
-        await person.page.evaluate(`void ${element("check")}.focus()`);
         await person.page.evaluate(`void document.dispatchEvent(new KeyboardEvent("keydown", {key: "Enter", ctrlKey: true}))`);
         const said = `document.querySelector("[role=alert][aria-busy=false]")?.textContent`;
         await until(person.page, `/^\\s*Yes: [^]*4 [+] 8 = 12/.test(${said}) && ${settled}`);
-        assert.equal(await person.page.evaluate("document.activeElement.id"), "check");
         assert.match(await person.page.evaluate("document.body.innerText"), /Ctrl\+Enter/);
         const isNamed = `it.getAttribute("aria-label") || it.labels?.length || (it.matches("button") && it.textContent.trim())`;
         const all = `[...document.querySelectorAll("button, textarea, select, progress")]`;
