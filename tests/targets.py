@@ -269,6 +269,7 @@ def test_page(tests):
     if tests.made("page/dimacs.html"):
         words = ["node", f"{JS}/page.mjs", f"{tests.build}/page/dimacs.html", "chromium", "chromium"]
         tests.counted("the page in Chromium", run(*words))
+        tests.expect("the page has at most 450 KB", os.path.getsize(words[2]) <= 450_000)
         test_reasons(tests)
 
 

@@ -150,28 +150,25 @@ function claimed(line, {judged, printed}) {
     return sources === "1" && `the distances from ${Number(texts.claim.records[1][1])}`;
 }
 
+const open = (heading, isOpen = false) => ({heading, state: "open", isOpen});
+
 /** The heading of an answer, whether it is a yes or a no, and whether a claim may hold without the certificate given. */
 export function headed(answer) {
     const {what, command, status, judged, printed} = answer, isSolved = what === "solve";
     const [line] = shown(printed).text.split("\n");
     if (status === 0) {
-        const claim = claimed(line, answer), state = claim && !isSolved ? "yes" : "open";
-        if (!claim) return {heading: isSolved ? "Nothing was asked" : "Nothing was claimed", state};
-        return {heading: `${isSolved ? "Solved" : "Yes"}: ${claim}`, state};
+        const claim = claimed(line, answer);
+        if (!claim) return open(isSolved ? "Nothing was asked" : "Nothing was claimed");
+        return isSolved ? open(`Solved: ${claim}`) : {heading: `Yes: ${claim}`, state: "yes"};
     }
-    if (status !== 1) {
-        return {heading: "Undecided: the solver reached its limit, or the cost is out of range", state: "open"};
-    }
+    if (status !== 1) return open("Undecided: the solver reached its limit, or the cost is out of range");
     const [, place, ...more] = line.split(" "), reason = more.pop(), isJudged = command.startsWith("judge");
     const isUnfit = isOne(reason, "unfit") && place !== "certificate";
     if (isOne(reason, "wrong") || (reason === "NoTightArc" && !isJudged)) {
         return {heading: "No: the answer is wrong", state: "no"};
     }
-    if (isOne(reason, "range")) return {heading: "Undecided: the cost is out of range", state: "open"};
-    if (isOne(reason, "notShown") && !isUnfit) {
-        return {heading: "Not shown: this certificate doesn't show it", state: "open", isOpen: true};
-    }
+    if (isOne(reason, "range")) return open("Undecided: the cost is out of range");
+    if (isOne(reason, "notShown") && !isUnfit) return open("Not shown: this certificate doesn't show it", true);
     const fault = faultOf(reason, judged.find((it) => it.name === place));
-    const heading = `${isSolved ? "Not solved" : "Nothing was judged"}: ${fault}`;
-    return {heading, state: "open", isOpen: place === "certificate"};
+    return open(`${isSolved ? "Not solved" : "Nothing was judged"}: ${fault}`, place === "certificate");
 }

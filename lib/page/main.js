@@ -2,9 +2,9 @@
 import {FORMATS, MOST_SHOWN, headed, planned, shown, textOf} from "./kinds.js";
 
 const $ = (id) => document.getElementById(id);
-const SLOTS = ["instance", "claim", "certificate"];
+const SLOTS = ["instance", "claim", "certificate"], QUOTES = "button.quote";
 
-const PROVED = "Every function that decides here is proved. What translates it, this page and your browser aren't.";
+const PROVED = "Every function that decides here is proved. Its translation to WebAssembly, this page and your browser aren't.";
 const UNPROVED = "This page was built of code that is not proved.";
 const TITLE = document.title;
 const NO_SUM = "no SHA-256, which a browser computes for pages from a file, https or localhost";
@@ -22,9 +22,6 @@ function element(name, properties, ...inside) {
 }
 
 const button = (onclick, ...inside) => element("button", {type: "button", onclick}, ...inside);
-
-/** The quotes that can be shown where they stand. */
-const quotes = () => [...document.querySelectorAll("button.quote")];
 
 /** The name of a file, whose letters may run from right to left. */
 const bdi = (name) => element("bdi", {}, name);
@@ -287,7 +284,7 @@ function clearAnswer() {
 function changed() {
     if (!answered) clearAnswer();
     else head({heading: "Changed since: check again", state: "past"});
-    for (const it of quotes()) it.replaceWith(element("p", {className: "quote"}, ...it.childNodes));
+    document.querySelectorAll(QUOTES).forEach((it) => it.replaceWith(element("p", {className: "quote"}, ...it.childNodes)));
     return ++changes;
 }
 
@@ -362,7 +359,7 @@ async function run(what, isAlone = false) {
     clearInterval(watching);
     running = false;
     ready();
-    for (const it of quotes().reverse()) it.show(false);
+    for (const it of [...document.querySelectorAll(QUOTES)].reverse()) it.show(false);
     if (document.activeElement === document.body) $("check").focus({preventScroll: true});
 }
 
@@ -376,15 +373,10 @@ function example({kind, texts}) {
     ready();
 }
 
-function openFile(slot) {
-    const input = element("input", {type: "file"});
-    input.onchange = () => input.files[0] && give([input.files[0]], slot);
-    input.click();
-}
-
 function wire(pane) {
     const {slot} = pane.dataset, [opens, clears] = pane.querySelectorAll("button");
-    opens.onclick = () => openFile(slot);
+    const onchange = ({target: {files}}) => files.length && give([...files], slot);
+    opens.onclick = () => element("input", {type: "file", onchange}).click();
     clears.onclick = () => put(slot, textOf(""), changed());
     $(slot).oninput = () => hold(slot, textOf($(slot).value), changed());
     $(slot).onpaste = (event) => pasted(event, slot);

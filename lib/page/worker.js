@@ -22,9 +22,8 @@ function explained() {
     last = null;
     if (status === GAVE_UP) return "";
     const name = status === DONE && !isPaths ? "judge" : verb;
-    const better = kind === "infeasible" ? "flow" : "better";
-    const shown = verb === "certify" && status !== DONE ? better : "certificate";
-    return explanation(`${name}-${kind}`, [...given, ...made], shown).slice(printed.length);
+    const better = kind === "infeasible" ? "flow" : "better", isBetter = verb === "certify" && status !== DONE;
+    return explanation(`${name}-${kind}`, [...given, ...made], isBetter ? better : "certificate").slice(printed.length);
 }
 
 /** The SHA-256 of a text; null where the browser doesn't compute it. */

@@ -172,8 +172,8 @@ export async function withPage(kind, program, use) {
     }
 }
 
-/** Waits until an expression is true in the page. */
-export async function until(page, expression, seconds = 600) {
+/** Waits until an expression is true in the page, but not for ever. */
+export async function until(page, expression, seconds = 300) {
     for (const end = Date.now() + 1000 * seconds; Date.now() < end; ) {
         const value = await page.evaluate(expression).catch(() => false);
         if (value) return value;

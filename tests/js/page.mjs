@@ -101,7 +101,7 @@ class Person {
 
     /** Waits for an answer, and gives it. */
     async answered() {
-        await until(this.page, `!${element("answer")}.hidden && ${settled}`, 120);
+        await until(this.page, `!${element("answer")}.hidden && ${settled}`);
         return this.answer();
     }
 
@@ -133,7 +133,7 @@ class Person {
     }
 
     async saved(name) {
-        for (let tries = 0; tries < 100 && !existsSync(join(this.folder, name)); tries++) await pause(this);
+        for (let tries = 0; tries < 600 && !existsSync(join(this.folder, name)); tries++) await pause(this);
         return readFileSync(join(this.folder, name), "latin1");
     }
 }
@@ -270,14 +270,10 @@ const TESTS = {
     "what was judged is named": async (person) => {
         await person.example("a maximum flow");
         await person.write({certificate: CUT});
-        await person.ask("Check");
-        const sumOf = (bytes) => `, SHA-256 ${createHash("sha256").update(bytes).digest("hex")}`;
-        const [claim, instance, solution, cut] = (await person.answer()).judged;
-        const read = (name) => readFileSync(`${EXAMPLES}/${name}`);
-        assert.equal(claim, "claim: the flow is maximum");
-        assert.equal(instance, `instance: pipes.max, 148 bytes${sumOf(read("pipes.max"))}`);
-        assert.equal(solution, `solution: pipes.solution, ${read("pipes.solution").length} bytes${sumOf(read("pipes.solution"))}`);
-        assert.equal(cut, `certificate: ${CUT.length} bytes${sumOf(CUT)}`);
+        const line = (title, bytes) => `${title}${bytes.length} bytes, SHA-256 ${createHash("sha256").update(bytes).digest("hex")}`;
+        const read = (name) => line(`${name === "pipes.max" ? "instance" : "solution"}: ${name}, `, readFileSync(`${EXAMPLES}/${name}`));
+        const wanted = ["claim: the flow is maximum", read("pipes.max"), read("pipes.solution"), line("certificate: ", CUT)];
+        assert.deepEqual((await person.ask("Check")).judged.slice(0, 4), wanted);
         assert.equal(await person.page.evaluate(`document.querySelector("#judged bdi").textContent`), "pipes.max");
     },
     "a wrong solution beside what Solve answers": async (person) => {
@@ -288,21 +284,15 @@ const TESTS = {
         await person.write({instance: DEAR}, "min");
         assert.match((await person.ask("Solve")).verdict, /^Undecided: the solver reached its limit, or/);
     },
-    "the arc and the line that are wrong, of parallel ones": async (person) => {
-        await person.write({instance: PARALLEL, claim: "s 8\nf 1 2 8\nf 2 3 3\nf 2 3 6\n"}, "max");
+    "the lines that are wrong, after carriage returns": async (person) => {
+        await person.write({claim: "s 8\nf 1 2 8\nf 2 3 3\nf 2 3 6\n"}, "max");
+        await person.drop({"odd.max": PARALLEL.replace("n 1", "c one\rtwo\r\nn 1").replace("5\n", "5\r\n")}, "instance");
         const {marked, line} = await person.ask("Check");
-        assert.deepEqual([line, marked], ["x arc 3 AboveCap", ["instance:6: a 2 3 5", "solution:4: f 2 3 6"]]);
+        assert.deepEqual([line, marked], ["x arc 3 AboveCap", ["instance:7: a 2 3 5 ", "solution:4: f 2 3 6"]]);
+        assert.equal(await person.page.evaluate(CHOSEN("instance")), "a 2 3 5");
         await person.page.evaluate(`void document.querySelectorAll(".quote")[1].click()`);
         assert.equal(await person.page.evaluate(CHOSEN("claim")), "f 2 3 6");
         assert.equal(await person.page.evaluate("document.activeElement.id"), "claim");
-    },
-    "a line after carriage returns, of an answer that is changed": async (person) => {
-        const lines = ["p max 2 1", "c one\rtwo\r", "n 1 s\r", "n 2 t", "a 1 2  4.5\r", ""];
-        await person.write({claim: FLOW}, "max");
-        await person.drop({"odd.max": lines.join("\n")}, "instance");
-        const {line, fields} = await person.ask("Check");
-        assert.deepEqual([line, fields], ["x instance 5 4 BadNumber", ["4.5"]]);
-        assert.equal(await person.page.evaluate(CHOSEN("instance")), "a 1 2  4.5");
         await person.write({instance: `c first\n${MAX}`});
         assert.equal(await person.page.evaluate(`document.querySelector(".quote").tagName`), "P");
     },
@@ -316,12 +306,13 @@ const TESTS = {
     },
     "a better and a feasible flow": async (person) => {
         await person.example("a flow that can grow");
-        assert.deepEqual((await person.ask("Check")).titles, ["A better solution"]);
+        const {titles, fields} = await person.ask("Check");
+        assert.deepEqual([titles, fields], [["A better solution"], ["10"]]);
         await person.click("Use it as the solution");
         assert.equal((await person.ask("Check")).line, "v max 12");
         await person.write({instance: MIN, claim: "s 10\nf 1 2 2\n"}, "infeasible");
-        const {line, titles} = await person.ask("Check");
-        assert.deepEqual([line, titles], ["x instance 0 0 Feasible", ["A feasible solution"]]);
+        const feasible = await person.ask("Check");
+        assert.deepEqual([feasible.line, feasible.titles], ["x instance 0 0 Feasible", ["A feasible solution"]]);
     },
     "what Check and Solve need": async (person) => {
         const rows = [
@@ -355,13 +346,6 @@ const TESTS = {
         }
         await person.drop({"one.cut": "p cut 2 1\nu 1\n", "one.max": MAX, "one.solution": FLOW});
         assert.match((await person.ask("Check")).judged.at(-1), /^by judge-max/);
-    },
-    "a binary file as the instance": async (person) => {
-        await person.write({claim: FLOW}, "max");
-        await person.drop({"a.bin": Array.from({length: 400}, (_, i) => (i * 89 + 7) % 256)}, "instance");
-        const {verdict, meaning} = await person.ask("Check");
-        assert.equal(verdict, FAULT);
-        assert.match(meaning, /instance:1: /);
     },
     "a long paste": async (person) => {
         await person.write({instance: "c before after\n", claim: ""}, "max");
@@ -405,7 +389,6 @@ const TESTS = {
         await person.page.evaluate(`void document.dispatchEvent(new KeyboardEvent("keydown", {key: "Enter", ctrlKey: true}))`);
         const said = `document.querySelector("[role=alert][aria-busy=false]")?.textContent`;
         await until(person.page, `/^\\s*Yes: [^]*4 [+] 8 = 12/.test(${said}) && ${settled}`);
-        assert.match(await person.page.evaluate("document.body.innerText"), /Ctrl\+Enter/);
         const isNamed = `it.getAttribute("aria-label") || it.labels?.length || (it.matches("button") && it.textContent.trim())`;
         const all = `[...document.querySelectorAll("button, textarea, select, progress")]`;
         const nameless = `${all}.filter((it) => !(${isNamed})).map((it) => it.outerHTML)`;
@@ -486,21 +469,15 @@ async function served(run) {
 /** Each request goes through from an empty page, and none from this one. */
 async function requests(person) {
     await served(async (address, reached) => {
-        await person.page.load(`${address}/plain`);
-        for (const [name, request] of Object.entries(REQUESTS)) {
-            await counted(`${name} from an empty page`, async () => {
-                await person.page.evaluate(request(`${address}/plain-${name.replaceAll(" ", "-")}`));
-                for (let tries = 0; tries < 40 && !reached.length; tries++) await pause(person);
-                assert.equal(reached.splice(0).length, 1);
-            });
-        }
-        await person.open(`${address}/page`);
-        for (const [name, request] of Object.entries(REQUESTS)) {
-            await counted(`${name} is refused`, async () => {
-                await person.page.evaluate(request(`${address}/${name.replaceAll(" ", "-")}`));
-                await pause(person);
-                assert.deepEqual(reached, []);
-            });
+        for (const [place, wanted] of [["plain", 1], ["page", 0]]) {
+            await (wanted ? person.page.load(`${address}/${place}`) : person.open(`${address}/${place}`));
+            for (const [name, request] of Object.entries(REQUESTS)) {
+                await counted(`${name} from the ${place}`, async () => {
+                    await person.page.evaluate(request(`${address}/${place}-${name.replaceAll(" ", "-")}`));
+                    for (let tries = 0; tries < 1 || (tries < 300 && reached.length < wanted); tries++) await pause(person);
+                    assert.equal(reached.splice(0).length, wanted);
+                });
+            }
         }
         await counted("the page from a server", async () => {
             await person.example("a maximum flow");
