@@ -119,7 +119,7 @@ async function read(file) {
 
 /** Where a file goes: where its kind belongs, or if that isn't known, its name, or where no other came with it. */
 function slotOf({kind, file}, at) {
-    const kinds = [kind, ...file.split(".")].map((it) => FORMATS[it]?.slot);
+    const kinds = [kind, ...file.split(".").reverse()].map((it) => FORMATS[it]?.slot);
     return kinds.find(Boolean) ?? SLOTS.find((it) => slots[it].at !== at) ?? SLOTS[0];
 }
 
@@ -285,6 +285,7 @@ function changed() {
     if (!answered) clearAnswer();
     else head({heading: "Changed since: check again", state: "past"});
     document.querySelectorAll(QUOTES).forEach((it) => it.replaceWith(element("p", {className: "quote"}, ...it.childNodes)));
+    ready();
     return ++changes;
 }
 
@@ -395,7 +396,7 @@ function wireAll() {
         if (event.key === "Enter" && (event.ctrlKey || event.metaKey)) run("check");
         if (event.key === "Escape") stop();
     };
-    $("kind").onchange = () => ready(changed());
+    $("kind").onchange = changed;
     $("check").onclick = () => run("check");
     $("solve").onclick = () => run("solve");
     $("stop").onclick = stop;

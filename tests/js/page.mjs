@@ -71,20 +71,20 @@ class Person {
     async give(event, filled, slot) {
         const place = slot ? element(slot) : "document.body";
         await this.page.evaluate(`(async () => {
-            const dataTransfer = new DataTransfer(), event = {dataTransfer, clipboardData: dataTransfer, bubbles: true, cancelable: true};
-            ${filled("dataTransfer")};
-            const own = {dataType: "text/plain", data: dataTransfer.getData("text/plain")};  // what Firefox takes
-            ${place}.dispatchEvent(new ${event}{...event, ...own}));
+            const dataTransfer = new DataTransfer(), more = {bubbles: true, cancelable: true, dataType: "text/plain"};
+            ${filled};
+            const data = dataTransfer.getData("text/plain");  // what Firefox pastes
+            ${place}.dispatchEvent(new ${event}, {...more, dataTransfer, clipboardData: dataTransfer, data}));
         })()`);
         await this.read();
     }
 
     drop(named, slot) {
-        return this.give(`DragEvent("drop", `, (to) => `for (const it of ${files(named)}) ${to}.items.add(it)`, slot);
+        return this.give(`DragEvent("drop"`, `for (const it of ${files(named)}) dataTransfer.items.add(it)`, slot);
     }
 
     paste(expression, slot) {
-        return this.give(`ClipboardEvent("paste", `, (to) => `${to}.setData("text/plain", ${expression})`, slot);
+        return this.give(`ClipboardEvent("paste"`, `dataTransfer.setData("text/plain", ${expression})`, slot);
     }
 
     /** Opens a file by the system's dialog. */
@@ -105,18 +105,16 @@ class Person {
         return this.answer();
     }
 
+    /** What the page shows: the answer, what stands in the texts and beside them, and whether Check is off. */
     answer() {
         const all = (selector) => `[...document.querySelectorAll(${quoted(selector)})].map((it) => it.textContent)`;
-        return this.page.evaluate(`({verdict: ${text("verdict")}, state: ${element("answer")}.className,
-            meaning: ${text("meaning")}, lines: ${text("line")}, line: document.querySelector("#line pre")?.textContent.trimEnd() ?? "",
-            marked: ${all(".quote")}, fields: ${all(".quote mark")}, judged: ${all("#judged li")}, titles: ${all(".made h3")}})`);
-    }
-
-    /** What stands in the texts and beside them, and whether Check is off. */
-    texts() {
         const of = (make) => `Object.fromEntries(["instance", "claim", "certificate"].map((it) => [it, ${make}]))`;
-        return this.page.evaluate(`({values: ${of("document.getElementById(it).value")}, needs: ${text("needs")},
-            about: ${of("document.getElementById(`about-${it}`).textContent")}, isOff: ${element("check")}.disabled})`);
+        return this.page.evaluate(`({verdict: ${text("verdict")}, state: ${element("answer")}.className,
+            lines: ${text("line")}, line: document.querySelector("#line pre")?.textContent.trimEnd() ?? "",
+            meaning: ${text("meaning")}, marked: ${all(".quote")}, fields: ${all(".quote mark")},
+            judged: ${all("#judged li")}, titles: ${all(".made h3")}, needs: ${text("needs")},
+            isOff: ${element("check")}.disabled, values: ${of("document.getElementById(it).value")},
+            about: ${of("document.getElementById(`about-${it}`).textContent")}})`);
     }
 
     async clear(slot) {
@@ -151,7 +149,8 @@ const EXAMPLES = new URL("../../examples", import.meta.url).pathname;
 const CUT = "p cut 5 3\nu 1\nu 2\nu 3\n";  // the only minimum cut of the example
 
 const FAULT = "Nothing was judged: the instance has a fault", UNFIT = "Nothing was judged: the texts don't fit together";
-const UNSHOWN = "Not shown: this certificate doesn't show it", UNCLAIMED = "Nothing was claimed", NO = "No: the answer is wrong";
+const UNSHOWN = "Not shown: this certificate doesn't show it", UNCLAIMED = "Nothing was claimed";
+const NO = "No: the answer is wrong";
 
 /** Of examples: what is pressed, the heading, the line, what explains it, and a file that is handed out. */
 const OF_EXAMPLES = [
@@ -193,21 +192,21 @@ const TYPED = [
     ["paths", GRAPH, "p distances 2 1\nt +01 1\nd 2 5\n", "", "Yes: the distances from 1"],
 ];
 
-const MIXED = {"new.max.gz": [31, 139, 8, 0, 1, 2], "new.sol": "s 1\n"};
+const BROKEN = [31, 139, 8, 0, 1, 2], ONE = "an instance of maximum flow";
+const ZIPPED = `[await new Response(new Blob([${quoted(MAX)}]).stream().pipeThrough(new CompressionStream("gzip"))).blob()]`;
+const HUGE = "Array(33).fill(new Blob([new Uint8Array(2 ** 26)]))";
 
-/** Files that are dropped on a text or beside all, over an example: what is left, what is said where, and what Check needs. */
+/** Files dropped on a text or beside all: what is said of one of the texts, and what Check needs then. */
 const DROPPED = {
-    "a packed claim": ["claim", {"student17.sol.zip": [80, 75, 3, 4]}, "claim", /^student17\.sol\.zip: it is packed by zip/, "a solution"],
-    "a broken instance with its solution": [null, MIXED, "instance", /^new\.max\.gz: it can't be unpacked/, "an instance of maximum flow"],
-    "a broken solution with its instance": [null, {"a.sol.gz": MIXED["new.max.gz"], "b.max": MAX}, "claim", /^a\.sol\.gz: it can't/, "a solution"],
+    "a packed claim": ["claim", {"student17.sol.zip": [80, 75, 3, 4]}, "claim", /^student17\.sol\.zip: .* zip/, "a solution"],
+    "a broken instance": [null, {"new.max.gz": BROKEN, "new.sol": "s 1\n"}, "instance", /^new\.max\.gz: it can't be/, ONE],
+    "a broken solution": [null, {"a.sol.gz": BROKEN, "b.max": MAX}, "claim", /^a\.sol\.gz: it can't/, "a solution"],
     "an empty file": ["claim", {"empty.sol": ""}, "claim", /^empty\.sol: it is empty/, "a solution"],
-    "more than 2 GB": ["instance", {"big.max": {parts: "Array(33).fill(new Blob([new Uint8Array(2 ** 26)]))"}}, "instance",
-        /^big\.max: it has more than 2 GB/, "an instance of maximum flow"],
-    "two solutions": [null, {"a.sol": FLOW, "b.sol": "s 5\n"}, "claim", /^b\.sol: a solution, .*\. Not a\.sol, which came with it\.$/, ""],
+    "more than 2 GB": ["instance", {"big.max": {parts: HUGE}}, "instance", /^big\.max: it has more than 2 GB/, ONE],
+    "two solutions": [null, {"a.sol": FLOW, "b.sol": "s 5\n"}, "claim", /^b\.sol: a .*\. Not a\.sol, which came with it/, ""],
     "a name with lines": ["claim", {"a\nv max 12.sol": FLOW}, "claim", /^a\ufffdv max 12\.sol: a solution/, ""],
-    "an instance and its solution": [null, {"one.sol": FLOW, "one.max": MAX}, "instance", /^one\.max: an instance of maximum flow, 2 nodes, 1 arcs/, ""],
-    "a .gz": ["instance", {"one.max.gz": {parts: `[await new Response(new Blob([${quoted(MAX)}]).stream().pipeThrough(
-        new CompressionStream("gzip"))).blob()]`}}, "instance", /^one\.max\.gz: an instance of maximum flow, 2 nodes/, ""],
+    "an instance last": [null, {"a.sol": FLOW, "b.max": MAX}, "instance", /^b\.max: an .* flow, 2 nodes, 1 arcs/, ""],
+    "a .gz": ["instance", {"one.max.gz": {parts: ZIPPED}}, "instance", /^one\.max\.gz: an .* flow, 2 nodes, 1 arcs/, ""],
 };
 
 /** A network of many arcs, which takes long to solve: each of its layers of 300 nodes has arcs into the next one. */
@@ -270,9 +269,11 @@ const TESTS = {
     "what was judged is named": async (person) => {
         await person.example("a maximum flow");
         await person.write({certificate: CUT});
-        const line = (title, bytes) => `${title}${bytes.length} bytes, SHA-256 ${createHash("sha256").update(bytes).digest("hex")}`;
-        const read = (name) => line(`${name === "pipes.max" ? "instance" : "solution"}: ${name}, `, readFileSync(`${EXAMPLES}/${name}`));
-        const wanted = ["claim: the flow is maximum", read("pipes.max"), read("pipes.solution"), line("certificate: ", CUT)];
+        const sumOf = (bytes) => createHash("sha256").update(bytes).digest("hex");
+        const line = (title, bytes) => `${title}${bytes.length} bytes, SHA-256 ${sumOf(bytes)}`;
+        const read = (title, name) => line(`${title}: ${name}, `, readFileSync(`${EXAMPLES}/${name}`));
+        const texts = [read("instance", "pipes.max"), read("solution", "pipes.solution"), line("certificate: ", CUT)];
+        const wanted = ["claim: the flow is maximum", ...texts];
         assert.deepEqual((await person.ask("Check")).judged.slice(0, 4), wanted);
         assert.equal(await person.page.evaluate(`document.querySelector("#judged bdi").textContent`), "pipes.max");
     },
@@ -302,7 +303,7 @@ const TESTS = {
         assert.deepEqual([verdict, line, state], [UNSHOWN, "x node 2 SinkInside", "open"]);
         const {verdict: next, judged} = await person.ask("Check without this certificate");
         assert.equal(next, "Yes: the flow of value 4 is maximum");
-        assert.match(judged.join("\n"), /^claim: .*\ninstance: .*\nsolution: .*\nnot read: a set of nodes, .*\nby certify-max, .*$/);
+        assert.match(judged.join("\n"), /^claim: .*\ninstance: .*\nsolution: .*\nnot read: a set .*\nby certify-max, .*$/);
     },
     "a better and a feasible flow": async (person) => {
         await person.example("a flow that can grow");
@@ -319,12 +320,12 @@ const TESTS = {
             [{}, "max", "Check needs an instance of maximum flow. Solve needs an instance of maximum flow."],
             [{instance: MAX}, "max", "Check needs a solution."],
             [{instance: MIN}, "infeasible", ""],
-            [{instance: GRAPH, claim: "p distances 2 0\n"}, "paths", "Solve needs queries, as p aux sp ss 1 and s 1 on two lines."],
+            [{instance: GRAPH, claim: LABELS}, "paths", "Solve needs queries, as p aux sp ss 1 and s 1 on two lines."],
             [{instance: GRAPH, claim: PAIR}, "paths", "Check needs labels as the certificate, which Solve makes."],
         ];
         for (const [texts, claim, wanted] of rows) {
             await person.write(texts, claim);
-            const {needs, isOff} = await person.texts();
+            const {needs, isOff} = await person.answer();
             assert.deepEqual([needs, isOff], [wanted, wanted.includes("Check")]);
         }
     },
@@ -333,7 +334,7 @@ const TESTS = {
         await person.page.load("about:blank");
         await person.page.evaluate("void history.back()");
         await until(person.page, "document.documentElement.dataset.ready");
-        const {values, isOff} = await person.texts();
+        const {values, isOff} = await person.answer();
         assert.equal(isOff, values.instance === "");
         assert.equal(await person.page.evaluate(`${element("kind")}.value`), isOff ? "max" : "infeasible");
     },
@@ -341,7 +342,7 @@ const TESTS = {
         for (const change of [() => person.drop({"one.max": MAX}, "instance"), () => person.clear("instance")]) {
             await person.example("queries and labels");
             await change();
-            const {values, about} = await person.texts();
+            const {values, about} = await person.answer();
             assert.deepEqual([values.certificate, about.certificate], ["", "The last instance's certificate was removed."]);
         }
         await person.drop({"one.cut": "p cut 2 1\nu 1\n", "one.max": MAX, "one.solution": FLOW});
@@ -350,8 +351,8 @@ const TESTS = {
     "a long paste": async (person) => {
         await person.write({instance: "c before after\n", claim: ""}, "max");
         await person.page.evaluate(`${element("instance")}.setSelectionRange(9, 15)`);
-        await person.paste(`"\\n" + "c 78 letters ............................................................\\n".repeat(2 ** 14) + ${quoted(MAX)}`, "instance");
-        const {values, about} = await person.texts();
+        await person.paste(`"\\n" + ("c" + " 78 letters".repeat(7) + "\\n").repeat(2 ** 14) + ${quoted(MAX)}`, "instance");
+        const {values, about} = await person.answer();
         assert.ok(values.instance.startsWith("c before \nc 78") && values.instance.length <= 2 ** 16);
         assert.match(about.instance, /^an instance of maximum flow, 2 nodes, 1 arcs, .*\. Not shown: [\d,]+ more lines\.$/);
         assert.ok(await person.page.evaluate(`${element("instance")}.readOnly`));
@@ -359,12 +360,12 @@ const TESTS = {
         assert.equal((await person.ask("Solve")).line, "v max 4");
         await person.page.evaluate(`${element("instance")}.select()`);
         await person.paste(quoted(PARALLEL), "instance");
-        assert.equal((await person.texts()).values.instance, PARALLEL);
+        assert.equal((await person.answer()).values.instance, PARALLEL);
     },
     "a run that is stopped": async (person) => {
         await person.write({claim: "s 0\n"}, "max");
         await person.drop({"long.max": LONG}, "instance");
-        assert.match((await person.texts()).about.instance, /^long\.max: an instance of maximum flow, 120000 nodes.*Not shown: [\d,]+ more lines/);
+        assert.match((await person.answer()).about.instance, /^long\.max: an .* 120000 nodes.*Not shown: [\d,]+ more lines/);
         for (const heading of ["Stopped: undecided.", "Stopped: undecided."]) {
             await person.page.evaluate(`void (${element("answer")}.hidden = true, ${button("Solve")}.click())`);
             await person.click("Stop");
@@ -425,7 +426,7 @@ async function ofTyped(person, [claim, instance, given, certificate, heading]) {
 async function ofDropped(person, [slot, named, place, about, needed]) {
     await person.example("a maximum flow");
     await person.drop(named, slot);
-    const found = await person.texts();
+    const found = await person.answer();
     assert.match(found.about[place], about);
     assert.deepEqual([found.needs.startsWith(`Check needs ${needed}.`), found.isOff], [needed !== "", needed !== ""]);
     assert.equal(found.values[place] === "", needed !== "");
@@ -447,48 +448,35 @@ const REQUESTS = {
     })`,
 };
 
-/** Counts what reaches a server here, which has the page and an empty one without a policy. */
-async function served(run) {
-    const reached = [];
-    const server = createServer((asked, answer) => {
-        const isPage = asked.url === "/page", isPlain = asked.url === "/plain";
-        if (!isPage && !isPlain && asked.url !== "/favicon.ico") reached.push(asked.url);
-        const picture = '<svg xmlns="http://www.w3.org/2000/svg"/>';
-        answer.setHeader("content-type", isPage || isPlain ? "text/html" : "image/svg+xml");
-        answer.end(isPage ? readFileSync(file) : isPlain ? "<!doctype html>" : picture);
-    });
-    await new Promise((good) => server.listen(0, "0.0.0.0", good));
-    try {
-        await run(`http://127.0.0.1:${server.address().port}`, reached);
-    } finally {
-        server.close();
-        server.closeAllConnections?.();
-    }
-}
-
 /** Each request goes through from an empty page, and none from this one. */
 async function requests(person) {
-    await served(async (address, reached) => {
-        for (const [place, wanted] of [["plain", 1], ["page", 0]]) {
-            await (wanted ? person.page.load(`${address}/${place}`) : person.open(`${address}/${place}`));
-            for (const [name, request] of Object.entries(REQUESTS)) {
-                await counted(`${name} from the ${place}`, async () => {
-                    await person.page.evaluate(request(`${address}/${place}-${name.replaceAll(" ", "-")}`));
-                    for (let tries = 0; tries < 1 || (tries < 300 && reached.length < wanted); tries++) await pause(person);
-                    assert.equal(reached.splice(0).length, wanted);
-                });
-            }
+    const pages = {"/page": readFileSync(file), "/plain": "<!doctype html>"}, reached = [];
+    const server = createServer(({url}, answer) => {
+        if (!pages[url] && url !== "/favicon.ico") reached.push(url);
+        answer.setHeader("content-type", pages[url] ? "text/html" : "image/svg+xml");
+        answer.end(pages[url] ?? '<svg xmlns="http://www.w3.org/2000/svg"/>');
+    });
+    await new Promise((good) => server.listen(0, "0.0.0.0", good));
+    const address = (host = "127.0.0.1") => `http://${host}:${server.address().port}`;
+    for (const [place, wanted] of [["plain", 1], ["page", 0]]) {
+        await (wanted ? person.page.load(`${address()}/${place}`) : person.open(`${address()}/${place}`));
+        for (const [name, request] of Object.entries(REQUESTS)) {
+            await counted(`${name} from the ${place}`, async () => {
+                await person.page.evaluate(request(`${address()}/${place}-${name.replaceAll(" ", "-")}`));
+                for (let tries = 0; tries < 1 || (tries < 300 && reached.length < wanted); tries++) await pause(person);
+                assert.equal(reached.splice(0).length, wanted);
+            });
         }
-        await counted("the page from a server", async () => {
-            await person.example("a maximum flow");
-            assert.equal((await person.ask("Check")).line, "v max 12");
-        });
-        if (kind === "firefox") return;  // it doesn't open 0.0.0.0
-        await counted("a page from a server without https", async () => {
-            await person.open(`${address.replace("127.0.0.1", "0.0.0.0")}/page`);
-            await person.example("a maximum flow");
-            assert.match((await person.ask("Check")).judged[1], /, no SHA-256, which a browser computes for /);
-        });
+    }
+    await counted("the page from a server", async () => {
+        await person.example("a maximum flow");
+        assert.equal((await person.ask("Check")).line, "v max 12");
+    });
+    if (kind === "firefox") return;  // it doesn't open 0.0.0.0
+    await counted("a page from a server without https", async () => {
+        await person.open(`${address("0.0.0.0")}/page`);
+        await person.example("a maximum flow");
+        assert.match((await person.ask("Check")).judged[1], /, no SHA-256, which a browser computes for /);
     });
 }
 
