@@ -3,7 +3,6 @@ import {FORMATS, MOST_SHOWN, headed, planned, shown, textOf} from "./kinds.js";
 
 const $ = (id) => document.getElementById(id);
 const SLOTS = ["instance", "claim", "certificate"], QUOTES = "button.quote";
-
 const PROVED = "Every function that decides here is proved. Its translation to WebAssembly, this page and your browser aren't.";
 const UNPROVED = "This page was built of code that is not proved.";
 const TITLE = document.title;
