@@ -80,7 +80,7 @@ async function gathered(stream) {
 }
 
 /** The stream of a file, which shows how much has gone through. */
-function watched(file) {
+function watched(file, signal) {
     let passed = 0;
     const watch = new TransformStream({
         transform(chunk, to) {
@@ -90,29 +90,28 @@ function watched(file) {
             to.enqueue(chunk);
         },
     });
-    return file.stream().pipeThrough(watch, {signal: halted.signal});
+    return file.stream().pipeThrough(watch, {signal});
 }
 
-async function contentOf(file) {
+async function contentOf(file, signal) {
     if (file.size > MOST_BYTES) throw new Unreadable(TOO_LONG);
     const head = String.fromCharCode(...new Uint8Array(await file.slice(0, 6).arrayBuffer()));
     const packed = Object.keys(PACKED).find((it) => head.startsWith(PACKED[it]));
-    if (!packed) return gathered(watched(file));
-    if (packed === "gzip") return gathered(watched(file).pipeThrough(new DecompressionStream("gzip")));
+    if (!packed) return gathered(watched(file, signal));
+    if (packed === "gzip") return gathered(watched(file, signal).pipeThrough(new DecompressionStream("gzip")));
     throw new Unreadable(`it is packed by ${packed}: unpack it first. Only .gz is unpacked here`);
 }
 
 /** The text of a file; an empty one, and what is wrong, if it can't be read. */
-async function read(file) {
-    const name = file.name.replace(/[\p{Cc}\p{Zl}\p{Zp}]/gu, "\ufffd"), {signal} = halted;
+async function read(file, signal) {
+    const name = file.name.replace(/[\p{Cc}\p{Zl}\p{Zp}]/gu, "\ufffd");
     try {
-        const bytes = await contentOf(file);
+        const bytes = await contentOf(file, signal);
         return {...textOf(bytes, name), bad: bytes.length ? "" : "it is empty"};
     } catch (why) {
-        const isBroken = why instanceof TypeError ? "it can't be unpacked: it isn't whole, or no .gz file" : "";
-        const own = why instanceof Unreadable ? why.message : isBroken;
-        const bad = signal.aborted ? "it was stopped" : own || "it can't be read: it isn't a file, or has changed";
-        return {...textOf("", name), bad};
+        const broken = why instanceof TypeError && "it can't be unpacked: it isn't whole, or no .gz file";
+        const own = signal.aborted ? "it was stopped" : why instanceof Unreadable ? why.message : broken;
+        return {...textOf("", name), bad: own || "it can't be read: it isn't a file, or has changed"};
     }
 }
 
@@ -124,10 +123,10 @@ function slotOf({kind, file}, at) {
 
 /** Takes files that came at once. Several, or one beside the texts, go where their kinds belong. */
 async function give(files, slot) {
-    const at = changed(), texts = [];
+    const at = changed(), {signal} = halted, texts = [];
     reading++;
     ready();
-    for (const it of files) texts.push(await read(it));
+    for (const it of files) texts.push(await read(it, signal));
     texts.sort((one, other) => Boolean(other.kind) - Boolean(one.kind));
     for (const it of texts) put((texts.length === 1 && slot) || slotOf(it, at), it, at);
     reading--;
@@ -150,6 +149,7 @@ function put(slot, text, at) {
     hold("certificate", {...textOf(""), about: "The last instance's certificate was removed"}, at);
 }
 
+/** Keeps a text in its slot, and shows what there is to say of it. */
 function hold(slot, it, at) {
     const {file, bytes, kind, text, more, bad} = it, area = $(slot), place = $(`about-${slot}`);
     const isOther = kind && FORMATS[kind].slot !== slot, claims = FORMATS[kind]?.claims ?? [];
