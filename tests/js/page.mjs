@@ -209,19 +209,6 @@ const DROPPED = {
     "a .gz": ["instance", {"one.max.gz": {parts: ZIPPED}}, "instance", /^one\.max\.gz: an .* flow, 2 nodes, 1 arcs/, ""],
 };
 
-/** A network of many arcs, which takes long to solve: each of its layers of 300 nodes has arcs into the next one. */
-const LONG = {parts: `(() => {
-    let seed = 7;
-    const random = (most) => 1 + ((seed = Math.imul(seed, 1664525) + 1013904223) >>> 8) % most;
-    const lines = ["p max 120000 400000\\nn 1 s\\nn 120000 t\\n"];
-    for (let i = 0; i < 400000; i++) {
-        const layer = Math.floor((i * 399) / 400000), tail = i < 300 ? 1 : 300 * layer + random(300);
-        const head = i >= 399000 ? 120000 : 300 * (layer + 1) + random(300);
-        lines.push("a " + tail + " " + head + " " + random(1000000) + "\\n");
-    }
-    return lines;
-})()`};
-
 /** A path of 40,000 nodes whose arcs weigh 7. */
 const PATH = 40000, pathLines = (line) => Array.from({length: PATH - 1}, (_, i) => line(i + 1)).join("");
 const PATH_GRAPH = `p sp ${PATH} ${PATH - 1}\n${pathLines((it) => `a ${it} ${it + 1} 7\n`)}`;
@@ -362,26 +349,16 @@ const TESTS = {
         await person.paste(quoted(PARALLEL), "instance");
         assert.equal((await person.answer()).values.instance, PARALLEL);
     },
-    "a run that is stopped": async (person) => {
-        await person.write({claim: "s 0\n"}, "max");
-        await person.drop({"long.max": LONG}, "instance");
-        assert.match((await person.answer()).about.instance, /^long\.max: an .* 120000 nodes.*Not shown: [\d,]+ more lines/);
-        for (const heading of ["Stopped: undecided.", "Stopped: undecided."]) {
-            await person.page.evaluate(`void (${element("answer")}.hidden = true, ${button("Solve")}.click())`);
-            await person.click("Stop");
-            assert.equal((await person.answered()).verdict, heading);
-        }
-        assert.equal((await person.ask("Check")).line, "x solution 1 2 NotMaximum");
-    },
-    "a file that changes after it was read": async (person) => {
-        if (!person.downloads) return;
-        const path = join(person.folder, "changing.max");
+    "a run that is stopped, and a file that changes": async (person) => {
+        const path = join(person.folder, "changing.max"), escape = `new KeyboardEvent("keydown", {key: "Escape"})`;
         writeFileSync(path, MAX);
-        await person.write({claim: FLOW}, "max");
-        await person.openFile(path);
-        await person.page.evaluate(`void ${button("Solve")}.click()`);
-        await person.page.evaluate(`void document.dispatchEvent(new KeyboardEvent("keydown", {key: "Escape"}))`);
-        await until(person.page, settled);
+        await person.write({instance: MAX, claim: FLOW}, "max");
+        if (person.downloads) await person.openFile(path);
+        for (const stop of [`${button("Stop")}.click()`, `document.dispatchEvent(${escape})`]) {
+            const solve = `${element("answer")}.hidden = true, ${button("Solve")}.click()`;
+            await person.page.evaluate(`void (${solve}, await null, ${stop})`);
+            assert.equal((await person.answered()).verdict, "Stopped: undecided.");
+        }
         writeFileSync(path, "p max 0 0\nc another text\n");
         assert.equal((await person.ask("Check")).line, "v max 4");
     },
