@@ -58,7 +58,7 @@ CPP_TESTS = [
 
 
 # How the needs end that Debian doesn't have.
-NOT_OF_DEBIAN = ("OR-Tools", "networkx 3.3", "these tests need 3.3")
+NOT_OF_DEBIAN = ("networkx 3.3", "these tests need 3.3")
 
 
 def by_count(name, ran):

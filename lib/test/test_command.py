@@ -169,12 +169,12 @@ class Modules(unittest.TestCase):
     def test_parts_of_the_package(self):
         """What needs another package is imported when it is asked for, or says what it needs."""
         code = "import dimacs, sys; print([it for it in ('numpy', 'scipy', 'networkx', 'pandas') if it in sys.modules])"
-        for name in "scipy", "backend", "ortools", "arrays", "graphs", "drawing":
+        for name in "scipy", "backend", "arrays", "graphs", "drawing":
             code += f"\ntry: print(dimacs.{name}.__name__)\nexcept AttributeError as it: print(it)"
         code += "\ntry: dimacs.other\nexcept AttributeError as it: print(it)"
         with tempfile.TemporaryDirectory() as place:
             ran = subprocess.run([sys.executable, "-c", code], cwd=place, capture_output=True, text=True, check=True)
         first, *lines, last = ran.stdout.splitlines()
         self.assertEqual((first, last), ("[]", "module 'dimacs' has no attribute 'other'"))
-        for name, line in zip(("scipy", "backend", "ortools", "arrays", "graphs", "drawing"), lines):
+        for name, line in zip(("scipy", "backend", "arrays", "graphs", "drawing"), lines):
             self.assertRegex(line, rf"^dimacs\.{name}( needs (numpy|scipy|networkx), which isn't installed)?$")

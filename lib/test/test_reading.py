@@ -109,22 +109,25 @@ class Rows(unittest.TestCase):
         self.assertRaisesRegex(ValueError, "labels with a radius, here 6, aren't written", dimacs.write, found)
 
     def test_refused_beyond_the_text(self):
-        """What only arrays refuse: no explanation of the text alone names it."""
+        """What only arrays refuse, and the last line that explains it."""
         instance = MaxInstance(3, 1, 3, [1, 2, 1, 1], [2, 3, 2, 3], [5, 4, 1, 2])
-        for kind, text, line, *of in [
-            ("solution", "s 9\nf 1 2 3\nf 3 1 4\n", "x solution 3 0 UnknownArc", instance),
-            ("solution", "s 9\nf 1 3 3\nf 1 3 4\n", "x solution 3 0 ArcTwice", instance),
-            ("solution", f"s {LAST + 1}\n", "x solution 1 2 NumberRange", instance),
-            ("pot", f"p pot 3 1\ny 2 {LAST + 1}\n", "x node 2 NumberRange"),
-            ("pot", f"p pot 3 2\ny 2 5\ny 1 {-LAST - 2}\n", "x node 1 NumberRange"),
-            ("distances", "p distances 3 1\nt 1 0\n", "x node 3 BlockMissing", 3),
-            ("distances", f"p distances 3 1\nt 1 1\nd 2 {LAST}\n", "x node 2 NumberRange", 1),
-            ("dist", "p dist 3 1\nt 1 0\n", "x node 2 BlockMissing", 2),
-            ("dist", f"p dist 3 1\nt 1 0 {LAST}\n", "x node 1 NumberRange", 1),
+        graph, wide, far = Graph(2, [1], [2], [3]), "arrays have numbers of 64 bits", "arrays have distances below 2^63 - 1"
+        for kind, text, line, said, *of in [
+            ("solution", "s 9\nf 1 2 3\nf 3 1 4\n", "x solution 3 0 UnknownArc", "arc 4 leads from 1 to 3", instance),
+            ("solution", "s 9\nf 2 1 4\n", "x solution 2 0 UnknownArc", "arc 1 leads from 1 to 2", graph),
+            ("solution", "s 9\nf 1 3 3\nf 1 3 4\n", "x solution 3 0 ArcTwice", "instance has 1 arc from 1 to 3", instance),
+            ("solution", f"s {LAST + 1}\n", "x solution 1 2 NumberRange", f"solution:1: s {LAST + 1}\n{wide}", instance),
+            ("pot", f"p pot 3 1\ny 2 {LAST + 1}\n", "x node 2 NumberRange", f"certificate:2: y 2 {LAST + 1}\n{wide}"),
+            ("pot", f"p pot 3 2\ny 2 5\ny 1 {-LAST - 2}\n", "x node 1 NumberRange", f"certificate:3: y 1 {-LAST - 2}\n{wide}"),
+            ("distances", "p distances 3 1\nt 1 0\n", "x node 3 BlockMissing", "its blocks are from 1; 1 in all", 3),
+            ("distances", f"p distances 3 1\nt 1 1\nd 2 {LAST}\n", "x node 2 NumberRange", f"distances:3: d 2 {LAST}\n{far}", 1),
+            ("distances", f"p distances 3 2\nt 3 0\nt 1 1\nd 2 {LAST}\n", "x node 2 NumberRange", f"distances:4: d 2 {LAST}\n{far}"),
+            ("dist", "p dist 3 1\nt 1 0\n", "x node 2 BlockMissing", "its blocks are from 1; 1 in all", 2),
+            ("dist", f"p dist 3 1\nt 1 0 {LAST}\n", "x node 1 NumberRange", f"certificate:2: t 1 0 {LAST}\n{far}", 1),
         ]:
             it = raised(dimacs.Refused, dimacs.read, kind, text, *of)
-            self.assertEqual(it.printed, line)
-            self.assertRaisesRegex(ValueError, "doesn't keep what it was asked of", it.explain)
+            self.assertEqual((it.printed, it.explain().split("\n")[0]), (line, line))
+            self.assertIn(said, it.explain())
         it = raised(dimacs.Refused, dimacs.read, "solution", "s 9\nf 4 4 1\nf 1 2 x\n", instance)
         self.assertTrue(it.explain().startswith("x solution 3 4 BadNumber\n"))
 
@@ -141,32 +144,39 @@ class Rows(unittest.TestCase):
             self.assertEqual((found, repr(found), dimacs.write(found)), (Queries(*fields), shown, text.encode()))
 
     def test_words(self):
-        instance, past = dimacs.read("gr", GRAPH), Graph(2, [1, 1], [2, 3], [3, 4])
+        instance, arc = dimacs.read("gr", GRAPH), ([1], [2])
         cases = [
             (ValueError, "'grr' is no kind", lambda: dimacs.read("grr", GRAPH)),
             (TypeError, "'solution' comes with its instance, and not with None", lambda: dimacs.read("solution", "s 1\n")),
             (TypeError, "'solution' comes with its instance, and not with 3", lambda: dimacs.read("solution", "s 1\n", 3)),
             (TypeError, "'gr' comes alone, and not with Graph of", lambda: dimacs.read("gr", GRAPH, instance)),
-            (TypeError, "'dist' comes with the source of a block, and not with None", lambda: dimacs.read("dist", "")),
+            (TypeError, "'dist' comes with the source of a block, and not with Graph", lambda: dimacs.read("dist", "", instance)),
             (ValueError, "source is 0.5, not a whole number", lambda: dimacs.read("distances", "", 0.5)),
             (TypeError, "read takes texts, not int", lambda: dimacs.read("gr", 3)),
             (ValueError, "read takes texts, and 'road.gr' ", lambda: dimacs.read("gr", "road.gr")),
-            (TypeError, "write takes what read returns, not str", lambda: dimacs.write(GRAPH)),
-            (ValueError, "tos has 1 items, and froms has 2", lambda: Queries([1, 2], [3])),
+            (TypeError, "write takes what read returns, or an answer, not str", lambda: dimacs.write(GRAPH)),
+            (ValueError, "tos has 1 items, and there are 2 queries", lambda: Queries([1, 2], [3])),
             (TypeError, "inside: None, an array is wanted", lambda: Cut(None)),
             (ValueError, "heads has 1 items, and there are 2 arcs", lambda: Graph(2, [1, 1], [2], [3, 4])),
             (ValueError, r"weights\[1\] is 0.5", lambda: Graph(2, [1, 1], [2, 2], [3, 0.5])),
             (ValueError, "flows has 1 items", lambda: Solution(3, [1], instance)),
-            (dimacs.PastLimit, "arc 2 NodeRange: it goes from 1 to 3", lambda: dimacs.write(past)),
-            (dimacs.PastLimit, "arc 2 NodeRange: it goes from 1 to 3", lambda: dimacs.write(Solution(3, [0, 0], past))),
-            (dimacs.PastLimit, "arc 2 NodeRange", lambda: dimacs.read("solution", "s 0\n", past)),
-            (ValueError, "predecessors has 1 items, and distances has 2", lambda: Labels(1, [0, 3], [0])),
+            (dimacs.PastLimit, "arc 2 NodeRange: it goes from 1 to 3", lambda: Graph(2, [1, 1], [2, 3], [3, 4])),
+            (dimacs.PastLimit, "arc 1 NodeRange: it goes from 0 to 1; .*base=0", lambda: Graph(2, [0], [1], [3])),
+            (dimacs.PastLimit, "arc 0 NodeRange: it goes from 0 to 2; nodes are numbered from 0, and there are 2", lambda: Graph(2, [0], [2], [3], base=0)),
+            (dimacs.PastLimit, "node 134217729 NumberRange", lambda: Graph(2**27 + 1, [], [], [])),
+            (dimacs.PastLimit, "node 1 NodeTwice", lambda: MaxInstance(2, 1, 1, *arc, [3])),
+            (dimacs.PastLimit, "arc 1 BoundOrder", lambda: MinInstance(2, *arc, [4], [3], [0], [0, 0])),
+            (ValueError, "names has 1 items, and there are 2 nodes", lambda: Graph(2, *arc, [3], ["a"])),
+            (ValueError, "names has 'a' twice", lambda: Graph(2, *arc, [3], ["a", "a"])),
+            (TypeError, "names is a set, whose items have no places", lambda: Graph(2, *arc, [3], {"a", "b"})),
+            (ValueError, "predecessors has 1 items, and there are 2 nodes", lambda: Labels(1, [0, 3], [0])),
             (ValueError, "radius is 0.5, not a whole number", lambda: Labels(1, [0], [0], 0.5)),
-            (dimacs.PastLimit, "node 0 NumberRange", lambda: dimacs.write(Queries([1, 0]))),
-            (dimacs.PastLimit, "node 3 NodeRange", lambda: dimacs.write(Distances(3, [0, 1]))),
+            (dimacs.PastLimit, "node 0 NumberRange", lambda: Queries([1, 0])),
+            (dimacs.PastLimit, "node 3 NodeRange", lambda: Distances(3, [0, 1])),
+            (dimacs.PastLimit, "node 2 NodeRange: nodes are numbered from 0", lambda: Distances(2, [0, 1], base=0)),
             (dimacs.Refused, "node 1 NotShortest", lambda: dimacs.write(Distances(1, [3, 1]))),
             (dimacs.Refused, "node 2 PredUnknown", lambda: dimacs.write(Labels(1, [0, 1, 2], [0, 3, 2]))),
-            (dimacs.PastLimit, "arc 1 BoundOrder", lambda: dimacs.write(MaxInstance(2, 1, 2, [1], [2], [-3]))),
+            (dimacs.PastLimit, "arc 1 BoundOrder", lambda: MaxInstance(2, 1, 2, [1], [2], [-3])),
         ]
         for kind, message, call in cases:
             with self.subTest(message), self.assertRaisesRegex(kind, message):
@@ -279,7 +289,7 @@ class Converted(unittest.TestCase):
         self.assertEqual(sorted(graph.edges(data="capacity")), [(1, 3, 9), (2, 1, 8), (2, 3, 1)])
         self.assertEqual(networkx.maximum_flow_value(graph, 2, 3), dimacs.solve_max_arrays(*self.most).value)
         found = MaxInstance.from_networkx(graph, 2, 3)
-        self.assertEqual((found.names, found.source, found.sink), ([1, 2, 3, 4], 2, 3))
+        self.assertEqual((found.names, found.source, found.sink), ((1, 2, 3, 4), 2, 3))
         self.assertEqual(dimacs.solve_max_arrays(*found).value, 9)
         self.assertEqual(Graph.from_networkx(self.graph.to_networkx()), self.graph)
         graph = self.least.to_networkx()
@@ -295,12 +305,12 @@ class Converted(unittest.TestCase):
         graph = networkx.DiGraph([("mine", "port", {"capacity": 4, "weight": 2}), ("port", "town", {"weight": 1})])
         networkx.set_node_attributes(graph, {"mine": -3, "town": 3}, "demand")
         found = MaxInstance.from_networkx(graph, "mine", "town")
-        self.assertEqual((found.names, listed(found)), (["mine", "port", "town"], [3, 1, 3, [1, 2], [2, 3], [4, LAST]]))
+        self.assertEqual((found.names, listed(found)), (("mine", "port", "town"), [3, 1, 3, [1, 2], [2, 3], [4, LAST]]))
         self.assertEqual(sorted(found.to_networkx().edges(data="capacity")), [("mine", "port", 4), ("port", "town", LAST)])
         self.assertEqual(listed(MinInstance.from_networkx(graph))[-2:], [[2, 1], [3, 0, -3]])
         self.assertEqual(listed(Graph.from_networkx(graph))[-1], [2, 1])
         graph["mine"]["port"]["capacity"] = 0.5
-        message = r"capacity of edge \('mine', 'port'\) is 0.5, not a whole number$"
+        message = r"capacity of edge \('mine', 'port'\) is 0.5, not a whole number: scale= takes multiples of a unit$"
         self.assertRaisesRegex(ValueError, message, MaxInstance.from_networkx, graph, "mine", "town")
 
     @needs("scipy")
@@ -325,17 +335,17 @@ class Converted(unittest.TestCase):
     @needs("pandas")
     def test_frames(self):
         table = self.least.to_frame()
-        self.assertEqual(list(table.columns), ["tail", "head", "low", "capacity", "cost"])
+        self.assertEqual(list(table.columns), ["source", "target", "low", "capacity", "cost"])
         self.assertEqual((table.index.tolist(), table["cost"].tolist()), ([1, 2, 3], [3, 7, 1]))
         supply = dict(enumerate(self.least.supplies.tolist(), 1))
-        frame = dimacs.from_frame(table, "tail", "head", low="low", capacity="capacity", cost="cost", supply=supply)
-        self.assertEqual((frame.min_instance(), frame.min_instance().names), (self.least, [1, 2, 3]))
-        frame = dimacs.from_frame(self.graph.to_frame(), "tail", "head", cost="weight")
-        self.assertEqual((listed(frame.graph())[-1], frame.graph().names), ([5, 3, 0, 7], [1, 2, 4, 3]))
-        frame = dimacs.from_frame(self.most.to_frame(), "tail", "head", capacity="capacity")
+        frame = dimacs.from_frame(table, "source", "target", low="low", capacity="capacity", cost="cost", supply=supply)
+        self.assertEqual((frame.min_instance(), frame.min_instance().names), (self.least, (1, 2, 3)))
+        frame = dimacs.from_frame(self.graph.to_frame(), "source", "target", cost="weight")
+        self.assertEqual((listed(frame.graph())[-1], frame.graph().names), ([5, 3, 0, 7], (1, 2, 4, 3)))
+        frame = dimacs.from_frame(self.most.to_frame(), "source", "target", capacity="capacity")
         found = frame.max_instance(2, 3)
         self.assertEqual((found.names[found.source - 1], dimacs.solve_max_arrays(*found).value), (2, 9))
-        self.assertEqual(found.to_frame()[["tail", "head"]].values.tolist(), [[2, 1], [2, 1], [2, 3], [1, 3]])
+        self.assertEqual(found.to_frame()[["source", "target"]].values.tolist(), [[2, 1], [2, 1], [2, 3], [1, 3]])
 
 
 if __name__ == "__main__":  # tests/targets.py runs it through node

@@ -126,7 +126,7 @@ class Spreads(Said):
         none = [[]] * 6
         self.assertRaisesRegex(TypeError, "nodes is '2', not a number", dimacs.spread_max_arrays, "2", 1, 2, *none)
         self.assertRaisesRegex(ValueError, "sink is 4294967296, not", dimacs.spread_max_arrays, 2, 1, 2**32, *none)
-        arcs, message = ([1, 1, 2], [2, 2, 1], [3, 5, 4]), "pair_heads has 2 items, and pair_tails has 1"
+        arcs, message = ([1, 1, 2], [2, 2, 1], [3, 5, 4]), "pair_heads has 2 items, and there are 1 pairs"
         self.says(ValueError, message, dimacs.spread_max_arrays, 2, 1, 2, *arcs, [1], [2, 1], [6])
 
     def test_numbers_from_0(self):

@@ -24,7 +24,7 @@ from .arrays import solve_min_arrays, solve_paths_arrays
 from .drawing import Drawing
 from .graphs import certify_networkx_infeasible, certify_networkx_max, certify_networkx_min, certify_networkx_paths
 from .graphs import judge_networkx_max, judge_networkx_min, solve_networkx_max, solve_networkx_min, solve_networkx_paths
-from .instances import Cut, Distances, Graph, Labels, MaxInstance, MinInstance, Potentials, Queries, Solution
+from .instances import Blocks, Cut, Distances, Graph, Labels, MaxInstance, MinInstance, Potentials, Queries, Solution
 from .pictures import draw
 from .reading import read
 from .spread import spread_max_arrays, spread_min_arrays
@@ -33,14 +33,14 @@ from .texts import judge_min, judge_paths, show, solve_max, solve_min, solve_pat
 from .writing import write
 
 if TYPE_CHECKING:
-    from . import backend, ortools, scipy
+    from . import backend, scipy
     from .frames import from_frame
 
 __version__: str = _library.version
 proved: bool = _library.proved
 
 __all__ = [
-    "UNREACHED", "Beyond", "Certified", "Cut", "Distances", "Drawing", "Feasible", "GaveUp", "Graph", "Infeasible",
+    "UNREACHED", "Beyond", "Blocks", "Certified", "Cut", "Distances", "Drawing", "Feasible", "GaveUp", "Graph", "Infeasible",
     "Labels", "MaxInstance", "MinInstance", "NotOptimal", "Pair", "PastLimit", "Potentials", "Queries", "Refused",
     "Solution", "Solved", "Unbounded", "Verdict",
     "certify_infeasible", "certify_max", "certify_min", "certify_paths", "convert", "draw", "from_frame",
@@ -60,7 +60,7 @@ def __getattr__(name: str) -> Any:
         from .frames import from_frame
 
         return from_frame
-    if name not in ("backend", "ortools", "scipy"):
+    if name not in ("backend", "scipy"):
         raise AttributeError(f"module 'dimacs' has no attribute {name!r}")
     try:
         return importlib.import_module(f".{name}", __name__)

@@ -41,6 +41,7 @@ _FILES = {
     "spread-min": "INSTANCE SOLUTION | OUT",
 }
 _WITH_LIMIT = ("solve-max", "solve-min")
+_ABOUT = {"explain": "dimacs explain COMMAND FILE..\n", "help": "dimacs help [COMMAND]\n"}
 
 
 def _usage(name: str) -> str:
@@ -50,8 +51,8 @@ def _usage(name: str) -> str:
 
 
 def _help() -> str:
-    more = f"dimacs explain COMMAND FILE..\nKIND: {', '.join(commands.TEXTS)}\n"
-    return f"{_description()}{''.join(map(_usage, _FILES))}{more}"
+    kinds = f"KIND: {', '.join(commands.TEXTS)}\n"
+    return f"{_description()}{''.join(map(_usage, _FILES))}{''.join(_ABOUT.values())}{kinds}"
 
 
 def _description() -> str:
@@ -174,8 +175,8 @@ def _explained(job: _Job, texts: Sequence[bytes]) -> bytes:
 def _answered(words: list[str]) -> int:
     asked = {"--version": _description, "-V": _description, "--help": _help, "-h": _help, "help": _help}
     text = asked[words[0]]() if len(words) == 1 and words[0] in asked else None
-    if len(words) == 2 and words[0] == "help" and words[1] in _FILES:
-        text = _usage(words[1])
+    if len(words) == 2 and words[0] == "help" and words[1] in (*_FILES, *_ABOUT):
+        text = _ABOUT.get(words[1]) or _usage(words[1])
     if text is not None:
         _write("standard output", sys.stdout.buffer, text.encode())
         return library.DONE

@@ -7,6 +7,9 @@ width: uint32 for tails, heads and predecessors, uint8 or bool for inside, int64
 write to it during the call. Otherwise each number is copied or converted. A Series of pandas is read by its places, and not
 by its labels. An item of caps may be inf: such an arc carries any amount.
 
+What dimacs.read returns stands in place of its fields: certify_max_arrays(instance, solution). The value of a Solution is
+tested too.
+
 With scale= numbers needn't be whole: they are multiples of a unit, and answers are Fractions (ints if the factor is 1).
 
     scale=100                   multiples of 1/100: 12.34 is 1234 of them
@@ -23,14 +26,51 @@ set or a masked array.
 
 from __future__ import annotations
 
-from typing import Any
+from functools import wraps
+from typing import Any, Callable, ParamSpec, Protocol, TypeVar, overload
 
 from . import calls
 from .answers import Certified, Solved, Verdict
 from .buffers import LIMIT, Numbers
 from .given import DISTANCES, FLOWS, GRAPH, INSIDE, MAX, MIN, POTENTIALS, PREDECESSORS, Given, Names
+from .instances import Cut, Instance, Solution, Value
+
+_Words = ParamSpec("_Words")
+_Answer = TypeVar("_Answer", covariant=True)
 
 
+class _Call(Protocol[_Words, _Answer]):
+    @overload
+    def __call__(self, *words: _Words.args, **more: _Words.kwargs) -> _Answer: ...
+    @overload
+    def __call__(self, instance: Instance, /, *words: Any, **more: Any) -> _Answer: ...
+
+
+def of_values(call: Callable[_Words, _Answer]) -> _Call[_Words, _Answer]:
+    """The same call, which takes values in place of their fields too."""
+
+    @wraps(call)
+    def made(*words: Any, **more: Any) -> Any:
+        values = [it for it in [*words, *more.values()] if isinstance(it, Value)]
+        for it in values:
+            if not isinstance(it, Cut) and (more.get("scale") is not None or more.get("base", 1) != 1):
+                raise TypeError(f"{type(it).__name__} has whole numbers, and nodes from 1: scale= and base= are for arrays")
+        named = {name: field for name, it in more.items() for field in _fields(it)}
+        found = call(*(field for it in words for field in _fields(it)), **named)
+        for it in values:
+            if isinstance(it, Solution) and isinstance(found, (Certified, Verdict)):
+                calls.of_value(found, it.value, "value")
+        return found
+
+    return made
+
+
+def _fields(it: Any) -> list[Any]:
+    """What stands in place of an argument: of a solution its flows."""
+    return [it.flows] if isinstance(it, Solution) else list(it) if isinstance(it, Value) else [it]
+
+
+@of_values
 def judge_max_arrays(
     nodes: int, source: int, sink: int, tails: Numbers, heads: Numbers, caps: Numbers, flows: Numbers, inside: Numbers,
     *, scale: Any = None, base: int = 1,
@@ -46,6 +86,7 @@ def judge_max_arrays(
     return calls.judge(given.add(FLOWS, flows).add(INSIDE, inside))
 
 
+@of_values
 def judge_min_arrays(
     nodes: int, tails: Numbers, heads: Numbers, lows: Numbers, caps: Numbers, costs: Numbers, supplies: Numbers,
     flows: Numbers, potentials: Numbers,
@@ -63,6 +104,7 @@ def judge_min_arrays(
     return calls.judge(given.add(FLOWS, flows).add(POTENTIALS, potentials))
 
 
+@of_values
 def judge_infeasible_arrays(
     nodes: int, tails: Numbers, heads: Numbers, lows: Numbers, caps: Numbers, costs: Numbers, supplies: Numbers,
     inside: Numbers,
@@ -77,6 +119,7 @@ def judge_infeasible_arrays(
     return calls.judge(given.add(INSIDE, inside))
 
 
+@of_values
 def judge_paths_arrays(
     nodes: int, tails: Numbers, heads: Numbers, weights: Numbers, source: int, distances: Numbers,
     predecessors: Numbers,
@@ -95,6 +138,7 @@ def judge_paths_arrays(
     return calls.judge(given)
 
 
+@of_values
 def certify_max_arrays(
     nodes: int, source: int, sink: int, tails: Numbers, heads: Numbers, caps: Numbers, flows: Numbers,
     *, scale: Any = None, base: int = 1,
@@ -113,6 +157,7 @@ def certify_max_arrays(
     return calls.certify(given, flows)
 
 
+@of_values
 def certify_min_arrays(
     nodes: int, tails: Numbers, heads: Numbers, lows: Numbers, caps: Numbers, costs: Numbers, supplies: Numbers,
     flows: Numbers,
@@ -130,6 +175,7 @@ def certify_min_arrays(
     return calls.certify(given.add(FLOWS, flows), flows)
 
 
+@of_values
 def certify_infeasible_arrays(
     nodes: int, tails: Numbers, heads: Numbers, lows: Numbers, caps: Numbers, costs: Numbers, supplies: Numbers,
     *, scale: Any = None, base: int = 1,
@@ -145,6 +191,7 @@ def certify_infeasible_arrays(
     return calls.certify(given, caps)
 
 
+@of_values
 def certify_paths_arrays(
     nodes: int, tails: Numbers, heads: Numbers, weights: Numbers, source: int, distances: Numbers,
     *, scale: Any = None, base: int = 1,
@@ -160,6 +207,7 @@ def certify_paths_arrays(
     return calls.certify(given.add(DISTANCES, distances), distances)
 
 
+@of_values
 def solve_max_arrays(
     nodes: int, source: int, sink: int, tails: Numbers, heads: Numbers, caps: Numbers, limit: int = LIMIT,
     *, scale: Any = None, base: int = 1,
@@ -176,6 +224,7 @@ def solve_max_arrays(
     return calls.solve_max(given, caps, limit)
 
 
+@of_values
 def solve_min_arrays(
     nodes: int, tails: Numbers, heads: Numbers, lows: Numbers, caps: Numbers, costs: Numbers, supplies: Numbers,
     limit: int = LIMIT,
@@ -194,6 +243,7 @@ def solve_min_arrays(
     return calls.solve_min(given, caps, limit)
 
 
+@of_values
 def solve_paths_arrays(
     nodes: int, tails: Numbers, heads: Numbers, weights: Numbers, source: int, *, scale: Any = None, base: int = 1
 ) -> Solved:

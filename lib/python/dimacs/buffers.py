@@ -82,8 +82,9 @@ def bytes_of(text: Any, call: str = "this call") -> Buffer:
     try:
         view = memoryview(text)
     except TypeError:
-        kind = type(text).__name__
-        raise TypeError(f"{call} takes texts, not {kind}: for a file pass pathlib.Path(..)") from None
+        kind, is_value = type(text).__name__, _is_of(text, "dimacs.instances", "Value")
+        hint = "pass dimacs.write(..) of it" if is_value else "for a file pass pathlib.Path(..)"
+        raise TypeError(f"{call} takes texts, not {kind}: {hint}") from None
     if view.ndim != 1 or view.itemsize != 1 or not view.c_contiguous:
         view = memoryview(view.tobytes())
     return Buffer(view, _address_of(view) if len(view) else 0, len(view))
@@ -343,20 +344,6 @@ def test_array(numbers: Any, items: Items, name: str, wanted: str = "an array") 
         raise TypeError(f"{name} is a text, {numbers!r}, and no array of numbers")
     if is_single(numbers):
         raise TypeError(f"{name}: {'None' if numbers is None else 'one number'}, {wanted} is wanted")
-
-
-def only_array_of(numbers: Any, items: Items, name: str) -> Buffer:
-    """The items of an array, and TypeError for what is none."""
-    test_array(numbers, items, name)
-    return array_of(numbers, items, name)
-
-
-def test_same_lengths(lengths: dict[str, int]) -> None:
-    """Raises ValueError for the first array of these names that is longer or shorter than the first one."""
-    first, wanted = next(iter(lengths.items()))
-    for name, length in lengths.items():
-        if length != wanted:
-            raise ValueError(f"{name} has {length} items, and {first} has {wanted}")
 
 
 def number_of(number: Any, items: Items, name: str) -> int:

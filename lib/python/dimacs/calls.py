@@ -3,7 +3,7 @@ limit too: they have one in the library, and the answer is tested for it."""
 
 from __future__ import annotations
 
-from typing import Any, Callable
+from typing import Any, Callable, TypeVar, Union
 
 from . import library
 from .answers import UNREACHED, Certified, Feasible, GaveUp, Infeasible, NotOptimal, Refused, Solved, Verdict
@@ -11,6 +11,8 @@ from .buffers import LIMIT, LIMITS, Room, value_of
 from .explained import AskedOfArrays, kept
 from .given import COSTS, DISTANCES, FLOWS, GRAPH, HEADS, INSIDE, MAX, MIN, POTENTIALS, PREDECESSORS, SUPPLIES, TAILS
 from .given import Array, Given
+
+_Valued = TypeVar("_Valued", bound=Union[Certified, Verdict])
 
 #: What shows each kind of claim.
 _CERTIFICATES = {"max": INSIDE, "min": POTENTIALS, "infeasible": INSIDE, "paths": PREDECESSORS}
@@ -73,7 +75,7 @@ def _refusal(given: Given, no: Refused, asked: AskedOfArrays, came: Any, *better
     return NotOptimal(no.reason, shown, text=no.text, line=no.line, field=no.field, numbers=numbers)
 
 
-def of_value(certified: Certified, claimed: Any, name: str) -> Certified:
+def of_value(certified: _Valued, claimed: Any, name: str) -> _Valued:
     """The same. Raises Refused if it has another value than is claimed."""
     number = value_of(claimed, name)
     if number != certified.value:

@@ -11,6 +11,13 @@ from .library import LINE
 KINDS = {"max": 0, "min": 1, "infeasible": 2, "paths": 3}
 TEXTS = {"max": 0, "min": 1, "gr": 2, "query": 3, "solution": 4, "cut": 5, "pot": 6, "dist": 7, "distances": 8}
 
+
+def test_kind(kind: Any) -> None:
+    """Raises ValueError for what is no kind of text."""
+    if kind not in TEXTS:
+        raise ValueError(f"{kind!r} is no kind of text: these are {', '.join(TEXTS)}")
+
+
 #: In place of a text that a call doesn't read.
 _NO_TEXT = bytes_of(b"")
 

@@ -8,7 +8,7 @@ import threading
 from typing import Any, Iterator, Sequence, TypeVar
 
 from . import library
-from .answers import Explainable, PastLimit
+from .answers import Explainable, PastLimit, Refused
 from .buffers import UNLIMITED, Room, array_of, bytes_of
 from .given import DISTANCES, FLOWS, HEADS, INSIDE, MAX, MIN, POTENTIALS, PREDECESSORS, TAILS, Array, Given, Names
 from .writing import text_of, text_of_instance
@@ -51,11 +51,22 @@ def _explanation(command: str, texts: Sequence[Any]) -> list[str]:
     return lines.decode().splitlines()
 
 
+_TEXTS_CHANGED = "the texts hold something else now: the refusal isn't theirs"
+
+
 class Asked:
     """A call over texts: these, then what it hands out. It keeps them alive."""
 
+    #: The line of a refusal, and what the exception says.
+    printed: str | None = None
+    said = ""
+
     def __init__(self, call: str, *texts: Any, shown: str = "certificate") -> None:
         self._call, self._texts, self._shown = call, texts, shown
+
+    def of_refusal(self, no: Refused) -> None:
+        kept(no, self)
+        self.printed, self.said = no.printed, str(no)
 
     def __reduce__(self) -> Any:
         return type(None), ()  # a pickled answer keeps nothing
@@ -75,6 +86,11 @@ class Asked:
         return " ".join([self._call.replace("_", "-"), *(_NO_FILE + it for it in names)])
 
     def lines(self) -> list[str]:
+        lines = self.told()
+        is_changed = self.printed is not None and lines[0] != self.printed
+        return [str(self.printed), _TEXTS_CHANGED] if is_changed else lines
+
+    def told(self) -> list[str]:
         return _explanation(self.command(), self._texts)
 
     def explain(self) -> str:
@@ -127,9 +143,6 @@ class AskedOfArrays(Asked):
         super().__init__(call)
         self._given, self._more = given, more
         self._lock = threading.Lock()
-        #: The line of a refusal, and what the exception says.
-        self.printed: str | None = None
-        self.said = ""
 
     def add(self, **more: Room) -> None:
         self._more.update(more)
@@ -142,7 +155,7 @@ class AskedOfArrays(Asked):
         if name == "instance":
             return text_of_instance(given).decode("ascii")
         if name == "certificate" and kind != "paths":
-            called, items = ("potentials", POTENTIALS) if kind == "min" else ("cut", INSIDE)
+            called, items = ("pot", POTENTIALS) if kind == "min" else ("cut", INSIDE)
             numbers = array_of(self._column(items), items.items, items.name)
             return text_of(called, numbers.length, [], numbers).decode("ascii")
         if name == "query":
@@ -156,6 +169,15 @@ class AskedOfArrays(Asked):
         else:
             lines = _labels(given, "dist", self._column(DISTANCES), self._column(PREDECESSORS))
         return "".join(f"{it}\n" for it in lines)
+
+    def written(self, name: str) -> bytes:
+        """The text of an array by its name in commands."""
+        with self._lock:
+            self._given.words()
+            try:
+                return self._text(name).encode("ascii")
+            finally:
+                self._given.forget()
 
     def lines(self) -> list[str]:
         with self._lock:

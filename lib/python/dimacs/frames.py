@@ -185,13 +185,13 @@ class Frame:
 
     def max_instance(self, source: Any, sink: Any) -> MaxInstance:
         """The network as arrays, whose names are the nodes. Without a capacity an edge has 2^63 - 1."""
-        return MaxInstance.of(self._max(source, sink), self.nodes)
+        return MaxInstance._of(self._max(source, sink), self.nodes)
 
     def min_instance(self) -> MinInstance:
-        return MinInstance.of(self._min(), self.nodes)
+        return MinInstance._of(self._min(), self.nodes)
 
     def graph(self) -> Graph:
-        return Graph.of(self._graph(), self.nodes)
+        return Graph._of(self._graph(), self.nodes)
 
     def _is_name(self, flows: Any) -> bool:
         """Whether these flows are a column of the frame: one that it has, or what has letters, and so is no number."""

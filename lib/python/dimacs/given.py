@@ -47,11 +47,14 @@ POTENTIALS = Array("potentials", NUMBERS, "nodes", "cost")
 INSIDE = Array("inside", MARKS, "nodes")
 DISTANCES = Array("distances", LENGTHS, "nodes", "cost")
 PREDECESSORS = Array("predecessors", IDS, "nodes")
+FROMS, TOS = (Array(name, IDS, "queries") for name in ("froms", "tos"))
+PAIR_TAILS, PAIR_HEADS = (Array(name, IDS, "pairs") for name in ("pair_tails", "pair_heads"))
+SUMS = Array("sums", NUMBERS, "pairs")
 
 
 class Form:
-    """An instance in memory: its numbers, and then the address and the length of each array. Calls that read and write have
-    its name."""
+    """An instance in memory: its numbers, and then the address and the length of each array. Its name is the kind of its
+    text."""
 
     def __init__(self, name: str, numbers: str, *arrays: Array) -> None:
         self.name = name
@@ -65,7 +68,7 @@ class Form:
 
 MAX = Form("max", "nodes source sink", TAILS, HEADS, CAPS)
 MIN = Form("min", "nodes", TAILS, HEADS, LOWS, CAPS, COSTS, SUPPLIES)
-GRAPH = Form("graph", "nodes", TAILS, HEADS, WEIGHTS)
+GRAPH = Form("gr", "nodes", TAILS, HEADS, WEIGHTS)
 
 
 class Names:
@@ -142,7 +145,8 @@ class Given:
     def words(self) -> list[Any]:
         """The arguments. Raises ValueError or TypeError if one of them has a wrong value, length or type."""
         numbers = {name: self._single(name, IDS) for name in self.form.numbers}
-        self._count = {"nodes": numbers["nodes"]}
+        #: How many nodes, arcs and so on there are: an item for each in the first array.
+        self._count = {"nodes": numbers["nodes"]} if numbers else {}
         #: The scales of amounts and costs, if numbers aren't whole.
         self.units = units_of(self._scale, self._groups)
         for kind in self._raw:
@@ -186,7 +190,7 @@ class Given:
         self._buffers[kind.name] = found = self._buffer(kind, numbers)
         if kind.items is LENGTHS and (self.units or self.names.has_inf_alone):
             self._test_reached(kind, numbers)
-        self._count.setdefault("arcs", found.length)  # one arc for each tail, which are the first
+        self._count.setdefault(kind.each, found.length)
 
     def _buffer(self, kind: Array, numbers: Any) -> Buffer:
         """An array in memory, as the library takes it."""
@@ -269,7 +273,11 @@ class Given:
         return kind in self._raw
 
     def number(self, name: str) -> int:
-        return self._single(name, IDS)
+        return self._count[name] if name in self._count else self._single(name, IDS)
+
+    def ends(self) -> list[Any]:
+        """The number of nodes and the ends of arcs, as calls take them."""
+        return [self.number("nodes"), *(word for it in (TAILS, HEADS) for word in self._buffers[it.name].words())]
 
     def count(self, kind: Array) -> int:
         """The number of items that an array has."""

@@ -27,7 +27,7 @@ _OF_EDGES = {"caps": "capacity", "costs": "weight", "weights": "weight", "flows"
 _OF_NODES = {"supplies": "demand", "distances": "distance", "potentials": "potential"}
 
 
-def _entries(flow: Any, shape: str) -> dict[tuple[Any, ...], Any]:
+def entries_of_flow(flow: Any, shape: str) -> dict[tuple[Any, ...], Any]:
     """The entries of a flow of this shape by their edges."""
     entries: dict[tuple[Any, ...], Any] = {(): flow}
     for _ in range(shape.count("[")):
@@ -108,17 +108,17 @@ class NumberedGraph(Names):
             raise ValueError(f"{node!r} is no node of the graph")
         return self._arcs.number[node]
 
-    def max(self, source: Any, sink: Any) -> Given:
+    def max(self, source: Any, sink: Any, capacity: Any = "capacity") -> Given:
         ends = self.number(source), self.number(sink)
-        return Given(MAX, len(self.nodes), *ends, *self._ends, self._arcs.numbers("capacity", math.inf), **self._how)
+        return Given(MAX, len(self.nodes), *ends, *self._ends, self._arcs.numbers(capacity, math.inf), **self._how)
 
-    def min(self) -> Given:
-        demands = [demand for _, demand in self._arcs.graph.nodes(data="demand", default=0)]
-        numbers = [0] * len(self.edges), self._arcs.numbers("capacity", math.inf), self._arcs.numbers("weight", 0)
+    def min(self, demand: Any = "demand", capacity: Any = "capacity", weight: Any = "weight") -> Given:
+        demands = [it for _, it in self._arcs.graph.nodes(data=demand, default=0)]
+        numbers = [0] * len(self.edges), self._arcs.numbers(capacity, math.inf), self._arcs.numbers(weight, 0)
         return Given(MIN, len(self.nodes), *self._ends, *numbers, demands, **self._how)
 
-    def graph(self) -> Given:
-        return Given(GRAPH, len(self.nodes), *self._ends, self._arcs.numbers("weight", 1), **self._how)
+    def graph(self, weight: Any = "weight") -> Given:
+        return Given(GRAPH, len(self.nodes), *self._ends, self._arcs.numbers(weight, 1), **self._how)
 
     def paths(self, source: Any) -> Given:
         return self.graph().add_number("source", self.number(source))
@@ -145,7 +145,7 @@ class NumberedGraph(Names):
         return self.by_node(marks, False, "side")
 
     def flows(self, flow: Mapping[Any, Any]) -> list[Any]:
-        entries = _entries(flow, "flow[u][v][key]" if self._arcs.graph.is_multigraph() else "flow[u][v]")
+        entries = entries_of_flow(flow, "flow[u][v][key]" if self._arcs.graph.is_multigraph() else "flow[u][v]")
         flows = [entries.pop(edge, 0) for edge in self.edges]
         for edge, amount in entries.items():
             if amount != 0:

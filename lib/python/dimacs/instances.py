@@ -1,27 +1,45 @@
 """Instances, claims, certificates and queries as arrays, which dimacs.read makes of texts, and classmethods of graphs, matrices
 and frames.
 
-An instance has the arguments of the calls over arrays as its fields, and unpacks into them; its length is the number of its
-arcs. Nodes are numbered from 1; names has what they are called where the instance comes from, node 1 first, or is None.
-Arrays are those of numpy, which can't be written to; without numpy they are array.array.
+The calls over arrays take a value in place of its fields, into which it unpacks too. The length of an instance is the number
+of its arcs. Nodes and arcs are numbered from 1: base=0 tells a constructor that they come numbered from 0. Arrays are those of
+numpy, which can't be written to; without numpy they are array.array. IDs are uint32, so tails - heads wraps at 2^32.
+
+names has what nodes are called where an instance comes from, node 1 first, or is None. units has what 1 stands for in its
+amounts and in its costs, as (Fraction(1, 100), 1), or is None if numbers are as they came; conversions keep both. Instances
+are equal if these are too, and solutions if their instances are.
 """
 
 from __future__ import annotations
 
 import ctypes
 import importlib
+import operator
 from array import array
-from collections.abc import Iterable, Sized
+from collections.abc import Iterable, Mapping, Sized
 from dataclasses import dataclass
-from typing import Any, ClassVar, Iterator, Sequence, TypeVar, Union
+from typing import TYPE_CHECKING, Any, ClassVar, Iterator, Sequence, TypeVar, Union
 
-from .buffers import IDS, MARKS, NUMBERS, Buffer, Items, array_of, number_of, only_array_of, test_same_lengths
-from .given import DISTANCES, FLOWS, GRAPH, INSIDE, MAX, MIN, POTENTIALS, PREDECESSORS, UNSCALED, Array, Form, Given
+from . import library
+from .answers import PastLimit
+from .buffers import IDS, MARKS, NUMBERS, Buffer, Items, Numbers, array_of, gone_through, number_of, room_of, unlabelled
+from .given import DISTANCES, FLOWS, FROMS, GRAPH, INSIDE, MAX, MIN, POTENTIALS, PREDECESSORS, TAILS, TOS, Array, Form, Given
+from .given import Names
 
-#: The nodes by their numbers, from 1.
+if TYPE_CHECKING:
+    from numpy import bool_, int64, uint32
+    from numpy.typing import NDArray
+
+    Ids = NDArray[uint32]
+    Amounts = NDArray[int64]
+    Marks = NDArray[bool_]
+
+#: The nodes by their numbers, from 1; what 1 stands for in amounts, and in costs.
 NodeNames = Union[Sequence[Any], None]
+Units = Union[tuple[Any, Any], None]
 
 _Made = TypeVar("_Made", bound="Value")
+_Instance = TypeVar("_Instance", bound="Instance")
 
 
 def numpy() -> Any:
@@ -43,30 +61,36 @@ def _copied(buffer: Buffer, items: Items) -> Any:
 
 
 def fixed(found: Any) -> Any:
-    """An array of numpy, which can't be written to any more."""
-    found.flags.writeable = False
-    return found
+    """A view of an array of numpy that nobody can make writable."""
+    return numpy().frombuffer(memoryview(found).toreadonly(), found.dtype)
 
 
 class Value(Sized, Iterable[Any]):
-    """What a text spells: fields in an order, into which the value unpacks. Calls that read and write have its name."""
+    """What a text spells: fields in an order. name is the kind of the text, as dimacs.read takes it."""
 
     name: ClassVar[str]
-    fields: ClassVar[tuple[str, ...]]
+    _fields: ClassVar[tuple[str, ...]]
 
     @classmethod
-    def made(cls: type[_Made], *fields: Any, **more: Any) -> _Made:
+    def _made(cls: type[_Made], *fields: Any, **more: Any) -> _Made:
         """The value of fields that have been tested, and that nobody else has."""
         value = object.__new__(cls)
         value._set(*fields, **more)
         return value
 
     def _set(self, *fields: Any, **more: Any) -> None:
-        for name, it in (*zip(self.fields, fields), *more.items()):
+        for name, it in (*zip(self._fields, fields), *more.items()):
             object.__setattr__(self, name, it)
 
+    def __setstate__(self, state: dict[str, Any]) -> None:
+        """A copy, whose arrays can't be written to either."""
+        self._set(**{name: fixed(it) if hasattr(it, "flags") else it for name, it in state.items()})
+
     def __iter__(self) -> Iterator[Any]:
-        return iter([getattr(self, name) for name in self.fields])
+        return iter([getattr(self, name) for name in self._fields])
+
+    def __bool__(self) -> bool:
+        return True
 
     def __eq__(self, other: object) -> bool:
         if not isinstance(other, Value) or type(other) is not type(self):
@@ -77,46 +101,78 @@ class Value(Sized, Iterable[Any]):
         return hash(self._compared())
 
     def _compared(self) -> tuple[Any, ...]:
-        return tuple(map(_bytes, self))
+        return tuple(it.tobytes() if hasattr(it, "tobytes") else it for it in self)
 
-    def lines(self) -> int:
+    def _lines(self) -> int:
         """About as many lines as its text has."""
         return len(self)
 
-    def words(self) -> tuple[list[int], list[Buffer]]:
+    def _words(self) -> tuple[list[int], list[Buffer]]:
         """The numbers and the arrays that the call takes that writes its text."""
         raise NotImplementedError
 
 
-def _bytes(field: Any) -> Any:
-    return field if field is None or isinstance(field, int) else bytes(memoryview(field).cast("B"))
+def _test_limits(given: Given) -> None:
+    """Raises PastLimit as each call does that takes the instance: as one that refuses a flow at its first arc, or that reads
+    a solution of a graph."""
+    instance, flows, none = given.words()[0], room_of(NUMBERS, given.count(TAILS)), room_of(NUMBERS, 0)
+    flows[:1] = array(NUMBERS.code, [-1] * len(flows[:1]))
+    with given.named():
+        if given.form is GRAPH:
+            value, needed = ctypes.byref(ctypes.c_int64()), ctypes.byref(ctypes.c_size_t())
+            library.call_with_line(library.readers["solution"], [*given.ends(), b"s 0\n", 4], [value, 0, 0, needed])
+        else:
+            certify = library.certify_max_arrays if given.form is MAX else library.certify_min_arrays
+            library.call_with_rooms(certify, [instance, *flows.buffer_info()], [none, none])
+
+
+def _names(given: Any, nodes: int) -> NodeNames:
+    """The names of nodes. Raises ValueError if they aren't as many, or one stands twice, and TypeError if they have no order."""
+    if given is None:
+        return None
+    names = given if isinstance(given, range) else tuple(gone_through(unlabelled(given), "names"))
+    if len(names) != nodes:
+        raise ValueError(f"names has {len(names)} items, and there are {nodes} nodes")
+    if not isinstance(names, range) and len(set(names)) != nodes:
+        raise ValueError(f"names has {next(it for it in names if names.count(it) > 1)!r} twice")
+    return names
 
 
 class Instance(Value):
     """What MaxInstance, MinInstance and Graph have in common."""
 
-    form: ClassVar[Form]
+    _form: ClassVar[Form]
     nodes: int
-    tails: Any
-    heads: Any
+    tails: Ids
+    heads: Ids
     names: NodeNames
+    units: Units
 
     def __init_subclass__(cls) -> None:
-        cls.name, cls.fields = cls.form.name, (*cls.form.numbers, *(it.name for it in cls.form.arrays))
+        cls._fields = (*cls._form.numbers, *(it.name for it in cls._form.arrays))
 
-    def __post_init__(self) -> None:
-        self._set(*Given(self.form, *self).instance(_copied))
+    def _take(self, given: Given, names: Any, units: Units = None) -> None:
+        """The arrays of arguments, which have to pass the tests of calls."""
+        numbers = given.instance(_copied)
+        _test_limits(given)
+        given.forget()
+        shown = names if names is not None or given.names.base else range(numbers[0])
+        self._set(*numbers, names=_names(shown, numbers[0]), units=units or (given.units and given.units.ones()))
 
     @classmethod
-    def of(cls: type[_Made], given: Given, names: NodeNames) -> _Made:
-        """That of arguments."""
-        return cls.made(*given.instance(_copied), names=names)
+    def _of(cls: type[_Instance], given: Given, names: Any, units: Units = None) -> _Instance:
+        value = object.__new__(cls)
+        value._take(given, names, units)
+        return value
 
     def __len__(self) -> int:
         return len(self.tails)
 
     def __repr__(self) -> str:
         return f"{type(self).__name__} of {self.nodes} nodes and {len(self)} arcs"
+
+    def _compared(self) -> tuple[Any, ...]:
+        return (*super()._compared(), tuple(self._called()), self.units)
 
     def _called(self) -> Sequence[Any]:
         return range(1, self.nodes + 1) if self.names is None else self.names
@@ -130,55 +186,76 @@ class Instance(Value):
     def _digraph(self, kind: str) -> Any:
         graph = getattr(importlib.import_module("networkx"), kind)()
         graph.add_nodes_from(self._called())
+        if self.units:
+            graph.graph["units"] = self.units
         return graph
 
     def to_frame(self) -> Any:
-        """The arcs in a DataFrame of pandas, a row each: tail, head, and their numbers. The index has the numbers of arcs."""
-        pandas = importlib.import_module("pandas")
-        columns = dict(zip(("tail", "head"), ([row[k] for row in self._listed()] for k in (0, 1))))
-        columns.update((_COLUMNS[name], getattr(self, name)) for name in self.fields if name in _COLUMNS)
-        return pandas.DataFrame(columns, pandas.RangeIndex(1, len(self) + 1, name="arc"))
+        """The arcs in a DataFrame of pandas, a row each: source, target, and their numbers. The index has the numbers of arcs,
+        and attrs the units."""
+        pandas, called = importlib.import_module("pandas"), self._called()
+        nodes = pandas.Index(called, dtype=None if isinstance(called, range) else "O", tupleize_cols=False)
+        ends = {"source": self.tails, "target": self.heads}
+        columns = {name: nodes.take(it.astype("int64") - 1) for name, it in ends.items()}
+        columns.update((_COLUMNS[name], getattr(self, name)) for name in self._fields if name in _COLUMNS)
+        frame = pandas.DataFrame(columns, pandas.RangeIndex(1, len(self) + 1, name="arc")).infer_objects()
+        frame.attrs.update({"units": self.units} if self.units else {})
+        return frame
 
 
 #: What the numbers of arcs are called in a frame.
 _COLUMNS = {"lows": "low", "caps": "capacity", "costs": "cost", "weights": "weight"}
 
 
-@dataclass(frozen=True, eq=False, repr=False)
+@dataclass(frozen=True, eq=False, repr=False, init=False)
 class MaxInstance(Instance):
-    """A maximum flow instance.
+    """A maximum flow instance: nodes, source and sink, and the tail, head and capacity of each arc. Nodes are numbered from 1,
+    or with base=0 from 0, in what is given; the value has them from 1. Its arrays can't be written to. names has what nodes
+    are called, each once, and units what 1 stands for. Raises PastLimit as the calls over arrays.
 
     >>> import dimacs
-    >>> instance = MaxInstance(3, 1, 3, [1, 2], [2, 3], [5, 4])
-    >>> instance
-    MaxInstance of 3 nodes and 2 arcs
-    >>> dimacs.certify_max_arrays(*instance, [4, 4]).value
+    >>> instance = MaxInstance(3, 0, 2, [0, 1], [1, 2], [5, 4], base=0)
+    >>> instance, instance.source, instance.tails.tolist()
+    (MaxInstance of 3 nodes and 2 arcs, 1, [1, 2])
+    >>> dimacs.certify_max_arrays(instance, [4, 4]).value
     4
     """
 
-    form = MAX
+    name = "max"
+    _form = MAX
     nodes: int
     source: int
     sink: int
-    tails: Any
-    heads: Any
-    caps: Any
-    names: NodeNames = None
+    tails: Ids
+    heads: Ids
+    caps: Amounts
+    names: NodeNames
+    units: Units
+
+    def __init__(
+        self, nodes: int, source: int, sink: int, tails: Numbers, heads: Numbers, caps: Numbers,
+        names: NodeNames = None, units: Units = None, *, base: int = 1,
+    ) -> None:
+        self._take(Given(MAX, nodes, source, sink, tails, heads, caps, names=Names(base)), names, units)
 
     @classmethod
-    def from_networkx(cls, graph: Any, source: Any, sink: Any) -> MaxInstance:
-        """That of a DiGraph or MultiDiGraph, with the capacities of its edges; without one an edge has 2^63 - 1."""
+    def from_networkx(
+        cls, graph: Any, source: Any, sink: Any, *, capacity: Any = "capacity", scale: Any = None
+    ) -> MaxInstance:
+        """That of a DiGraph or MultiDiGraph, with the capacities of its edges; without one an edge has 2^63 - 1. With scale=
+        (see dimacs.arrays) they are multiples of a unit."""
         from .graphs import NumberedGraph
 
-        found = NumberedGraph(graph, UNSCALED)
-        return cls.of(found.max(source, sink), found.nodes)
+        found = NumberedGraph(graph, scale)
+        return cls._of(found.max(source, sink, capacity), found.nodes, graph.graph.get("units"))
 
     @classmethod
-    def from_scipy(cls, matrix: Any, source: int, sink: int) -> MaxInstance:
-        """That of a matrix of capacities in CSR format, as maximum_flow takes it. Vertices are numbered from 0."""
+    def from_scipy(cls, matrix: Any, source: int, sink: int, *, scale: Any = None) -> MaxInstance:
+        """That of a matrix of capacities in CSR format, as maximum_flow takes it; with scale= they are multiples of a unit.
+        Vertices are numbered from 0."""
         from .scipy.flows import Network
 
-        return cls.of(Network(matrix, source, sink).given(), range(matrix.shape[0]))
+        return cls._of(Network(matrix, source, sink, scale).given(), range(matrix.shape[0]))
 
     def to_networkx(self) -> Any:
         """A DiGraph, which networkx' maximum flows need. An edge has the capacities of parallel arcs, added up."""
@@ -194,38 +271,78 @@ class MaxInstance(Instance):
 
         return summed(self.tails, self.heads, self.caps, self.nodes)
 
+    def flows_from(self, flow: Any) -> Amounts:
+        r"""The flows of arcs by those of to_networkx(), a dict flow[u][v], or of to_scipy(), SciPy's result or its matrix. What
+        parallel arcs carry together is dealt out to them as by spread_max_arrays, which says what is raised.
 
-@dataclass(frozen=True, eq=False, repr=False)
+        >>> import dimacs
+        >>> instance = MaxInstance(2, 1, 2, [1, 1], [2, 2], [3, 5], ["spring", "town"])
+        >>> flows = instance.flows_from({"spring": {"town": 6}})
+        >>> flows.tolist(), dimacs.write(Solution(6, flows, instance))
+        ([3, 3], b's 6\nf 1 2 3\nf 1 2 3\n')
+        """
+        from .graphs import entries_of_flow
+        from .spread import spread_max_arrays
+
+        if isinstance(flow, Mapping):
+            number = {name: node for node, name in enumerate(self._called(), 1)}
+            found = entries_of_flow(flow, "flow[u][v]")
+            for node in {node for edge in found for node in edge if node not in number}:
+                raise ValueError(f"{node!r} is no node of the instance")
+            sums = [(number[tail], number[head], it) for (tail, head), it in found.items() if it != 0]
+        else:
+            from .scipy.flows import flow_of
+
+            rows, columns, amounts = (it.tolist() for it in flow_of(flow, self.nodes))
+            sums = [(row + 1, column + 1, it) for row, column, it in zip(rows, columns, amounts) if it > 0]
+        columns = [list(it) for it in zip(*sums)] or [[], [], []]
+        return _amounts(spread_max_arrays(*self, *columns))
+
+
+@dataclass(frozen=True, eq=False, repr=False, init=False)
 class MinInstance(Instance):
-    """A minimum cost flow instance. A supply is what leaves a node less what enters it.
+    """A minimum cost flow instance: the tail, head, lower bound, capacity and cost of each arc, and the supply of each node,
+    which is what leaves it less what enters it. Numbers of nodes, arrays, names and units are as in MaxInstance.
 
     >>> import dimacs
     >>> instance = MinInstance(2, [1, 1], [2, 2], [0, 0], [5, 5], [3, 7], [6, -6])
-    >>> dimacs.solve_min_arrays(*instance).value
+    >>> dimacs.solve_min_arrays(instance).value
     22
     """
 
-    form = MIN
+    name = "min"
+    _form = MIN
     nodes: int
-    tails: Any
-    heads: Any
-    lows: Any
-    caps: Any
-    costs: Any
-    supplies: Any
-    names: NodeNames = None
+    tails: Ids
+    heads: Ids
+    lows: Amounts
+    caps: Amounts
+    costs: Amounts
+    supplies: Amounts
+    names: NodeNames
+    units: Units
+
+    def __init__(
+        self, nodes: int, tails: Numbers, heads: Numbers, lows: Numbers, caps: Numbers, costs: Numbers, supplies: Numbers,
+        names: NodeNames = None, units: Units = None, *, base: int = 1,
+    ) -> None:
+        self._take(Given(MIN, nodes, tails, heads, lows, caps, costs, supplies, names=Names(base)), names, units)
 
     @classmethod
-    def from_networkx(cls, graph: Any) -> MinInstance:
-        """That of a DiGraph or MultiDiGraph, as network_simplex takes it; without a capacity an edge has 2^63 - 1."""
+    def from_networkx(
+        cls, graph: Any, *, demand: Any = "demand", capacity: Any = "capacity", weight: Any = "weight", scale: Any = None
+    ) -> MinInstance:
+        """That of a DiGraph or MultiDiGraph, as network_simplex takes it; without a capacity an edge has 2^63 - 1. With scale=
+        (see dimacs.arrays) numbers are multiples of a unit."""
         from .graphs import NumberedGraph
 
-        found = NumberedGraph(graph, UNSCALED)
-        return cls.of(found.min(), found.nodes)
+        found = NumberedGraph(graph, scale)
+        return cls._of(found.min(demand, capacity, weight), found.nodes, graph.graph.get("units"))
 
     def to_networkx(self) -> Any:
         """A MultiDiGraph whose keys are the places of arcs, from 0. It has no lower bounds: what they take is moved to the
-        ends, and a flow of the graph is what flows above them."""
+        ends, a flow of the graph is what flows above them, and graph.graph["cost"] is what they cost, so that the least cost
+        here is that of the graph and this. from_networkx makes another instance of it, of what flows above them."""
         graph = self._digraph("MultiDiGraph")
         for node, supply in zip(self._called(), self.supplies.tolist()):
             graph.nodes[node]["demand"] = -supply
@@ -233,6 +350,7 @@ class MinInstance(Instance):
             graph.add_edge(tail, head, key, capacity=cap - low, weight=cost)
             graph.nodes[tail]["demand"] += low
             graph.nodes[head]["demand"] -= low
+        graph.graph["cost"] = sum(map(operator.mul, self.lows.tolist(), self.costs.tolist()))
         return graph
 
     def to_scipy(self) -> dict[str, Any]:
@@ -243,41 +361,73 @@ class MinInstance(Instance):
         bounds = list(zip(self.lows.tolist(), self.caps.tolist()))
         return {"c": self.costs, "A_eq": rows, "b_eq": self.supplies, "bounds": bounds}
 
+    def flows_from(self, flow: Any) -> Amounts:
+        """The flows of arcs by those of to_networkx(), a dict flow[u][v][key], to which the lower bounds are added, or by the
+        result of linprog, which may be as far as 10^-6 from whole numbers. Raises ValueError for an entry of no arc.
 
-@dataclass(frozen=True, eq=False, repr=False)
+        >>> instance = MinInstance(2, [1, 1], [2, 2], [1, 0], [5, 5], [3, 7], [6, -6])
+        >>> instance.flows_from({1: {2: {0: 4, 1: 1}}}).tolist()
+        [5, 1]
+        """
+        if not isinstance(flow, Mapping):
+            from .scipy.programs import rounded_of
+
+            return _amounts(rounded_of(flow, len(self)))
+        from .graphs import entries_of_flow
+
+        entries, arcs = entries_of_flow(flow, "flow[u][v][key]"), enumerate(self._listed("lows"))
+        flows = [low + entries.pop((tail, head, key), 0) for key, (tail, head, low) in arcs]
+        for edge, amount in entries.items():
+            if amount != 0:
+                raise ValueError(f"the flow has an entry of {edge!r}, which is no arc of the instance")
+        return _amounts(flows)
+
+
+@dataclass(frozen=True, eq=False, repr=False, init=False)
 class Graph(Instance):
-    """A graph whose arcs have weights, for shortest paths.
+    """A graph, for shortest paths: the tail, head and weight of each arc. Numbers of nodes, arrays, names and units are as in
+    MaxInstance.
 
     >>> import dimacs
     >>> graph = Graph(3, [1, 2], [2, 3], [5, 4])
-    >>> dimacs.solve_paths_arrays(*graph, 1).distances.tolist()
+    >>> dimacs.solve_paths_arrays(graph, 1).distances.tolist()
     [0, 5, 9]
     """
 
-    form = GRAPH
+    name = "gr"
+    _form = GRAPH
     nodes: int
-    tails: Any
-    heads: Any
-    weights: Any
-    names: NodeNames = None
+    tails: Ids
+    heads: Ids
+    weights: Amounts
+    names: NodeNames
+    units: Units
+
+    def __init__(
+        self, nodes: int, tails: Numbers, heads: Numbers, weights: Numbers, names: NodeNames = None, units: Units = None,
+        *, base: int = 1,
+    ) -> None:
+        self._take(Given(GRAPH, nodes, tails, heads, weights, names=Names(base)), names, units)
 
     @classmethod
-    def from_networkx(cls, graph: Any) -> Graph:
-        """That of a DiGraph or MultiDiGraph; without a weight an edge is 1 long."""
+    def from_networkx(cls, graph: Any, *, weight: Any = "weight", scale: Any = None) -> Graph:
+        """That of a DiGraph or MultiDiGraph; without a weight an edge is 1 long. With scale= (see dimacs.arrays) weights are
+        multiples of a unit."""
         from .graphs import NumberedGraph
 
-        found = NumberedGraph(graph, UNSCALED)
-        return cls.of(found.graph(), found.nodes)
+        found = NumberedGraph(graph, scale)
+        return cls._of(found.graph(weight), found.nodes, graph.graph.get("units"))
 
     @classmethod
-    def from_scipy(cls, matrix: Any) -> Graph:
-        """That of a matrix of weights, as shortest_path takes it. Vertices are numbered from 0."""
+    def from_scipy(cls, matrix: Any, *, scale: Any = None) -> Graph:
+        """That of a matrix of weights, as shortest_path takes it; with scale= they are multiples of a unit. Vertices are
+        numbered from 0."""
         from .scipy.entries import numbers_of
         from .scipy.paths import arcs_of
 
-        vertices, tails, heads, weights = arcs_of(matrix, True, False)
-        given = Given(GRAPH, vertices, numbers_of(tails), numbers_of(heads), weights)
-        return cls.of(given, range(vertices))
+        vertices, tails, heads, weights = arcs_of(matrix, True, False, scale=scale)
+        given = Given(GRAPH, vertices, numbers_of(tails), numbers_of(heads), weights, scale=scale)
+        return cls._of(given, range(vertices))
 
     def to_networkx(self) -> Any:
         """A MultiDiGraph whose keys are the places of arcs, from 0."""
@@ -293,7 +443,13 @@ class Graph(Instance):
         return shortest(self.tails, self.heads, self.weights, self.nodes)
 
 
-@dataclass(frozen=True, eq=False, repr=False)
+def _amounts(numbers: Any) -> Amounts:
+    """Flows as an array that can't be written to."""
+    found: Amounts = _copied(array_of(numbers, NUMBERS, "flows"), NUMBERS)
+    return found
+
+
+@dataclass(frozen=True, eq=False, repr=False, init=False)
 class Solution(Value):
     """A claimed value or cost, and the amount that each arc of an instance carries.
 
@@ -303,15 +459,17 @@ class Solution(Value):
     """
 
     name = "solution"
-    fields = ("value", "flows")
+    _fields = ("value", "flows")
     value: int
-    flows: Any
+    flows: Amounts
     instance: Instance
 
-    def __post_init__(self) -> None:
-        given = Given(self.instance.form, *self.instance).add(FLOWS, self.flows)
+    def __init__(self, value: int, flows: Numbers, instance: Instance) -> None:
+        if not isinstance(instance, Instance):
+            raise TypeError(f"instance is a {type(instance).__name__}, and has to be a MaxInstance, MinInstance or Graph")
+        given = Given(instance._form, *instance).add(FLOWS, flows)
         given.words()
-        self._set(number_of(self.value, NUMBERS, "value"), given.array(FLOWS, _copied))
+        self._set(number_of(value, NUMBERS, "value"), given.array(FLOWS, _copied), instance=instance)
 
     def __len__(self) -> int:
         return len(self.flows)
@@ -319,37 +477,44 @@ class Solution(Value):
     def __repr__(self) -> str:
         return f"Solution of the value {self.value} on {len(self)} arcs"
 
+    def _compared(self) -> tuple[Any, ...]:
+        return (*super()._compared(), self.instance)
 
-def _array(kind: Array, numbers: Any) -> Any:
-    """A copy of an argument, as an array."""
-    return _copied(only_array_of(numbers, kind.items, kind.name), kind.items)
+
+#: Arguments without an instance.
+_NO_INSTANCE = Form("", "")
 
 
 class ByNode(Value):
-    """What Cut, Potentials, Distances and Labels have in common: IDs, then arrays of an item for each node. Its length is the
-    number of nodes."""
+    """What Cut, Potentials, Distances and Labels have in common: the source of some, then arrays of an item for each node. Its
+    length is the number of nodes."""
 
-    ids: ClassVar[tuple[str, ...]] = ()
-    arrays: ClassVar[tuple[Array, ...]]
+    _ids: ClassVar[tuple[str, ...]] = ()
+    _arrays: ClassVar[tuple[Array, ...]]
 
     def __init_subclass__(cls) -> None:
-        cls.fields = (*cls.ids, *(it.name for it in cls.arrays))
+        cls._fields = (*cls._ids, *(it.name for it in cls._arrays))
 
-    def __post_init__(self) -> None:
-        ids = [number_of(getattr(self, it), IDS, it) for it in self.ids]
-        arrays = {it.name: _array(it, getattr(self, it.name)) for it in self.arrays}
-        test_same_lengths({name: len(it) for name, it in arrays.items()})
-        self._set(*ids, **arrays)
+    def _take(self, *arrays: Numbers, base: int = 1, **source: int) -> None:
+        given = Given(_NO_INSTANCE, names=Names(base))
+        for kind, numbers in zip(self._arrays, arrays):
+            given.add(kind, numbers)
+        given.words()
+        ids = [given.add_number(*it).number(it[0]) for it in source.items()]
+        with given.named():
+            if ids and not 1 <= ids[0] <= given.number("nodes"):
+                raise PastLimit("NodeRange", node=ids[0])
+        self._set(*ids, *(given.array(it, _copied) for it in self._arrays))
 
     def __len__(self) -> int:
-        return len(getattr(self, self.arrays[0].name))
+        return len(getattr(self, self._arrays[0].name))
 
-    def words(self) -> tuple[list[int], list[Buffer]]:
-        arrays = [array_of(getattr(self, it.name), it.items, it.name) for it in self.arrays]
-        return [getattr(self, it) for it in self.ids], arrays
+    def _words(self) -> tuple[list[int], list[Buffer]]:
+        arrays = [array_of(getattr(self, it.name), it.items, it.name) for it in self._arrays]
+        return [it for it in self if isinstance(it, int)], arrays
 
 
-@dataclass(frozen=True, eq=False, repr=False)
+@dataclass(frozen=True, eq=False, repr=False, init=False)
 class Cut(ByNode):
     """A cut or a set: whether each node is inside.
 
@@ -357,97 +522,145 @@ class Cut(ByNode):
     >>> cut
     Cut of 3 nodes, of which 2 are inside
     >>> import dimacs
-    >>> dimacs.judge_max_arrays(*MaxInstance(3, 1, 3, [1, 2], [2, 3], [5, 4]), [4, 4], *cut).value
+    >>> dimacs.judge_max_arrays(MaxInstance(3, 1, 3, [1, 2], [2, 3], [5, 4]), [4, 4], cut).value
     4
     """
 
     name = "cut"
-    arrays = (INSIDE,)
-    inside: Any
+    _arrays = (INSIDE,)
+    inside: Marks
+
+    def __init__(self, inside: Numbers) -> None:
+        self._take(inside)
 
     def __repr__(self) -> str:
-        return f"Cut of {len(self)} nodes, of which {self.lines()} are inside"
+        return f"Cut of {len(self)} nodes, of which {self._lines()} are inside"
 
-    def lines(self) -> int:
+    def _lines(self) -> int:
         """The number of nodes inside, each of which has a line in a text."""
-        return len(self) - memoryview(self.inside).tobytes().count(0)
+        return len(self) - bytes(self.inside.tobytes()).count(0)
 
 
-@dataclass(frozen=True, eq=False, repr=False)
+@dataclass(frozen=True, eq=False, repr=False, init=False)
 class Potentials(ByNode):
     """A potential for each node.
 
     >>> import dimacs
     >>> least = MinInstance(2, [1], [2], [0], [5], [3], [4, -4])
-    >>> dimacs.judge_min_arrays(*least, [4], *Potentials([3, 0])).value
+    >>> dimacs.judge_min_arrays(least, [4], Potentials([3, 0])).value
     12
     """
 
-    name = "potentials"
-    arrays = (POTENTIALS,)
-    potentials: Any
+    name = "pot"
+    _arrays = (POTENTIALS,)
+    potentials: Amounts
+
+    def __init__(self, potentials: Numbers) -> None:
+        self._take(potentials)
 
     def __repr__(self) -> str:
         return f"Potentials of {len(self)} nodes"
 
 
-@dataclass(frozen=True, eq=False, repr=False)
+@dataclass(frozen=True, eq=False, repr=False, init=False)
 class Distances(ByNode):
-    """The distance of each node from a source, UNREACHED of a node that isn't reached.
+    """The distance of each node from a source, UNREACHED of a node that isn't reached. With base=0 the source is numbered
+    from 0 in what is given.
 
     >>> far = Distances(1, [0, 5, float("inf")])
     >>> far
     Distances of 3 nodes from 1
     >>> import dimacs
-    >>> dimacs.certify_paths_arrays(*Graph(3, [1, 3], [2, 2], [5, 4]), *far).predecessors.tolist()
+    >>> dimacs.certify_paths_arrays(Graph(3, [1, 3], [2, 2], [5, 4]), far).predecessors.tolist()
     [0, 1, 0]
     """
 
     name = "distances"
-    ids = ("source",)
-    arrays: ClassVar[tuple[Array, ...]] = (DISTANCES,)
+    _arrays: ClassVar[tuple[Array, ...]] = (DISTANCES,)
+    _ids = ("source",)
     source: int
-    distances: Any
+    distances: Amounts
+
+    def __init__(self, source: int, distances: Numbers, *, base: int = 1) -> None:
+        self._take(distances, source=source, base=base)
 
     def __repr__(self) -> str:
         return f"{type(self).__name__} of {len(self)} nodes from {self.source}"
 
 
-@dataclass(frozen=True, eq=False, repr=False)
+@dataclass(frozen=True, eq=False, repr=False, init=False)
 class Labels(Distances):
-    """The same with the predecessor of each node, which is 0 at the source and where there is no label. If there is a radius,
-    nodes without a label are farther, and may be reached.
+    """The same with the predecessor of each node, which is 0 at the source and where there is no label (with base=0 it is -1 in
+    what is given). If there is a radius, nodes without a label are farther, and may be reached.
 
     >>> import dimacs
-    >>> dimacs.judge_paths_arrays(*Graph(3, [1, 3], [2, 2], [5, 4]), *Labels(1, [0, 5, dimacs.UNREACHED], [0, 1, 0])).kind
+    >>> labels = Labels(1, [0, 5, dimacs.UNREACHED], [0, 1, 0])
+    >>> dimacs.judge_paths_arrays(Graph(3, [1, 3], [2, 2], [5, 4]), labels).kind
     'sp'
     """
 
-    name = "labels"
-    arrays = (DISTANCES, PREDECESSORS)
-    predecessors: Any
-    radius: int | None = None
+    name = "dist"
+    _arrays = (DISTANCES, PREDECESSORS)
+    predecessors: Ids
+    radius: int | None
 
-    def __post_init__(self) -> None:
-        super().__post_init__()
-        if self.radius is not None:
-            self._set(radius=number_of(self.radius, NUMBERS, "radius"))
+    def __init__(
+        self, source: int, distances: Numbers, predecessors: Numbers, radius: int | None = None, *, base: int = 1
+    ) -> None:
+        self._take(distances, predecessors, source=source, base=base)
+        self._set(radius=None if radius is None else number_of(radius, NUMBERS, "radius"))
 
     def _compared(self) -> tuple[Any, ...]:
         return (*super()._compared(), self.radius)
 
-    def words(self) -> tuple[list[int], list[Buffer]]:
+    def _words(self) -> tuple[list[int], list[Buffer]]:
         if self.radius is not None:
             raise ValueError(f"labels with a radius, here {self.radius}, aren't written")
-        return super().words()
+        return super()._words()
 
 
-_QUERIES = Array("froms", IDS, "queries"), Array("tos", IDS, "queries")
+class Blocks(Mapping[int, Distances]):
+    r"""All blocks of a text of distances, or of labels, by their sources, in the order of the text.
+
+    >>> import dimacs
+    >>> blocks = dimacs.read("distances", "p distances 2 2\nt 2 0\nt 1 1\nd 2 7\n")
+    >>> blocks, blocks[1].distances.tolist()
+    (Blocks of 2 nodes from 2, 1, [0, 7])
+    >>> dimacs.write(Blocks(2, blocks.values())) == dimacs.write(blocks)
+    True
+    """
+
+    def __init__(self, nodes: int, blocks: Iterable[Distances]) -> None:
+        self.nodes = number_of(nodes, IDS, "nodes")
+        self._blocks: dict[int, Distances] = {}
+        for it in blocks:
+            if not isinstance(it, Distances):
+                raise TypeError(f"a block is a {type(it).__name__}, and has to be Distances or Labels")
+            if len(it) != self.nodes or it.source in self._blocks or type(it) is not type(next(iter(self._blocks.values()), it)):
+                raise ValueError(f"{it!r} comes beside blocks of {self.nodes} nodes, one from each source, all of a kind")
+            self._blocks[it.source] = it
+
+    @property
+    def sources(self) -> tuple[int, ...]:
+        return tuple(self._blocks)
+
+    def __getitem__(self, source: int) -> Distances:
+        return self._blocks[source]
+
+    def __iter__(self) -> Iterator[int]:
+        return iter(self._blocks)
+
+    def __len__(self) -> int:
+        return len(self._blocks)
+
+    def __repr__(self) -> str:
+        return f"Blocks of {self.nodes} nodes from {', '.join(map(str, self))}"
 
 
-@dataclass(frozen=True, eq=False, repr=False)
+@dataclass(frozen=True, eq=False, repr=False, init=False)
 class Queries(Value):
-    """What distances are asked for: from each node of froms to that of tos, or to all nodes if tos is None.
+    """What distances are asked for: from each node of froms to that of tos, or to all nodes if tos is None. With base=0 nodes
+    are numbered from 0 in what is given.
 
     >>> Queries([1, 1], [4, 5])
     Queries for 2 pairs
@@ -455,16 +668,21 @@ class Queries(Value):
     2
     """
 
-    name = "queries"
-    fields = ("froms", "tos")
-    froms: Any
-    tos: Any = None
+    name = "query"
+    _fields = ("froms", "tos")
+    froms: Ids
+    tos: Ids | None
 
-    def __post_init__(self) -> None:
-        given = zip(_QUERIES, (self.froms,) if self.tos is None else (self.froms, self.tos))
-        arrays = {kind.name: _array(kind, it) for kind, it in given}
-        test_same_lengths({name: len(it) for name, it in arrays.items()})
-        self._set(**arrays)
+    def __init__(self, froms: Numbers, tos: Numbers | None = None, *, base: int = 1) -> None:
+        given = Given(_NO_INSTANCE, names=Names(base)).add(FROMS, froms)
+        if tos is not None:
+            given.add(TOS, tos)
+        given.words()
+        self._set(*(given.array(it, _copied) if given.has(it) else None for it in (FROMS, TOS)))
+        numbers, arrays = self._words()
+        with given.named():
+            words = [*numbers, *(word for it in arrays for word in it.words())]
+            library.call_with_line(library.writers[self.name], words, [])
 
     def __len__(self) -> int:
         return len(self.froms)
@@ -472,6 +690,6 @@ class Queries(Value):
     def __repr__(self) -> str:
         return f"Queries for {len(self)} {'sources' if self.tos is None else 'pairs'}"
 
-    def words(self) -> tuple[list[int], list[Buffer]]:
-        tos = [] if self.tos is None else self.tos
-        return [int(self.tos is not None)], [array_of(it, IDS, kind.name) for kind, it in zip(_QUERIES, (self.froms, tos))]
+    def _words(self) -> tuple[list[int], list[Buffer]]:
+        tos: Any = [] if self.tos is None else self.tos
+        return [int(self.tos is not None)], [array_of(it, IDS, kind.name) for kind, it in zip((FROMS, TOS), (self.froms, tos))]

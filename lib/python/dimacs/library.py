@@ -88,14 +88,41 @@ show = _export("dimacs_show", _number, texts=1)
 explain = _export("dimacs_explain", texts=4)
 
 
-def reader(name: str, before: Sequence[Any], after: Sequence[Any], handed: Sequence[Any]) -> Callable[..., int]:
-    """The call that reads a text, by the types of what it takes before and after the text, and of what it hands out."""
-    return _export(f"dimacs_read_{name}", *before, texts=1, more=[*after, *_room, *handed], rooms=0)
+def _reader(
+    name: str, numbers: int, same: int, others: int, before: Sequence[Any] = (), after: Sequence[Any] = ()
+) -> Callable[..., int]:
+    """The call that reads a text, by what it hands out: numbers, arrays of one length, and others; and by the types of what it
+    takes before and after the text."""
+    arrays = [_address, _size] * same + [_address] * (same > 0) + [_address, _size, _address] * others
+    more = [*after, *_room, *[_address] * numbers, *arrays]
+    return _export(f"dimacs_read_{name}", *before, texts=1, more=more, rooms=0)
 
 
-def writer(name: str, *words: Any, arrays: int = 0) -> Callable[..., int]:
-    return _export(f"dimacs_write_{name}", *words, texts=arrays)
+_ends = [_number, *[_address, _size] * 2]
 
+#: By the kinds of texts.
+readers = {
+    "max": _reader("max", 3, 3, 0),
+    "min": _reader("min", 1, 5, 1),
+    "gr": _reader("graph", 1, 3, 0),
+    "query": _reader("queries", 1, 2, 0),
+    "solution": _reader("solution", 1, 0, 1, before=_ends),
+    "cut": _reader("cut", 0, 0, 1),
+    "pot": _reader("potentials", 0, 0, 1),
+    "dist": _reader("labels", 1, 0, 2, after=[_number]),
+    "distances": _reader("distances", 0, 0, 1, after=[_number]),
+}
+writers = {
+    "max": _export("dimacs_write_max", _address),
+    "min": _export("dimacs_write_min", _address),
+    "gr": _export("dimacs_write_graph", _address),
+    "query": _export("dimacs_write_queries", _number, texts=2),
+    "solution": _export("dimacs_write_solution", ctypes.c_int64, *_ends, texts=1),
+    "cut": _export("dimacs_write_cut", texts=1),
+    "pot": _export("dimacs_write_potentials", texts=1),
+    "dist": _export("dimacs_write_labels", _number, texts=2),
+    "distances": _export("dimacs_write_distances", _number, texts=1),
+}
 
 judge_max_arrays = _export("dimacs_judge_max_arrays", _address, texts=2)
 judge_min_arrays = _export("dimacs_judge_min_arrays", _address, texts=2)

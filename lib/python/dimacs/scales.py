@@ -167,6 +167,11 @@ class Units(NamedTuple):
     def of(self, unit: str) -> Scale:
         return self.amount if unit == "amount" else self.cost
 
+    def ones(self) -> tuple[Any, Any] | None:
+        """What 1 stands for, in amounts and in costs; None if it is 1."""
+        found = self.amount.shown(1), self.cost.shown(1)
+        return None if found == (1, 1) else found
+
 
 def units_of(scale: Any, groups: Callable[[str], Iterable[tuple[Sequence[Any], Callable[[int], str]]]]) -> Units | None:
     """The scales that an argument names: None, "exact", one for all, or a pair."""

@@ -11,20 +11,23 @@ from typing import Any
 
 from . import texts
 from .answers import PastLimit, Refused
-from .buffers import IDS, NUMBERS, Numbers, in_form_of, number_of, only_array_of, test_same_lengths
-from .given import MAX, MIN, MOST_NODES, Given, Names
+from .arrays import of_values
+from .buffers import IDS, NUMBERS, Numbers, in_form_of, number_of
+from .given import MAX, MIN, MOST_NODES, PAIR_HEADS, PAIR_TAILS, SUMS, Form, Given, Names
 from .instances import Instance, MaxInstance, MinInstance
 from .reading import read
 from .writing import text_of_instance
 
-_PAIRS = ("pair_tails", IDS), ("pair_heads", IDS), ("sums", NUMBERS)
+#: The arguments of pairs, without an instance.
+_PAIRS = Form("", "", PAIR_TAILS, PAIR_HEADS, SUMS)
 
 
 def _spread(call: Any, kind: type[Instance], given: Given, *pairs: Any) -> Any:
     """Spreads the sums of pairs over arcs. A fault of a pair has its two nodes."""
-    instance, base = kind.of(given, None), given.names.base
-    columns = [only_array_of(numbers, items, name).listed(items) for (name, items), numbers in zip(_PAIRS, pairs)]
-    test_same_lengths({name: len(column) for (name, _), column in zip(_PAIRS, columns)})
+    instance, base = kind._of(given, None), given.names.base
+    added = Given(_PAIRS, *pairs)
+    added.words()
+    columns = [added.column(it) for it in _PAIRS.arrays]
     claim = "s 0\n" + "".join(f"f {tail + 1 - base} {head + 1 - base} {it}\n" for tail, head, it in zip(*columns))
     try:
         solution = call(text_of_instance(given), claim.encode("ascii"))
@@ -37,6 +40,7 @@ def _spread(call: Any, kind: type[Instance], given: Given, *pairs: Any) -> Any:
     return in_form_of(pairs[-1], array(NUMBERS.code, read("solution", solution, instance).flows.tolist()))
 
 
+@of_values
 def spread_max_arrays(
     nodes: int, source: int, sink: int, tails: Numbers, heads: Numbers, caps: Numbers, pair_tails: Numbers,
     pair_heads: Numbers, sums: Numbers,
@@ -56,6 +60,7 @@ def spread_max_arrays(
     return _spread(texts.spread_max, MaxInstance, given, pair_tails, pair_heads, sums)
 
 
+@of_values
 def spread_min_arrays(
     nodes: int, tails: Numbers, heads: Numbers, lows: Numbers, caps: Numbers, costs: Numbers, pair_tails: Numbers,
     pair_heads: Numbers, sums: Numbers,

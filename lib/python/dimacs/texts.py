@@ -10,7 +10,7 @@ from typing import Any, Iterator, Union
 from . import library
 from .answers import Certified, Feasible, Infeasible, NotOptimal, Refused, Solved, Verdict
 from .buffers import LIMIT, LIMITS, Buffer, bytes_of, number_of
-from .commands import TEXTS, run
+from .commands import run, test_kind
 from .explained import KINDS, Asked, kept
 
 Text = Union[bytes, str, bytearray, memoryview, "os.PathLike[str]"]
@@ -22,12 +22,13 @@ def bytes_from(call: str, *texts: Text) -> Iterator[list[Buffer]]:
     try:
         yield [bytes_of(it, call.split()[0]) for it in texts]
     except Refused as it:
-        kept(it, _asked(call, it, *texts))
+        if it._asked is None:
+            _asked(call, it, *texts).of_refusal(it)
         if it.text is None or it.line != 1:
             raise
         for text in texts:
             # Each line of a text begins with a letter.
-            if isinstance(text, str) and "\n" not in text and (os.path.isfile(text) or len(text.split(" ")[0]) > 1):
+            if isinstance(text, str) and "\n" not in text and (os.path.isfile(text) or len((text.split() or [""])[0]) > 1):
                 names = "names a file" if os.path.isfile(text) else "is none, but may be a name"
                 raise ValueError(f"{call.split()[0]} takes texts, and {text!r} {names}: pass pathlib.Path({text!r})") from it
         raise
@@ -37,7 +38,7 @@ def _asked(call: str, no: Refused, *texts: Text) -> Asked:
     """What a refusal was asked of, and what it shows."""
     name, _, kind = call.partition(" ")
     if kind:
-        return Asked(f"{'show' if name == 'read' else name} {kind} {KINDS[kind]}", *texts)
+        return Asked(f"{name} {kind} {KINDS[kind]}", *texts)
     for exception, shown in ((NotOptimal, "better"), (Feasible, "flow")):
         found = getattr(no, shown) if isinstance(no, exception) else None
         if found is not None:
@@ -242,8 +243,7 @@ def solve_paths(graph: Text, queries: Text) -> Solved:
 
 
 def _printed(call: str, kind: str, text: Text) -> Any:
-    if kind not in TEXTS:
-        raise ValueError(f"{kind!r} is no kind of text: these are {', '.join(TEXTS)}")
+    test_kind(kind)
     printed, _ = _run(f"{call} {kind}", text)
     return _in_form_of(text, printed)
 

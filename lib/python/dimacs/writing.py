@@ -6,9 +6,10 @@ import ctypes
 from typing import Any, Sequence
 
 from . import library
-from .buffers import IDS, NUMBERS, Buffer, array_of
+from .answers import Certified, Explainable, Infeasible, Solved
+from .buffers import Buffer, bytes_of
 from .given import FLOWS, TAILS, Given
-from .instances import Graph, Instance, Solution, Value
+from .instances import Blocks, Instance, Solution, Value
 
 #: About as many bytes as a line has.
 _LINE = 32
@@ -16,56 +17,80 @@ _LINE = 32
 
 def text_of(name: str, lines: int, numbers: Sequence[int], *arrays: Buffer) -> bytes:
     """The text of numbers of 32 bits and arrays, of about so many lines."""
-    function = library.writer(name, *[ctypes.c_uint32] * len(numbers), arrays=len(arrays))
-    return _text(function, lines, *numbers, *(word for it in arrays for word in it.words()))
+    return _text(name, lines, *numbers, *(word for it in arrays for word in it.words()))
 
 
 def text_of_instance(given: Given) -> bytes:
     """Raises PastLimit, which has its names of arcs and nodes."""
     words = given.words()
     with given.named():
-        return _text(library.writer(given.form.name, ctypes.c_void_p), given.count(TAILS), words[0])
+        return _text(given.form.name, given.count(TAILS), words[0])
 
 
-def _text(function: Any, lines: int, *words: Any) -> bytes:
-    status, (text,) = library.call_for_texts(function, *words, rooms=[library.LINE + _LINE * lines])
+def _text(name: str, lines: int, *words: Any) -> bytes:
+    status, (text,) = library.call_for_texts(library.writers[name], *words, rooms=[library.LINE + _LINE * lines])
     if status == library.REFUSED:
         raise library.refusal(text)
     return text
 
 
-def ends_of(instance: Instance) -> list[Any]:
-    """The number of nodes and the ends of arcs, as calls take them."""
-    words: list[Any] = [ctypes.c_uint32(instance.nodes)]
-    for name, it in ("tails", instance.tails), ("heads", instance.heads):
-        address, length = array_of(it, IDS, name).words()
-        words += [ctypes.c_void_p(address), ctypes.c_size_t(length)]
-    return words
-
-
 def _text_of_solution(value: Solution) -> bytes:
-    function = library.writer("solution", ctypes.c_int64, ctypes.c_uint32, arrays=3)
-    flows = array_of(value.flows, NUMBERS, FLOWS.name).words()
-    given = Given(value.instance.form, *value.instance)
+    given = Given(value.instance._form, *value.instance).add(FLOWS, value.flows)
     given.words()
     with given.named():
-        return _text(function, len(value), value.value, *ends_of(value.instance), *flows)
+        return _text("solution", len(value), value.value, *given.ends(), *given.words()[1:])
 
 
-def write(value: Value) -> bytes:
-    r"""The canonical text of what read returns, which read again is the same. A solution has an entry for each arc.
+def _text_of_blocks(blocks: Blocks) -> bytes:
+    """A problem line, and the lines of each block after its own."""
+    kind = next((it.name for it in blocks.values()), "distances")
+    return f"p {kind} {blocks.nodes} {len(blocks)}\n".encode() + b"".join(
+        write(it).partition(b"\n")[2] for it in blocks.values()
+    )
+
+
+def _text_of_answer(answer: Any) -> bytes:
+    """The text of the certificate of an answer, or of the solution of one that was made."""
+    asked, is_solved = answer._asked, isinstance(answer, Solved)
+    name = "certificate" if not is_solved else "distances" if answer._kind == "paths" else "solution"
+    found = answer.solution if is_solved else answer.certificate
+    if isinstance(found, (str, bytes)):
+        return bytes(bytes_of(found).kept)
+    if asked is None or not hasattr(asked, "written"):
+        raise ValueError("this answer doesn't keep what it was asked of")
+    return bytes(asked.written(name))
+
+
+def _units(instance: Instance) -> bytes:
+    """A comment on what 1 stands for."""
+    if not instance.units:
+        return b""
+    of = {"max": "an amount of {}", "min": "an amount of {}, a cost of {}", "gr": "a distance of {1}"}
+    return f"c 1 is {of[instance.name].format(*instance.units)}\n".encode()
+
+
+def write(value: Value | Blocks | Explainable, /) -> bytes:
+    r"""The canonical text of what read returns, which read again is the same. A solution has an entry for each arc. If an
+    instance has units, a comment says so. Of an answer it is the text of what was asked for: a certificate, or a solution.
 
     Raises PastLimit if a number is past a limit of texts; Refused if the distance of the source isn't 0, or predecessors of
-    labels don't lead back to it; ValueError for labels with a radius.
+    labels don't lead back to it; ValueError for labels with a radius, and for an answer that was pickled since.
 
-    >>> write(Graph(2, [1], [2], [5]))
+    >>> import dimacs
+    >>> write(dimacs.Graph(2, [1], [2], [5]))
     b'p sp 2 1\na 1 2 5\n'
+    >>> write(dimacs.certify_max_arrays(3, 1, 3, [1, 2], [2, 3], [5, 4], [4, 4]))
+    b'p cut 3 2\nu 1\nu 2\n'
     """
     if isinstance(value, Instance):
-        return text_of_instance(Given(value.form, *value))
+        return _units(value) + text_of_instance(Given(value._form, *value))
     if isinstance(value, Solution):
-        return _text_of_solution(value)
+        return _units(value.instance) + _text_of_solution(value)
+    if isinstance(value, Blocks):
+        return _text_of_blocks(value)
+    if isinstance(value, (Certified, Solved, Infeasible)):
+        return _text_of_answer(value)
     if not isinstance(value, Value):
-        raise TypeError(f"write takes what read returns, not {type(value).__name__}")
-    numbers, arrays = value.words()
-    return text_of(value.name, value.lines(), numbers, *arrays)
+        raise TypeError(f"write takes what read returns, or an answer, not {type(value).__name__}")
+    numbers, arrays = value._words()
+    return text_of(value.name, value._lines(), numbers, *arrays)

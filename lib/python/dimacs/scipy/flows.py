@@ -41,11 +41,12 @@ class Network(Names):
     """The entries of a matrix of capacities as arcs, and the source and the sink. Vertices are named by numbers from 0,
     arcs by their two."""
 
-    def __init__(self, csgraph: Any, source: int, sink: int) -> None:
+    def __init__(self, csgraph: Any, source: int, sink: int, scale: Any = None) -> None:
         super().__init__()
+        self._scale = scale
         if not (sparse.issparse(csgraph) and csgraph.format == "csr"):
             raise TypeError("graph must be in CSR format")
-        if csgraph.dtype.kind not in "iu":
+        if csgraph.dtype.kind not in "iu" and scale is None:
             raise ValueError("graph capacities must be integers")
         if csgraph.shape[0] != csgraph.shape[1]:
             raise ValueError("graph must be specified as a square matrix.")
@@ -58,14 +59,14 @@ class Network(Names):
                 raise ValueError(f"{name} value ({vertex}) must be between 0 and {self.vertices - 1}")
         self.form = sparse.csr_array if isinstance(csgraph, sparse.csr_array) else sparse.csr_matrix
         self.tails, self.heads, caps = entries_of(csgraph)
-        self.caps = whole(caps, self.tails, self.heads)
+        self.caps = whole(caps, self.tails, self.heads) if scale is None else caps
         if len(self.caps) and self.caps.min() < 0:
             arc = int(np.argmax(self.caps < 0))
             raise ValueError(f"the capacity from {self.tails[arc]} to {self.heads[arc]} is {self.caps[arc]}")
 
     def given(self) -> Given:
         ends = self.source + 1, self.sink + 1, numbers_of(self.tails), numbers_of(self.heads)
-        return Given(MAX, self.vertices, *ends, self.caps, names=self)
+        return Given(MAX, self.vertices, *ends, self.caps, scale=self._scale, names=self)
 
     def node(self, place: int) -> Any:
         return place
@@ -118,19 +119,25 @@ def certify_maximum_flow(csgraph: Any, source: int, sink: int, flow: Any) -> Cer
     4
     """
     given = Network(csgraph, source, sink)
-    given.tails, given.heads, given.caps, flows = _by_pair(given, getattr(flow, "flow", flow))
+    given.tails, given.heads, given.caps, flows = _by_pair(given, flow)
     found = calls.certify(given.given().add(FLOWS, flows), flows)
     return calls.of_value(found, getattr(flow, "flow_value", found.value), "flow_value")
 
 
-def _by_pair(given: Network, flow: Any) -> tuple[Any, Any, Any, Any]:
-    """Each pair of vertices from one of which to the other there is a capacity or a flow: the two, and the sum of either."""
+def flow_of(flow: Any, vertices: int) -> tuple[Any, Any, Any]:
+    """The entries of the result of maximum_flow, or of its matrix."""
+    flow = getattr(flow, "flow", flow)
     test_mask(flow, "the flow")
     matrix = sparse.coo_matrix(exact(flow))
-    if matrix.shape != (given.vertices, given.vertices):
-        raise ValueError(f"the flow has the shape {matrix.shape}, and the graph has {given.vertices} vertices")
+    if matrix.shape != (vertices, vertices):
+        raise ValueError(f"the flow has the shape {matrix.shape}, and the graph has {vertices} vertices")
     rows, columns, values = entries_of(matrix)
-    amounts = whole(values, rows, columns)
+    return rows, columns, whole(values, rows, columns)
+
+
+def _by_pair(given: Network, flow: Any) -> tuple[Any, Any, Any, Any]:
+    """Each pair of vertices from one of which to the other there is a capacity or a flow: the two, and the sum of either."""
+    rows, columns, amounts = flow_of(flow, given.vertices)
     places = Places(np.append(given.tails, rows), np.append(given.heads, columns), given.vertices)
     none = np.zeros(len(amounts), np.int64), np.zeros(len(given.caps), np.int64)
     caps = places.fitting(np.append(given.caps, none[0]), "the capacity")

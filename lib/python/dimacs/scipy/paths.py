@@ -38,19 +38,20 @@ def _shown(csgraph: Any) -> tuple[Any, Any, Any, Any]:
     return matrix.shape, rows, columns, matrix[rows, columns]
 
 
-def _edges(csgraph: Any, distances_alone: bool) -> tuple[int, Any, Any, Any]:
-    """The number of vertices of a graph, and the ends and weights of its edges. A stored inf is none, as distances have it;
-    if more than those are asked for, the methods of SciPy differ, and ValueError is raised."""
+def _edges(csgraph: Any, unweighted: bool, has_more: bool) -> tuple[int, Any, Any, Any]:
+    """The number of vertices of a graph, and the ends and weights of its edges. A stored inf is none, as distances have it; if
+    more than those are asked for, or edges are counted, the methods of SciPy differ, and ValueError is raised. So they do on
+    a stored nan, which is no weight anyhow."""
     is_sparse = sparse.issparse(csgraph)
     shape, rows, columns, values = (csgraph.shape, *entries_of(csgraph)) if is_sparse else _shown(csgraph)
     if shape[0] != shape[1]:
         raise ValueError("graph should be a square array")
-    kept = values != np.inf
+    kept = (values != np.inf) & ((values == values) | (not unweighted))
     if not kept.all():
         first = int(np.argmin(kept))
-        place = int(rows[first]), int(columns[first])
-        if not distances_alone:
-            raise ValueError(f"the entry at {place} is inf: by some methods of SciPy it is an edge, by others none")
+        if unweighted or has_more:
+            shown = f"the entry at {int(rows[first]), int(columns[first])} is {values[first]}"
+            raise ValueError(f"{shown}: by some methods of SciPy it is an edge, by others none")
         if is_sparse and csgraph.format not in SEVERAL:
             kept = ~Places(rows, columns, shape[1]).share(~kept)
         rows, columns, values = rows[kept], columns[kept], values[kept]
@@ -70,11 +71,16 @@ def _sources(indices: Any, vertices: int) -> Any:
     return found
 
 
-def arcs_of(csgraph: Any, directed: bool, unweighted: bool, has_more: bool = False) -> tuple[int, Any, Any, Any]:
-    """The number of vertices, and the arcs: an edge of a graph that isn't directed is two. More than distances may be given."""
-    vertices, tails, heads, weights = _edges(csgraph, not (unweighted or has_more))
+def arcs_of(
+    csgraph: Any, directed: bool, unweighted: bool, has_more: bool = False, scale: Any = None
+) -> tuple[int, Any, Any, Any]:
+    """The number of vertices, and the arcs: an edge of a graph that isn't directed is two. More than distances may be given.
+    With a scale weights stay as they are."""
+    vertices, tails, heads, weights = _edges(csgraph, unweighted, has_more)
     if unweighted:
         weights = np.ones(len(tails), np.int64)
+    elif scale is not None:
+        pass
     elif sparse.issparse(csgraph):
         tails, heads, weights = edges_of(csgraph, tails, heads, weights)
     else:

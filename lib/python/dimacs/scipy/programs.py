@@ -221,9 +221,7 @@ def certify_linprog(
         return CertifiedProgram(None, None, _unmet(program))
     if result.status != 0:
         raise ValueError(f"the result has the status {result.status}, and no solution")
-    x = _rounded(result.x, allowed)
-    if len(x) != len(program.costs):
-        raise ValueError(f"x has {len(x)} numbers, and c has {len(program.costs)}")
+    x = rounded_of(result, len(program.costs), allowed)
     try:
         cost, potentials = calls.certify(program.given().add(FLOWS, program.flows(x)))
     except NotOptimal as it:
@@ -243,9 +241,12 @@ def _unmet(program: _Program) -> list[Any]:
     return [program.node(row) for row, inside in enumerate(rows) if inside != last]
 
 
-def _rounded(x: Any, allowed: Fraction) -> list[int]:
-    found = []
-    for place, it in enumerate(x):
+def rounded_of(result: Any, variables: int, allowed: Fraction = Fraction(1, 10**6)) -> list[int]:
+    """The whole numbers that the x of a result are near to."""
+    found: list[int] = []
+    if len(result.x) != variables:
+        raise ValueError(f"x has {len(result.x)} numbers, and c has {variables}")
+    for place, it in enumerate(result.x):
         exact = fraction_of(it, partial("x[{}]".format, place))
         near = round(exact)
         if abs(exact - near) > allowed:
