@@ -8,15 +8,17 @@
  * follows snprintf: as much as fits into `room` bytes goes to `out`, without a 0 at its end, and the length of the
  * whole to *needed. If *needed is greater than room, call again with so much room. If room is 0, `out` may be null.
  *
- * If the caller breaks one of these rules, the behaviour of the call is undefined:
- *   - A pointer points to memory of the length beside it. If the length is 0, it may be null. A `needed` is never
- *     null.
+ * These are the premises: if the caller breaks one of them, the behaviour of the call is undefined. The layers for other
+ * languages keep the first four, and leave the rest to their callers.
+ *   - A pointer with a length beside it points to memory of that length, and may be null if that is 0. Lengths of arrays
+ *     and rooms for items count items. The same holds for each array of an instance.
+ *   - A pointer without a length (to an instance, or to a number that is handed out, as `needed`, `nodes` or `radius`)
+ *     points to one item, and is never null.
  *   - A pointer is aligned for its type: to 8 bytes for int64_t, size_t or an instance, to 4 for uint32_t.
- *   - What a call writes (`out`, `needed` and so on) overlaps neither what it reads nor another room.
- *   - The same holds for each array of an instance. Lengths of arrays and rooms for items count items. A pointer to an
- *     instance is never null.
- *   - Calls may run in several threads at once, even over the same texts and arrays, if none writes what another one
- *     reads or writes. Make none in a signal handler, or in the forked child of a process with threads.
+ *   - What a call writes overlaps neither what it reads nor what else it writes: no two of its numbers are one variable.
+ *   - During a call no other thread writes what it reads, or reads or writes what it writes. Otherwise calls may run in
+ *     several threads at once, even over the same texts and arrays.
+ *   - No call is made in a signal handler, or in the forked child of a process with threads.
  *   - The calling thread has 64 KB of stack left.
  */
 #ifndef DIMACS_H
@@ -296,8 +298,9 @@ uint32_t dimacs_solve_paths_arrays(const dimacs_graph *graph, uint32_t source, u
  * of a text at least (of a Min text 12), its line end included: room for (length + 1) / 8 arcs is always enough. No call
  * takes memory for arcs that a text declares and doesn't have.
  *
- * A call that writes hands out the canonical text to `out`, which read again gives the same arrays. If a number in them
- * is past its limit, it returns DIMACS_MISUSED and hands out the line that names it, as the calls above do. */
+ * A call that writes hands out the canonical text to `out`, which read again gives the same arrays, but 1 for each byte
+ * of a set, and for `pairs`, that isn't 0. If a number in them is past its limit, it returns DIMACS_MISUSED and hands out
+ * the line that names it, as the calls above do. */
 
 /* Reads a maximum flow instance: the items of dimacs_max. */
 uint32_t dimacs_read_max(const uint8_t *text, size_t length, uint8_t *out, size_t room, size_t *needed, uint32_t *nodes,

@@ -20,8 +20,8 @@
 //
 // The graphs of LEMON and Boost are judged by dimacs/lemon.hpp and dimacs/boost.hpp.
 //
-// The caller answers for the memory of a span: it exists, and nothing writes it during the call. Nothing here is
-// proved: it is a layer over calls that are. See docs/LIBRARY.md.
+// The caller answers for the memory of a span, which exists during the call, and for the premises of dimacs.h on threads,
+// signals, fork and the stack. Nothing here is proved: it is a layer over calls that are. See docs/LIBRARY.md.
 #ifndef DIMACS_HPP
 #define DIMACS_HPP
 
@@ -126,13 +126,14 @@ struct Graph {
 };
 
 // The same with arrays of their own, as they are read from texts. Calls take them as the instances above, which refer
-// to them.
+// to them: so they have to stand in a variable, and one that is gone at once doesn't convert.
 struct MaxVectors {
     std::uint32_t nodes = 0, source = 0, sink = 0;
     std::vector<std::uint32_t> tails, heads;
     std::vector<std::int64_t> caps;
 
-    operator MaxInstance() const noexcept { return {nodes, source, sink, tails, heads, caps}; }
+    operator MaxInstance() const & noexcept { return {nodes, source, sink, tails, heads, caps}; }
+    operator MaxInstance() const && = delete;
 };
 
 struct MinVectors {
@@ -140,7 +141,8 @@ struct MinVectors {
     std::vector<std::uint32_t> tails, heads;
     std::vector<std::int64_t> lows, caps, costs, supplies;
 
-    operator MinInstance() const noexcept { return {nodes, tails, heads, lows, caps, costs, supplies}; }
+    operator MinInstance() const & noexcept { return {nodes, tails, heads, lows, caps, costs, supplies}; }
+    operator MinInstance() const && = delete;
 };
 
 struct GraphVectors {
@@ -148,7 +150,8 @@ struct GraphVectors {
     std::vector<std::uint32_t> tails, heads;
     std::vector<std::int64_t> weights;
 
-    operator Graph() const noexcept { return {nodes, tails, heads, weights}; }
+    operator Graph() const & noexcept { return {nodes, tails, heads, weights}; }
+    operator Graph() const && = delete;
 };
 
 // The distance of a node that isn't reached. Its predecessor is 0, as that of the source.
@@ -485,7 +488,8 @@ class [[nodiscard]] Answer {
     explicit operator bool() const noexcept { return has_value(); }
 
     // The yes. If it is a no, the behaviour is undefined, as for std::optional.
-    const Yes &operator*() const noexcept { return *std::get_if<0>(&it_); }
+    const Yes &operator*() const & noexcept { return *std::get_if<0>(&it_); }
+    Yes &&operator*() && noexcept { return std::move(*std::get_if<0>(&it_)); }
     const Yes *operator->() const noexcept { return std::get_if<0>(&it_); }
 
     // The yes. Throws BadAnswer with the message of a no.

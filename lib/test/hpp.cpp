@@ -311,6 +311,12 @@ template <class Number>
 static constexpr bool converts =
     std::is_constructible_v<Value, Number> || std::is_convertible_v<Number, Value>;
 
+/* A view of vectors that are gone at once doesn't compile. */
+template <class View, class Vectors, class Answered = decltype(*std::declval<Answer<Vectors, Refused>>())>
+static constexpr bool is_safe = std::is_convertible_v<const Vectors &, View> && !std::is_convertible_v<Vectors, View> &&
+                                !std::is_convertible_v<const Vectors, View> && !std::is_convertible_v<Answered, View>;
+static_assert(is_safe<MaxInstance, MaxVectors> && is_safe<MinInstance, MinVectors> && is_safe<Graph, GraphVectors>);
+
 static void values() {
     static_assert(!converts<double> && !converts<float> && !converts<const char *> && !converts<std::nullptr_t>);
     static_assert(!std::is_invocable_v<std::equal_to<>, Value, double>);

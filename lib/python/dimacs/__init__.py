@@ -1,6 +1,7 @@
 """Claims about flows and distances, judged, certified and made in this process by functions that are proved.
 
-A yes is returned, and a no is raised as Refused. Nothing is written to files or printed, and other threads run meanwhile.
+A yes is returned, and a no is raised as Refused. Nothing is written to files or printed, and other threads run meanwhile:
+the premises of dimacs.h on threads, signals, fork and the stack are the caller's.
 Claims are texts (certify_max, ..), arrays (certify_max_arrays, ..), those of networkx (certify_networkx_max, ..), or in a
 DataFrame of pandas (from_frame); dimacs.scipy has those of SciPy. read makes arrays of texts. proved is whether the library
 that was loaded is proved, and __version__ its version.

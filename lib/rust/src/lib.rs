@@ -18,8 +18,8 @@
 //! ```
 //!
 //! The library is linked statically: `DIMACS_LIB_DIR` names the folder of `libdimacs.a`, or pkg-config finds it. A call
-//! keeps nothing, opens no file and starts no thread; calls may run in several threads at once. A call takes up to 64 KB
-//! of stack. This crate itself isn't proved: it is a layer over calls that are.
+//! keeps nothing, opens no file and starts no thread. Callers answer for the premises of dimacs.h on signals, fork and the
+//! stack alone. This crate itself isn't proved: it is a layer over calls that are.
 
 pub mod arrays;
 mod error;
