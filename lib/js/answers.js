@@ -79,6 +79,11 @@ export class Refused extends Error {
         Object.assign(this, NOWHERE, place, {reason});
     }
 
+    /** The line that the command prints. */
+    get printed() {
+        return `x ${placed(this, this.reason)}`;
+    }
+
     explain() {
         return explanationOf(this);
     }

@@ -14,7 +14,7 @@ function namesOf(command) {
 }
 
 /** Those of single texts, by their kinds; that of the others is `instance`. */
-const SINGLE = {
+export const SINGLE = {
     query: "query",
     solution: "solution",
     distances: "distances",
@@ -47,6 +47,7 @@ function commandOf(command, count, shown, front) {
 export function explanationOf(answer) {
     if (!ASKED.has(answer)) throw new TypeError("this answer doesn't keep what it was asked of");
     const [command, given, shown, said] = ASKED.get(answer);
+    if (typeof command === "function") return command();
     return given instanceof AskedOfArrays ? given.explanation(command, shown, said) : explanation(command, given, shown);
 }
 

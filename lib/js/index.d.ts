@@ -126,18 +126,18 @@ export class Certified<Certificate, Value = bigint> implements Explainable {
     explain(): string;
     readonly value: Value;
     readonly certificate: Certificate;
-    /** The certificate, by the name that fits it. */
-    readonly inside: Certificate;
-    readonly potentials: Certificate;
-    readonly predecessors: Certificate;
+    /** The certificate, by the name that fits it. Like the names below it is a getter, which a spread leaves out. */
+    get inside(): Certificate;
+    get potentials(): Certificate;
+    get predecessors(): Certificate;
 }
 
 /** An answer, which was judged before it was returned. */
 export class Solved<Solution, Certificate, Value = bigint> extends Certified<Certificate, Value> {
     readonly solution: Solution;
     /** The solution, by the name that fits it. */
-    readonly flows: Solution;
-    readonly distances: Solution;
+    get flows(): Solution;
+    get distances(): Solution;
 }
 
 /**
@@ -147,6 +147,8 @@ export class Solved<Solution, Certificate, Value = bigint> extends Certified<Cer
  */
 export class Refused extends Error implements Explainable {
     explain(): string;
+    /** The line that the command prints. */
+    get printed(): string;
     readonly reason: string;
     readonly text: string | null;
     readonly line: number | null;
@@ -166,7 +168,7 @@ export class NotOptimal<Flow = any> extends Refused {
 /** No flow is feasible, as the certificate shows: the text of a set, or a byte for each node. */
 export class Infeasible<Certificate = any> extends Refused {
     readonly certificate: Certificate;
-    readonly inside: Certificate;
+    get inside(): Certificate;
 }
 
 /** The instance that was claimed to have no feasible flow has one. `flow` is null if its cost is out of range. */
@@ -259,8 +261,8 @@ export function read(kind: "query", text: Text): Typed<Queries>;
 export function read(kind: "solution", text: Text, instance: Arcs): Typed<Solution> & {readonly value: bigint};
 export function read(kind: "cut", text: Text): Typed<Cut>;
 export function read(kind: "pot", text: Text): Typed<Potentials>;
-export function read(kind: "dist", text: Text, source: number): Typed<Required<Labels>>;
-export function read(kind: "distances", text: Text, source: number): Typed<DistancesFrom>;
+export function read(kind: "dist", text: Text, source: number | bigint): Typed<Required<Labels>>;
+export function read(kind: "distances", text: Text, source: number | bigint): Typed<DistancesFrom>;
 
 /**
  * The canonical text of arrays, which read again gives the same. A solution has an entry for each arc. Throws PastLimit if

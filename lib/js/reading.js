@@ -1,11 +1,11 @@
 // Texts as arrays, and back.
 import {linesOf, throwRefused, throwUndecided} from "./answers.js";
 import {bytesOf, inFormOf} from "./bytes.js";
+import {SINGLE, explanation, kept} from "./explained.js";
 import {ARRAYS, FORMS, Given} from "./given.js";
-import {DONE, LINE, One, REFUSED, Room, testKind} from "./library.js";
+import {DONE, LINE, One, Room, testKind} from "./library.js";
 import {library} from "./loaded.js";
 import {IDS, NUMBERS, UNREACHED} from "./numbers.js";
-import {show} from "./texts.js";
 
 /** The call for each kind of text, and what it hands out: numbers, arrays of the same length, and others. */
 const KINDS = {
@@ -63,7 +63,7 @@ function around(kind, beside) {
         const {words, say} = new Arcs(beside);
         return {before: words, after: [], say};
     }
-    return {before: [], after: beside === undefined ? [] : [IDS.one(beside, "source")]};
+    return {before: [], after: beside === undefined ? [] : [beside]};
 }
 
 /** The value of what was handed out. */
@@ -75,18 +75,53 @@ function madeOf(kind, found, beside) {
     return {source: beside, ...arrays, radius: radius === UNREACHED ? null : radius};
 }
 
+/** Makes a call, and keeps what it throws with what explains it. */
+function explaining(kind, text, of, call) {
+    try {
+        call();
+    } catch (no) {
+        throw kept(no, () => explained(no, kind, text, of));
+    }
+}
+
+/** The lines of a text's fault, or of what arrays alone refuse. */
+function explained({printed, reason, line, node}, kind, text, of) {
+    const lines = explanation(`show ${kind}`, [text]), source = kind.startsWith("dist") ? of : null;
+    if (lines.startsWith(`${printed}\n`)) return lines;
+    if (kind === "solution" && reason !== "NumberRange") return ofEntry(of, text);
+    const name = SINGLE[kind] ?? "instance", records = inFormOf("", bytesOf(text)).split("\n").map((it) => it.trim());
+    const sources = records.filter((it) => it.startsWith("t ")).map((it) => it.split(/\s+/)[1]);
+    if (reason === "BlockMissing") {
+        const listed = [...sources.slice(0, 8), ...(sources.length > 8 ? [".."] : [])].join(", ");
+        return `${printed}\n${name} has no block from source ${source}; its blocks are from ${listed}; ${sources.length} in all\n`;
+    }
+    const begin = source === null ? 0 : records.findIndex((it) => new RegExp(`^t\\s+\\+?0*${source}\\s`).test(it));
+    const found = line ? line - 1 : records.findIndex((it, i) => i >= begin && new RegExp(`^[tyd]\\s+\\+?0*${node}\\s`).test(it));
+    const wide = source === null ? "numbers of 64 bits" : "distances below 2^63 - 1";
+    return `${printed}\n${name}:${found + 1}: ${records[found]}\narrays have ${wide}\n`;
+}
+
+/** What the certifier says of an entry that belongs to no arc, over arcs that carry nothing. */
+function ofEntry(instance, text) {
+    const {arcs, nodes} = new Arcs(instance).counts, none = new BigInt64Array(arcs);
+    const [kind, arrays] = Object.hasOwn(instance, "sink")
+        ? ["max", {caps: none}]
+        : ["min", {lows: none, caps: none, costs: none, supplies: new BigInt64Array(nodes)}];
+    return explanation(`certify-${kind}`, [write(kind, {...instance, ...arrays}), text]);
+}
+
 /** A text as arrays. */
 export function read(kind, text, beside) {
     testKind(kind);
     testBeside(kind, beside);
     const form = KINDS[kind], {name, numbers, same, others} = form;
-    const {before, after, say} = around(kind, beside), bytes = bytesOf(text);
+    const of = beside === undefined || kind === "solution" ? beside : IDS.one(beside, "source");
+    const {before, after, say} = around(kind, of), bytes = bytesOf(text);
     const words = [...before, bytes, ...after], rooms = roomsFor(form, bytes.length);
     const {status, handed: [line, ...found]} = library.call(`dimacs_read_${name}`, words, rooms);
     throwUndecided(status, linesOf(line), {say});
-    if (status === REFUSED) show(kind, text); // throws the same if the fault is in the text alone, and can explain it
-    throwRefused(status, linesOf(line));
-    return madeOf(kind, Object.fromEntries([...numbers, ...same, ...others].map((it, i) => [it, found[i]])), beside);
+    explaining(kind, text, of, () => throwRefused(status, linesOf(line)));
+    return madeOf(kind, Object.fromEntries([...numbers, ...same, ...others].map((it, i) => [it, found[i]])), of);
 }
 
 /** What the call takes that writes what isn't about arcs: numbers, then arrays, all of one length. */

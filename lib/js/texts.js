@@ -2,7 +2,7 @@
 import {Certified, Feasible, Infeasible, NotOptimal, Refused, Solved} from "./answers.js";
 import {linesOf, throwRefused, throwUndecided, verdict} from "./answers.js";
 import {bytesOf, inFormOf} from "./bytes.js";
-import {kept} from "./explained.js";
+import {explanation, kept} from "./explained.js";
 import {DONE, LIMIT, testKind} from "./library.js";
 import {texts} from "./loaded.js";
 import {limitOf} from "./numbers.js";
@@ -28,7 +28,13 @@ function asked(command, read, call) {
 function keepRefused(no, command, read) {
     if (no instanceof Infeasible) return kept(no, command, [read[0], "", no.certificate], "certificate");
     const shown = no instanceof NotOptimal ? "better" : no instanceof Feasible ? "flow" : null;
-    return kept(no, command, shown && no[shown] !== null ? [...read, no[shown]] : read, shown ?? "certificate");
+    const given = shown && no[shown] !== null ? [...read, no[shown]] : read;
+    return kept(no, () => unchanged(no, explanation(command, given, shown ?? "certificate")));
+}
+
+/** The lines that explain a refusal, if it is still that of its texts. */
+export function unchanged({printed}, lines) {
+    return lines.startsWith(`${printed}\n`) ? lines : `${printed}\nthe texts hold something else now: the refusal isn't theirs\n`;
 }
 
 function judge(kind, ...given) {

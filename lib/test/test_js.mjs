@@ -1,6 +1,7 @@
 // Tests the package for JavaScript: node test_js.mjs, with DIMACS_WASM naming the module. The last line counts what
 // passed and what failed.
 import assert from "node:assert/strict";
+import {readFileSync} from "node:fs";
 import * as dimacs from "../js/index.js";
 import {Library, Texts} from "../js/library.js";
 import {countedAll, finished} from "./cases.mjs";
@@ -72,83 +73,123 @@ const SOME_PLACE = [0x42, 16], NO_PLACE = [0x42, 0];
 const TRAPS_FIRST = [0x23, 0, 0x41, 1, 0x24, 0, 0x04, 0x7f, 0x41, 1, 0x05, 0x00, 0x0b];
 const NO_MEMORY = [0x41, 4];
 
+// ---- the rows of tests/rows/calls, which names the answers by hand
+
+const table = (name) => readFileSync(new URL(`../../tests/rows/${name}`, import.meta.url), "ascii").split("\n")
+    .filter((line) => line && !line.startsWith("# ")).map((line) => line.split(/ \|(?: |$)/));
+const textOf = (cell) => cell.replaceAll(";", "\n").replaceAll("\\r", "\r").replaceAll("\\t", "\t");
+const NAMES = Object.fromEntries([...table("files"), ...table("calls").filter(([it]) => it === "=").map(([, ...it]) => it)]);
+const ROWS = table("calls").filter(([it]) => it !== "=");
+const FIELDS = {
+    6: ["nodes", "source", "sink", "tails", "heads", "caps"],
+    7: ["nodes", "tails", "heads", "lows", "caps", "costs", "supplies"],
+    4: ["nodes", "tails", "heads", "weights"],
+};
+const numbers = (text) => text.split(" ").filter((it) => it).map(BigInt);
+
+/** An instance in arrays, by a line for each field. */
+function instanceOf(text) {
+    const lines = text.split("\n"), names = FIELDS[lines.length], singles = names.indexOf("tails");
+    return Object.fromEntries(names.map((name, i) => [name, i < singles ? Number(lines[i]) : numbers(lines[i])]));
+}
+
+/** The arguments of a row as its call takes them. */
+function argumentsOf(call, cell) {
+    const [first, ...more] = cell.split(", ").map((it, i) => (i === 0 && /^(read|convert|show)$/.test(call) ? it : textOf(NAMES[it] ?? it)));
+    if (call === "read") return [first, more[0], ...more.slice(1).map((it) => (it.includes("\n") ? instanceOf(it) : Number(it)))];
+    if (!call.endsWith("_arrays")) return [first, ...more.map((it) => (/^\d+$/.test(it) ? Number(it) : it))];
+    const singles = call.includes("_paths") || call.startsWith("solve") ? 1 : 0;
+    return [instanceOf(first), ...more.map((it, i) => (i < singles ? Number(it) : numbers(it)))];
+}
+
+/** What a call hands out, as a row has it. */
+function shown(it) {
+    if (typeof it === "string") return it;
+    if (typeof it?.[Symbol.iterator] === "function") return Array.from(it, Number.isInteger(it[0]) ? String : (item) => `${item}`).join(" ");
+    if (!("target" in Object(it))) return `${it}`;
+    const {source, target, distance} = it;
+    return `${source} ${target} ${distance === null ? "unreachable" : distance.radius === undefined ? distance : `more ${distance.radius}`}`;
+}
+
+/** The parts of what a call answers. What it hands out is judged, and a flow of a refusal certified. */
+function answerOf(name, given) {
+    const call = name.replace(/_(.)/g, (_, it) => it.toUpperCase());
+    try {
+        const answer = dimacs[call](...given);
+        if (typeof answer === "string") return [answer];
+        if (answer instanceof dimacs.Verdict) return answer.value === null ? (answer.pairs.length ? answer.pairs : ["yes"]).map(shown) : [shown(answer.value)];
+        if (!(answer instanceof dimacs.Certified)) {
+            const {source, radius, ...parts} = answer;
+            return Object.values(name === "read" && "caps" in answer ? answer : parts).filter((it) => it !== null).map(shown);
+        }
+        const {value, solution, certificate} = answer, pairs = call === "solvePaths" ? solution : null;
+        const handed = [...(solution === undefined || pairs ? [] : [solution]), certificate];
+        if (call !== "certifyPaths") dimacs[call.replace(/^[a-z]+/, "judge")](...given, ...handed);
+        return [...(value === null ? [] : [value]), ...(pairs ?? []), ...handed].map(shown);
+    } catch (no) {
+        if (no instanceof dimacs.NotOptimal) return feasible(call, [...given.slice(0, -1), no.better], `better ${no.printed}`);
+        if (no instanceof dimacs.Feasible) return feasible(call.replace("Infeasible", "Min"), [...given, no.flow], `feasible ${no.printed}`);
+        if (no instanceof dimacs.Infeasible) return [`infeasible ${shown(no.inside)}`];
+        if (no instanceof dimacs.Refused) return [no.printed];
+        if (no instanceof dimacs.PastLimit) return [`past x ${no.message.split(":")[0]}`];
+        if (no instanceof dimacs.GaveUp) return ["gave up"];
+        if (no instanceof RangeError) return [no.message];
+        throw no;
+    }
+}
+
+function feasible(call, given, answer) {
+    try {
+        dimacs[call](...given);
+    } catch (no) {
+        assert.ok(no instanceof dimacs.NotOptimal, no.message);
+    }
+    return [answer];
+}
+
+function answers(call, cell, wanted) {
+    const given = argumentsOf(call, cell), found = answerOf(call, given), parts = textOf(wanted).split(" & ");
+    assert.deepEqual(found.map((it, i) => (parts[i] === "any" ? "any" : it)), parts);
+    if (call !== "read" || wanted.startsWith("x ")) return;
+    const value = dimacs.read(...given), [kind, , of] = given;
+    if (!value.radius) assert.deepEqual(dimacs.read(kind, dimacs.write(kind, value, ...(kind === "solution" ? [of] : [])), ...given.slice(2)), value);
+}
+
 const CASES = {
-    "judges over texts": () => {
-        assert.deepEqual({...dimacs.judgeMax(MAX, FLOW, CUT)}, {kind: "max", value: 6n, pairs: []});
-        assert.equal(dimacs.judgeMin(MIN, LEAST, POT).value, 14n);
-        assert.equal(dimacs.judgeInfeasible(SHORT, "p cut 2 1\nu 1\n").kind, "infeasible");
-    },
-    "answers to pairs": () => {
-        const {kind, pairs} = dimacs.judgePaths(GRAPH, PAIRS, "p dist 4 1\nt 1 2\nd 2 5 1\nd 3 9 2\n");
-        assert.deepEqual([kind, pairs.map((it) => it.distance)], ["pairs", [9n, null]]);
+    // What a call answers is in tests/rows/calls.
+    ...Object.fromEntries(ROWS.map(([call, given, wanted]) => [`${call} ${given}`, () => answers(call, given, wanted)])),
+    "answers have the form of what was given": () => {
         const near = dimacs.judgePaths(GRAPH, "p aux sp p2p 1\nq 1 3\n", NEAR).pairs;
         assert.deepEqual(near, [{source: 1, target: 3, distance: Object.assign(new dimacs.Beyond(7n))}]);
-    },
-    "a certificate is accepted, and has the form of the instance": () => {
-        const {value, certificate} = dimacs.certifyMax(MAX, FLOW);
-        assert.deepEqual([value, dimacs.judgeMax(MAX, FLOW, certificate).value], [6n, 6n]);
-        assert.ok(dimacs.certifyMax(bytes(MAX), FLOW).certificate instanceof Uint8Array);
-        assert.equal(dimacs.judgeMin(MIN, LEAST, dimacs.certifyMin(MIN, LEAST).potentials).value, 14n);
-        assert.equal(dimacs.certifyPaths(GRAPH, "p distances 4 1\nt 1 2\nd 2 5\nd 3 9\n").value, null);
-    },
-    "a better flow is handed out in the form of the claim": () => {
-        const place = {text: "solution", line: 1, field: 2};
-        const no = throws(() => dimacs.certifyMax(MAX, SMALLER), dimacs.NotOptimal, place);
-        assert.equal(dimacs.certifyMax(MAX, no.better).value > 2n, true);
+        for (const answer of [dimacs.certifyMax(bytes(MAX), FLOW), dimacs.solveMin(bytes(MIN))]) {
+            assert.ok(answer.certificate instanceof Uint8Array);
+        }
         assert.ok(thrown(() => dimacs.certifyMax(MAX, bytes(SMALLER))).better instanceof Uint8Array);
-        throws(() => dimacs.certifyMin(MIN, DEARER), dimacs.NotOptimal, {reason: "NotLeast"});
-    },
-    "no flow is feasible, and one is": () => {
-        const {certificate} = dimacs.certifyInfeasible(SHORT);
-        assert.equal(dimacs.judgeInfeasible(SHORT, certificate).kind, "infeasible");
-        const set = throws(() => dimacs.solveMin(SHORT), dimacs.Infeasible).inside;
-        assert.equal(dimacs.judgeInfeasible(SHORT, set).kind, "infeasible");
-        const {flow} = throws(() => dimacs.certifyInfeasible(MIN), dimacs.Feasible);
-        assert.match(dimacs.show("solution", flow), /^i solution /);
-    },
-    "a refusal names its place": () => {
-        const balance = {reason: "Balance", node: 2, text: null, arc: null};
+        throws(() => dimacs.certifyMax(MAX, SMALLER), dimacs.NotOptimal, {text: "solution", line: 1, field: 2});
+        const balance = {reason: "Balance", node: 2, text: null, arc: null, message: "node 2 Balance"};
         throws(() => dimacs.judgeMax(MAX, "s 4\nf 1 2 4\n", CUT), dimacs.Refused, balance);
-        const above = {reason: "AboveCap", arc: 1, message: "arc 1 AboveCap"};
-        throws(() => dimacs.judgeMax(MAX, "s 6\nf 1 2 9\n", CUT), dimacs.Refused, above);
-        const fault = {line: 2, field: 4, reason: "BadNumber"};
-        throws(() => dimacs.convert("gr", "p sp 1 1\na 1 1 1.0\n"), dimacs.Refused, fault);
         throws(() => dimacs.convert("cut", "p cut 1 1\nu \u00e9\n"), dimacs.Refused, {line: 2});
-    },
-    "solvers over texts": () => {
-        const most = dimacs.solveMax(MAX), least = dimacs.solveMin(bytes(MIN)), paths = dimacs.solvePaths(GRAPH, PAIRS);
-        assert.equal(dimacs.judgeMax(MAX, most.solution, most.certificate).value, 6n);
-        assert.deepEqual([least.value, least.solution instanceof Uint8Array], [14n, true]);
-        assert.deepEqual([paths.solution[0].distance, paths.solution[1].distance, paths.value], [9n, null, null]);
-        throws(() => dimacs.solveMax(MAX, 0), dimacs.GaveUp);
         throws(() => dimacs.solveMax(MAX, -1), RangeError);
-    },
-    "spread, convert and show": () => {
-        const parallel = "p max 2 2\nn 1 s\nn 2 t\na 1 2 3\na 1 2 4\n";
-        assert.equal(dimacs.certifyMax(parallel, dimacs.spreadMax(parallel, "s 7\nf 1 2 7\n")).value, 7n);
-        assert.equal(dimacs.convert("cut", "c \np  cut 4 1\r\nu +1\n"), CUT);
-        assert.equal(dimacs.show("max", MAX), "i max 4 5 1 4\n");
         throws(() => dimacs.show("graph", MAX), RangeError);
         throws(() => dimacs.show("max", 7), TypeError);
+        const typed = [big(0, 5, 9, dimacs.UNREACHED), Uint32Array.of(0, 1, 2, 0)];
+        assert.equal(dimacs.judgePathsArrays(IN_GRAPH, 1, ...typed).kind, "sp");
+        assert.equal(dimacs.judgePathsArrays(IN_GRAPH, 1, [0, 5, 9, Infinity], [0, 1, 2, 0]).value, 1n);
+        assert.deepEqual(dimacs.certifyMaxArrays(IN_MAX, [4n, 2n, 1n, 3n, 3n]).inside, Uint8Array.of(1, 0, 0, 0));
+        const {better} = throws(() => dimacs.certifyMaxArrays(IN_MAX, [0, 2, 0, 0, 2]), dimacs.NotOptimal);
+        assert.ok(better instanceof BigInt64Array && better.length === 5);
     },
     "texts are read into arrays, and written": () => {
         const typed = {tails: Uint32Array.from(IN_MAX.tails), heads: Uint32Array.from(IN_MAX.heads)};
-        const minimal = {...typed, lows: big(0, 0, 0, 0, 0), caps: big(4, 2, 2, 3, 5), costs: big(2, 2, 1, 3, 1)};
-        const graph = {tails: Uint32Array.of(1, 2, 3), heads: Uint32Array.of(2, 3, 2), weights: big(5, 4, 0)};
         const far = `p pot 300 1\ny 300 ${-(2n ** 63n)}\n`, potentials = new BigInt64Array(300);
         potentials[299] = -(2n ** 63n);
         for (const [kind, text, value, ...over] of [
             ["max", MAX, {nodes: 4, source: 1, sink: 4, ...typed, caps: big(4, 2, 2, 3, 5)}],
-            ["min", MIN, {nodes: 4, ...minimal, supplies: big(4, 0, 0, -4)}],
-            ["gr", GRAPH, {nodes: 4, ...graph}],
             ["solution", FLOW, {value: 6n, flows: big(4, 2, 1, 3, 3)}, IN_MAX],
-            ["cut", CUT, {inside: Uint8Array.of(1, 0, 0, 0)}],
-            ["pot", POT, {potentials: big(4, 2, 1, 0)}],
             ["pot", far, {potentials}],
-            ["query", PAIRS, {froms: Uint32Array.of(1, 1), tos: Uint32Array.of(3, 4)}],
             ["query", "p aux sp ss 9\n" + "s 1\n".repeat(9), {froms: new Uint32Array(9).fill(1), tos: null}],
-            ["distances", "p distances 4 1\nt 2 1\nd 3 4\n", {source: 2, distances: big(NONE, 0, 4, NONE)}, 2],
-            ["dist", "p dist 3 1\nt 1 2\nd 3 5 1\nd 2 5 3\n", {source: 1, ...LABELS, radius: null}, 1],
+            ["distances", "p distances 4 1\nt 2 1\nd 3 4\n", {source: 2, distances: big(NONE, 0, 4, NONE)}, 2n],
+            ["dist", "p dist 3 1\nt 1 2\nd 3 5 1\nd 2 5 3\n", {source: 1, ...LABELS, radius: null}, true],
         ]) {
             for (const it of [text, bytes(text)]) assert.deepEqual(dimacs.read(kind, it, ...over), value, kind);
             assert.equal(dimacs.write(kind, value, ...(kind === "solution" ? over : [])), text, kind);
@@ -160,9 +201,18 @@ const CASES = {
         assert.deepEqual(dimacs.certifyMaxArrays(instance, flows).inside, dimacs.read("cut", CUT).inside);
     },
     "texts that aren't read, and arrays that aren't written": () => {
-        const unknown = throws(() => dimacs.read("solution", "s 4\nf 4 1 2\n", IN_MAX), dimacs.Refused, {line: 2});
-        assert.throws(() => unknown.explain(), /doesn't keep/);
-        throws(() => dimacs.read("pot", "p pot 1 1\ny 1 9223372036854775808\n"), dimacs.Refused, {node: 1});
+        const wide = "9223372036854775808";
+        for (const [said, ...given] of [
+            ["x solution 2 0 UnknownArc\nsolution:2: f 4 1 2\ninstance has no arc from 4 to 1\n", "solution", "s 4\nf 4 1 2\n", IN_MAX],
+            ["x solution 2 0 UnknownArc\nsolution:2: f 3 1 2\n", "solution", "s 4\nf 3 1 2\n", IN_GRAPH],
+            [`x solution 1 2 NumberRange\nsolution:1: s ${wide}\narrays have numbers of 64 bits\n`, "solution", `s ${wide}\n`, IN_MAX],
+            [`x node 1 NumberRange\ncertificate:2: y 1 ${wide}\narrays have numbers of 64 bits\n`, "pot", `p pot 1 1\ny 1 ${wide}\n`],
+            ["x node 2 BlockMissing\ncertificate has no block from source 2; its blocks are from 1; 1 in all\n", "dist", NEAR, 2],
+            [`x node 2 NumberRange\ndistances:4: d 2 ${wide}\narrays have distances below 2^63 - 1\n`, "distances", `p distances 2 2\nt 2 0\nt 1 1\nd 2 ${wide}\n`, 1],
+        ]) assert.equal(thrown(() => dimacs.read(...given)).explain().slice(0, said.length), said);
+        const changing = bytes("s 9\nf 1 2 9\n"), no = thrown(() => dimacs.certifyMax(MAX, changing));
+        changing.set(bytes("s 0\nf 1 2 0\n"));
+        assert.equal(no.explain(), "x arc 1 AboveCap\nthe texts hold something else now: the refusal isn't theirs\n");
         const fault = thrown(() => dimacs.read("max", MAX.replace("4\n", "x\n")));
         assert.equal(fault.explain(), thrown(() => dimacs.show("max", MAX.replace("4\n", "x\n"))).explain());
         throws(() => dimacs.read("gr", "p sp 2 268435456\n"), dimacs.Refused, {reason: "TooFew"});
@@ -187,38 +237,6 @@ const CASES = {
         ]) {
             assert.match(throws(call, type).message, message);
         }
-    },
-    "judges over arrays": () => {
-        const flows = [4, 2, 1, 3, 3];
-        assert.equal(dimacs.judgeMaxArrays(IN_MAX, flows, [true, false, false, false]).value, 6n);
-        assert.equal(dimacs.judgeMinArrays(IN_MIN, [2, 2, 2, 0, 4], [4, 2, 1, 0]).value, 14n);
-        assert.equal(dimacs.judgeInfeasibleArrays(IN_SHORT, [1, 0]).kind, "infeasible");
-        assert.equal(dimacs.judgePathsArrays(IN_GRAPH, 1, [0, 5, 9, Infinity], [0, 1, 2, 0]).value, 1n);
-        const typed = [big(0, 5, 9, dimacs.UNREACHED), Uint32Array.of(0, 1, 2, 0)];
-        assert.equal(dimacs.judgePathsArrays(IN_GRAPH, 1, ...typed).kind, "sp");
-    },
-    "certifiers over arrays": () => {
-        const most = dimacs.certifyMaxArrays(IN_MAX, [4n, 2n, 1n, 3n, 3n]);
-        assert.deepEqual([most.value, most.inside], [6n, Uint8Array.of(1, 0, 0, 0)]);
-        const {better} = throws(() => dimacs.certifyMaxArrays(IN_MAX, [0, 2, 0, 0, 2]), dimacs.NotOptimal);
-        assert.ok(better instanceof BigInt64Array && better.length === 5);
-        const least = [2, 2, 2, 0, 4], {potentials} = dimacs.certifyMinArrays(IN_MIN, least);
-        assert.equal(dimacs.judgeMinArrays(IN_MIN, least, potentials).value, 14n);
-        assert.deepEqual(dimacs.certifyInfeasibleArrays(IN_SHORT).inside, Uint8Array.of(1, 0));
-        assert.equal(throws(() => dimacs.certifyInfeasibleArrays(IN_MIN), dimacs.Feasible).flow.length, 5);
-        const {predecessors} = dimacs.certifyPathsArrays(IN_GRAPH, 1, [0, 5, 9, Infinity]);
-        assert.deepEqual(predecessors, Uint32Array.of(0, 1, 2, 0));
-        const loose = {reason: "NoTightArc", node: 3};
-        throws(() => dimacs.certifyPathsArrays(IN_GRAPH, 1, [0, 5, 8, Infinity]), dimacs.Refused, loose);
-    },
-    "solvers over arrays": () => {
-        assert.equal(dimacs.solveMaxArrays(IN_MAX).value, 6n);
-        assert.equal(dimacs.solveMinArrays(IN_MIN, 10n).value, 14n);
-        assert.deepEqual(dimacs.solvePathsArrays(IN_GRAPH, 1).distances, big(0, 5, 9, dimacs.UNREACHED));
-        assert.deepEqual(throws(() => dimacs.solveMinArrays(IN_SHORT), dimacs.Infeasible).inside, Uint8Array.of(1, 0));
-        const negative = {reason: "NegativeWeight", arc: 2};
-        throws(() => dimacs.solvePathsArrays({...IN_GRAPH, weights: [5, -4, 0]}, 1), dimacs.Refused, negative);
-        throws(() => dimacs.solvePathsArrays({...IN_GRAPH, weights: [LARGE, LARGE, 0]}, 1), dimacs.GaveUp);
     },
     "amounts of 64 bits stay whole": () => {
         const wide = {nodes: 2, source: 1, sink: 2, tails: [1, 1], heads: [2, 2], caps: [LARGE, LARGE - 1n]};

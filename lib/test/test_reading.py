@@ -10,10 +10,12 @@ import tempfile
 import time
 import unittest
 from array import array
+from decimal import Decimal
+from fractions import Fraction
 from unittest import mock
 
 import dimacs
-from dimacs import UNREACHED, Cut, Distances, Graph, Labels, MaxInstance, MinInstance, Potentials, Queries, Solution, instances
+from dimacs import UNREACHED, Blocks, Cut, Distances, Graph, Labels, MaxInstance, MinInstance, Potentials, Queries, Solution, instances
 from shared import networkx, numpy, raised
 
 MAX = "c pipes\np max 4 3\nn 4 t\nn 1 s\na 1 2 9223372036854775807\n\na 2 4 +05\na 1 4 0\n"
@@ -22,84 +24,63 @@ GRAPH = "p sp 3 2\na 1 2 -9223372036854775808\na 3 3 9223372036854775807\n"
 LAST = 2**63 - 1
 
 
+FIFTY = [[1] * 50, [2] * 50, [0] * 50]
+OVER = MaxInstance(3, 1, 3, [1, 2, 1, 1], [2, 3, 2, 3], [5, 4, 1, 2])
+
+
 def listed(value):
     return [it.tolist() if hasattr(it, "tolist") else it for it in value]
 
 
 class Rows(unittest.TestCase):
-    """A kind, a text, and the fields, the canonical text or the line that shows the value."""
+    """Rows of tests/rows/calls have what small texts spell."""
 
-    def test_instances(self):
-        fifty = [[1] * 50, [2] * 50, [0] * 50]
-        for kind, text, *fields in [
-            ("max", MAX, 4, 1, 4, [1, 2, 1], [2, 4, 4], [LAST, 5, 0]),
-            ("max", "p max 2 0\nn 1 s\nn 2 t\n", 2, 1, 2, [], [], []),
-            ("min", MIN, 3, [1, 2], [2, 3], [0, 1], [LAST, 5], [-LAST - 1, 7], [4, 0, -4]),
-            ("min", "p min 9 0\nn 9 -2\n", 9, [], [], [], [], [], [0] * 8 + [-2]),
-            # As many arcs as so many bytes can have.
-            ("max", "p max 2 50\nn 1 s\nn 2 t\n" + "a 1 2 0\n" * 50, 2, 1, 2, *fifty),
-            ("min", "p min 2 50\n" + "a 1 2 0 0 0\n" * 50, 2, *fifty, *fifty[2:] * 2, [0, 0]),
-            ("gr", "p sp 2 50\n" + "a 1 2 0\n" * 50, 2, *fifty),
-            ("gr", GRAPH, 3, [1, 3], [2, 3], [-LAST - 1, LAST]),
-            # Longer lines than room is made for at first.
-            ("gr", f"p sp {2**27} 50\n" + f"a {2**27} {2**27} {-LAST - 1}\n" * 50, 2**27, *[[2**27] * 50] * 2, [-LAST - 1] * 50),
+    def test_values(self):
+        """A text, its value, and what shows it. A name begins with the text's kind."""
+        far = 2**63 - 2
+        for text, value, shown, *of in [
+            (MAX, MaxInstance(4, 1, 4, [1, 2, 1], [2, 4, 4], [LAST, 5, 0]), "MaxInstance of 4 nodes and 3 arcs"),
+            ("p max 2 0\nn 1 s\nn 2 t\n", MaxInstance(2, 1, 2, [], [], []), "MaxInstance of 2 nodes and 0 arcs"),
+            (MIN, MinInstance(3, [1, 2], [2, 3], [0, 1], [LAST, 5], [-LAST - 1, 7], [4, 0, -4]), "MinInstance of 3 nodes and 2 arcs"),
+            ("p min 9 0\nn 9 -2\n", MinInstance(9, [], [], [], [], [], [0] * 8 + [-2]), "MinInstance of 9 nodes and 0 arcs"),
+            # As many arcs as so many bytes can have, and longer lines than room is made for at first.
+            ("p max 2 50\nn 1 s\nn 2 t\n" + "a 1 2 0\n" * 50, MaxInstance(2, 1, 2, *FIFTY), "MaxInstance of 2 nodes and 50 arcs"),
+            ("p min 2 50\n" + "a 1 2 0 0 0\n" * 50, MinInstance(2, *FIFTY, *FIFTY[2:] * 2, [0, 0]), "MinInstance of 2 nodes and 50 arcs"),
+            ("p sp 2 50\n" + "a 1 2 0\n" * 50, Graph(2, *FIFTY), "Graph of 2 nodes and 50 arcs"),
+            (f"p sp {2**27} 9\n" + f"a {2**27} {2**27} {-LAST - 1}\n" * 9, Graph(2**27, *[[2**27] * 9] * 2, [-LAST - 1] * 9, range(2**27)), "Graph of 134217728 nodes and 9 arcs"),
+            (f"s {LAST}\nf 1 2 {LAST}\nf 2 3 {-LAST - 1}\n", Solution(LAST, [LAST, -LAST - 1, 0, 0], OVER), f"Solution of the value {LAST} on 4 arcs", OVER),
+            ("f 1 3 -2\nc\nf 1 2 3\ns -7\nf 1 2 1\n", Solution(-7, [3, 0, 1, -2], OVER), "Solution of the value -7 on 4 arcs", OVER),
+            ("p cut 3 2\nu 3\nu 1\n", Cut([1, 0, 255]), "Cut of 3 nodes, of which 2 are inside"),
+            ("p cut 500 1\nu 500\n", Cut([0] * 499 + [1]), "Cut of 500 nodes, of which 1 are inside"),
+            (f"p pot 500 2\ny 500 +05\ny 1 {LAST}\n", Potentials([LAST] + [0] * 498 + [5]), "Potentials of 500 nodes"),
+            (f"p distances 4 2\nt 3 1\nd 1 {far}\nt 1 2\nd 3 7\nd 2 -{far}\n", Distances(1, [0, -far, 7, float("inf")]), "Distances of 4 nodes from 1", 1),
+            ("p distances 500 1\nt 500 0\n", Distances(500, [UNREACHED] * 499 + [0]), "Distances of 500 nodes from 500", 500),
+            ("p dist 3 1\nt 1 2\nd 3 5 1\nd 2 5 3\n", Labels(0, [0, 5, 5], [-1, 2, 0], base=0), "Labels of 3 nodes from 1", 1),
+            ("p aux sp p2p 3\nq 1 2\nq 4 4\nq 1 134217728\n", Queries([0, 3, 0], [1, 3, 2**27 - 1], base=0), "Queries for 3 pairs"),
+            ("p aux sp ss 50\n" + "s 1\n" * 50, Queries([1] * 50), "Queries for 50 sources"),
         ]:
             with self.subTest(text):
-                found, form = dimacs.read(kind, text), {"max": MaxInstance, "min": MinInstance, "gr": Graph}[kind]
-                self.assertEqual((type(found), listed(found), found), (form, fields, form(*fields)))
-                self.assertEqual(len(found), len(found.tails))
-                self.assertEqual(dimacs.write(found), dimacs.convert(kind, text.encode()))
-                for it in text.encode(), bytearray(text, "ascii"), memoryview(text.encode()):
-                    self.assertEqual(dimacs.read(kind, it), found)
+                found = dimacs.read(value.name, text, *of)
+                wide = isinstance(value, Graph) and value.nodes > 2  # whose names would take long to compare
+                self.assertEqual((type(found), listed(found), repr(found)), (type(value), listed(value), shown))
+                self.assertTrue(found and (wide or found == value))
+                for it in text.encode(), bytearray(text, "ascii"), memoryview(text.encode()), dimacs.write(value):
+                    self.assertEqual(listed(dimacs.read(value.name, it, *of)), listed(value))
+                if not of:
+                    self.assertEqual(dimacs.write(found), dimacs.convert(value.name, text.encode()))
+        self.assertEqual(dimacs.write(Solution(0, [0, 0, 0, -2], OVER)), b"s 0\nf 1 2 0\nf 2 3 0\nf 1 2 0\nf 1 3 -2\n")
 
-    def test_solutions(self):
-        instance = MaxInstance(3, 1, 3, [1, 2, 1, 1], [2, 3, 2, 3], [5, 4, 1, 2])
-        for text, value, flows in [
-            ("s 9\nf 1 2 3\nf 2 3 4\nf 1 2 1\n", 9, [3, 4, 1, 0]),
-            ("s -7\n", -7, [0, 0, 0, 0]),
-            (f"s {LAST}\nf 1 2 {LAST}\nf 2 3 {-LAST - 1}\n", LAST, [LAST, -LAST - 1, 0, 0]),
-            ("f 1 3 -2\nc\ns 0\n", 0, [0, 0, 0, -2]),
+    def test_all_blocks(self):
+        for text, blocks in [
+            ("p distances 3 2\nt 3 0\nt 1 1\nd 2 7\n", [Distances(3, [UNREACHED, UNREACHED, 0]), Distances(1, [0, 7, UNREACHED])]),
+            ("p dist 2 1\nt 1 1\nd 2 5 1\n", [Labels(1, [0, 5], [0, 1])]),
+            ("p distances 9 0\n", []),
         ]:
-            found = dimacs.read("solution", text, instance)
-            self.assertEqual((type(found), listed(found), len(found)), (Solution, [value, flows], 4))
-            self.assertEqual(found, Solution(value, flows, instance))
-            self.assertEqual(dimacs.read("solution", dimacs.write(found), instance), found)
-        self.assertEqual(dimacs.write(found), b"s 0\nf 1 2 0\nf 2 3 0\nf 1 2 0\nf 1 3 -2\n")
-
-    def test_by_node(self):
-        for kind, text, value, shown in [
-            ("cut", "p cut 3 2\nu 3\nu 1\n", Cut([1, 0, 1]), "Cut of 3 nodes, of which 2 are inside"),
-            ("cut", "p cut 1 0\n", Cut([0]), "Cut of 1 nodes, of which 0 are inside"),
-            ("cut", "p cut 500 1\nu 500\n", Cut([0] * 499 + [1]), "Cut of 500 nodes, of which 1 are inside"),
-            ("pot", f"p pot 3 2\ny 3 -7\ny 1 {LAST}\n", Potentials([LAST, 0, -7]), "Potentials of 3 nodes"),
-            ("pot", "p pot 500 1\ny 500 +05\n", Potentials([0] * 499 + [5]), "Potentials of 500 nodes"),
-        ]:
-            with self.subTest(text):
-                found = dimacs.read(kind, text)
-                self.assertEqual((type(found), found, repr(found)), (type(value), value, shown))
-                canonical = dimacs.convert(kind, text.encode())
-                self.assertEqual((dimacs.write(found), len(found)), (canonical, int(text.split()[2])))
-        self.assertEqual(Cut([0, 7, 255]), Cut([False, True, True]) if numpy else Cut(b"\0\7\xff"))
-        instance = MaxInstance(3, 1, 3, [1, 2], [2, 3], [5, 4])
-        self.assertEqual(dimacs.judge_max_arrays(*instance, [4, 4], *Cut([1, 1, 0])).value, 4)
-        self.assertEqual(dimacs.write(Cut(dimacs.certify_max_arrays(*instance, [4, 4]).inside)), b"p cut 3 2\nu 1\nu 2\n")
-
-    def test_blocks(self):
-        far = LAST - 1
-        for kind, text, source, *fields, shown in [
-            ("distances", f"p distances 4 2\nt 3 1\nd 1 {far}\nt 1 2\nd 3 7\nd 2 -{far}\n", 1, [0, -far, 7, UNREACHED], "Distances of 4 nodes from 1"),
-            ("distances", "p distances 500 1\nt 500 0\n", 500, [UNREACHED] * 499 + [0], "Distances of 500 nodes from 500"),
-            ("dist", "p dist 3 1\nt 2 1\nd 1 5 2\n", 2, [5, 0, UNREACHED], [2, 0, 0], "Labels of 3 nodes from 2"),
-            ("dist", "p dist 3 1\nt 1 2\nd 3 5 1\nd 2 5 3\n", 1, [0, 5, 5], [0, 3, 1], "Labels of 3 nodes from 1"),
-        ]:
-            with self.subTest(text):
-                found = dimacs.read(kind, text, source)
-                value = (Labels if kind == "dist" else Distances)(source, *fields)
-                self.assertEqual((type(found), found, repr(found)), (type(value), value, shown))
-                self.assertEqual((listed(found), len(found)), ([source, *fields], len(fields[0])))
-                if text.count("t ") == 1:
-                    self.assertEqual(dimacs.write(found), text.encode())
-        self.assertEqual(Distances(1, [0, float("inf")]), Distances(1, [0, UNREACHED]))
+            found = dimacs.read(text.split()[1], text)
+            self.assertEqual((list(found.values()), found.sources), (blocks, tuple(it.source for it in blocks)))
+            self.assertEqual((dimacs.write(found), dimacs.write(Blocks(found.nodes, blocks))), (text.encode(), text.encode()))
+        for blocks in [Distances(1, [0])], [Distances(1, [0, 1])] * 2, [Distances(1, [0, 1]), Labels(2, [0, 0], [0, 0])]:
+            self.assertRaisesRegex(ValueError, "comes beside blocks of 2 nodes", Blocks, 2, blocks)
 
     def test_a_radius(self):
         found = dimacs.read("dist", "p dist 3 2\nt 1 1 6\nd 2 5 1\nt 2 0\n", 1)
@@ -130,18 +111,6 @@ class Rows(unittest.TestCase):
             self.assertIn(said, it.explain())
         it = raised(dimacs.Refused, dimacs.read, "solution", "s 9\nf 4 4 1\nf 1 2 x\n", instance)
         self.assertTrue(it.explain().startswith("x solution 3 4 BadNumber\n"))
-
-    def test_queries(self):
-        for text, fields, shown in [
-            ("p aux sp p2p 3\nq 1 2\nq 4 4\nq 1 134217728\n", [[1, 4, 1], [2, 4, 2**27]], "Queries for 3 pairs"),
-            ("p aux sp ss 2\ns 7\ns 1\n", [[7, 1], None], "Queries for 2 sources"),
-            ("p aux sp ss 50\n" + "s 1\n" * 50, [[1] * 50, None], "Queries for 50 sources"),
-            ("p aux sp p2p 0\n", [[], []], "Queries for 0 pairs"),
-            ("p aux sp ss 0\n", [[], None], "Queries for 0 sources"),
-        ]:
-            found = dimacs.read("query", text)
-            self.assertEqual((type(found), listed(found), len(found)), (Queries, fields, len(fields[0])))
-            self.assertEqual((found, repr(found), dimacs.write(found)), (Queries(*fields), shown, text.encode()))
 
     def test_words(self):
         instance, arc = dimacs.read("gr", GRAPH), ([1], [2])
@@ -184,10 +153,6 @@ class Rows(unittest.TestCase):
 
 
 class Values(unittest.TestCase):
-    def test_one_line(self):
-        self.assertEqual(repr(dimacs.read("min", MIN)), "MinInstance of 3 nodes and 2 arcs")
-        self.assertEqual(repr(Solution(3, [1, 2], dimacs.read("gr", GRAPH))), "Solution of the value 3 on 2 arcs")
-
     def test_nothing_changes_them(self):
         caps = [5, 4]
         found = MaxInstance(3, 1, 3, [1, 2], [2, 3], caps)
@@ -195,20 +160,43 @@ class Values(unittest.TestCase):
         self.assertEqual(found.caps.tolist(), [5, 4])
         with self.assertRaises(AttributeError):
             found.nodes = 4
-        for value in found, dimacs.read("max", MAX):
-            if numpy:
-                with self.assertRaises(ValueError):
-                    value.caps[0] = 7
-            else:
-                self.assertIsInstance(value.caps, array)
-            self.assertEqual(pickle.loads(pickle.dumps(value)), value)
-            self.assertEqual(copy.copy(value), value)
-            self.assertEqual(len({value, copy.deepcopy(value)}), 1)
+        for value in found, dimacs.read("max", MAX), dimacs.read("cut", "p cut 2 1\nu 1\n"), dimacs.read("gr", "p sp 2 0\n"):
+            for it in value, pickle.loads(pickle.dumps(value)), copy.copy(value), copy.deepcopy(value):
+                self.assertEqual((it, len({value, it})), (value, 1))
+                for items in [*it] if numpy else ():
+                    with self.assertRaises(ValueError if hasattr(items, "flags") else AttributeError):
+                        items.flags.writeable = True
 
     def test_what_differs(self):
         one = Graph(2, [1], [2], [3])
-        for other in Graph(3, [1], [2], [3]), Graph(2, [1], [2], [4]), Graph(2, [], [], []), dimacs.read("max", MAX), 3:
+        others = Graph(3, [1], [2], [3]), Graph(2, [1], [2], [4]), Graph(2, [], [], []), dimacs.read("max", MAX), 3
+        others += Graph(2, [1], [2], [3], "ab"), Graph(2, [0], [1], [3], base=0), Graph(2, [1], [2], [3], units=(1, 0.5))
+        for other in others:
             self.assertNotEqual(one, other)
+        self.assertEqual(one, Graph(2, [0], [1], [3], (1, 2), base=0))
+        self.assertNotEqual(Solution(1, [1], one), Solution(1, [1], others[1]))
+        self.assertNotEqual(Labels(1, [0], [0], 6), Labels(1, [0], [0]))
+
+    def test_in_calls(self):
+        """A value stands in place of its fields; that of a solution is tested. Answers are written."""
+        cut, claim = Cut([1, 1, 0]), Solution(6, [4, 4, 0, 2], OVER)
+        yes = dimacs.certify_max_arrays(OVER, claim)
+        self.assertEqual((dimacs.judge_max_arrays(OVER, flows=claim, inside=cut).value, Cut(yes.inside)), (6, cut))
+        it = raised(dimacs.Refused, dimacs.certify_max_arrays, OVER, Solution(7, claim.flows, OVER))
+        self.assertEqual(str(it), "solution 0 0 ValueDiffers: 7 is claimed, it is 6")
+        graph, labels = Graph(2, [1], [2], [5]), Labels(1, [0, 5], [0, 1])
+        self.assertEqual(dimacs.judge_paths_arrays(graph, labels).kind, "sp")
+        found = dimacs.solve_paths_arrays(graph, 1), dimacs.certify_paths_arrays(graph, Distances(1, [0, 5]))
+        texts = b"p distances 2 1\nt 1 1\nd 2 5\n", b"p dist 2 1\nt 1 1\nd 2 5 1\n", b"p cut 3 2\nu 1\nu 2\n"
+        self.assertEqual(tuple(map(dimacs.write, (*found, yes))), texts)
+        self.assertEqual(dimacs.read("solution", dimacs.write(dimacs.solve_max_arrays(OVER)), OVER).value, 6)
+        self.assertEqual(dimacs.write(dimacs.certify_max(dimacs.write(OVER), dimacs.write(claim))), texts[2])
+        self.assertRaises(ValueError, dimacs.write, pickle.loads(pickle.dumps(yes)))
+        for more in {"base": 0}, {"scale": 10}:
+            message = "MaxInstance has whole numbers, and nodes from 1: scale= and base= are for arrays"
+            self.assertRaisesRegex(TypeError, message, dimacs.solve_max_arrays, OVER, **more)
+        for call in lambda: dimacs.certify_max(OVER, "s 6\n"), lambda: dimacs.draw(OVER):
+            self.assertRaisesRegex(TypeError, r"takes texts, not MaxInstance: pass dimacs.write\(..\) of it", call)
 
     def test_without_numpy(self):
         with mock.patch.object(instances, "numpy", lambda: None), mock.patch.object(dimacs.reading, "numpy", lambda: None):
@@ -297,8 +285,13 @@ class Converted(unittest.TestCase):
         self.assertEqual(dict(graph.nodes(data="demand")), {1: -5, 2: 1, 3: 4})
         cost, flow = networkx.network_simplex(graph)
         flows = [flow[u][v][k] + low for k, (u, v, low) in enumerate(zip(*listed(self.least)[1:4]))]
-        self.assertEqual(cost + 7 * 1 + 1 * 2, dimacs.certify_min_arrays(*self.least, flows).value)
-        self.assertEqual(dimacs.solve_min_arrays(*MinInstance.from_networkx(graph)).value, cost)
+        self.assertEqual(self.least.flows_from(flow).tolist(), flows)
+        self.assertEqual(cost + graph.graph["cost"], dimacs.certify_min_arrays(self.least, flows).value)
+        self.assertEqual(dimacs.solve_min_arrays(MinInstance.from_networkx(graph)).value, cost)
+        self.assertRaisesRegex(ValueError, "an entry of .*, which is no arc", self.least.flows_from, {1: {3: {0: 1}}})
+        value, flow = networkx.maximum_flow(self.most.to_networkx(), 2, 3)
+        self.assertEqual(dimacs.certify_max_arrays(self.most, self.most.flows_from(flow)).value, value)
+        self.assertRaisesRegex(ValueError, "5 is no node of the instance", self.most.flows_from, {5: {1: 1}})
 
     @needs("networkx")
     def test_names(self):
@@ -309,7 +302,13 @@ class Converted(unittest.TestCase):
         self.assertEqual(sorted(found.to_networkx().edges(data="capacity")), [("mine", "port", 4), ("port", "town", LAST)])
         self.assertEqual(listed(MinInstance.from_networkx(graph))[-2:], [[2, 1], [3, 0, -3]])
         self.assertEqual(listed(Graph.from_networkx(graph))[-1], [2, 1])
+        other = MinInstance.from_networkx(graph, demand="d", capacity="weight", weight="capacity")
+        self.assertEqual(listed(other)[-3:], [[2, 1], [4, 0], [0, 0, 0]])
         graph["mine"]["port"]["capacity"] = 0.5
+        found = MaxInstance.from_networkx(graph, "mine", "town", scale=(10, 1))
+        self.assertEqual((found.caps.tolist(), found.units), ([5, LAST], (Fraction(1, 10), 1)))
+        self.assertEqual(dimacs.write(found).split(b"\n")[0], b"c 1 is an amount of 1/10")
+        self.assertEqual(MaxInstance.from_networkx(found.to_networkx(), "mine", "town"), found)
         message = r"capacity of edge \('mine', 'port'\) is 0.5, not a whole number: scale= takes multiples of a unit$"
         self.assertRaisesRegex(ValueError, message, MaxInstance.from_networkx, graph, "mine", "town")
 
@@ -320,7 +319,8 @@ class Converted(unittest.TestCase):
 
         matrix = self.most.to_scipy()
         self.assertEqual(matrix.toarray().tolist(), [[0, 0, 9, 0], [8, 0, 1, 0], [0, 0, 0, 0], [0, 0, 0, 0]])
-        self.assertEqual(maximum_flow(matrix.astype("int32"), 1, 2).flow_value, 9)
+        flow = maximum_flow(matrix.astype("int32"), 1, 2)
+        self.assertEqual(dimacs.certify_max_arrays(self.most, self.most.flows_from(flow)).value, flow.flow_value)
         found = MaxInstance.from_scipy(matrix, 1, 2)
         self.assertEqual((list(found.names), dimacs.solve_max_arrays(*found).value), ([0, 1, 2, 3], 9))
         matrix = self.graph.to_scipy()
@@ -328,7 +328,10 @@ class Converted(unittest.TestCase):
         found = Graph.from_scipy(matrix)
         self.assertEqual(listed(found), [4, [1, 2, 4], [2, 3, 4], [3, 0, 7]])
         program = self.least.to_scipy()
-        self.assertEqual(linprog(**program).fun, dimacs.solve_min_arrays(*self.least).value)
+        found = linprog(**program)
+        self.assertEqual(found.fun, dimacs.certify_min_arrays(self.least, self.least.flows_from(found)).value)
+        found = Graph.from_scipy(matrix * 0.25, scale=Decimal("0.25"))
+        self.assertEqual((found.weights.tolist(), found.units), ([3, 0, 7], (Decimal("0.25"), Decimal("0.25"))))
         with self.assertRaisesRegex(ValueError, r"the capacity at \(0, 1\) is \d+, which has more than 64 bits"):
             MaxInstance(2, 1, 2, [1, 1], [2, 2], [LAST, LAST]).to_scipy()
 
@@ -343,6 +346,8 @@ class Converted(unittest.TestCase):
         frame = dimacs.from_frame(self.graph.to_frame(), "source", "target", cost="weight")
         self.assertEqual((listed(frame.graph())[-1], frame.graph().names), ([5, 3, 0, 7], (1, 2, 4, 3)))
         frame = dimacs.from_frame(self.most.to_frame(), "source", "target", capacity="capacity")
+        scaled = dimacs.from_frame(self.most.to_frame(), "source", "target", capacity="capacity", scale=10).max_instance(2, 3)
+        self.assertEqual((scaled.caps.tolist(), scaled.to_frame().attrs), ([50, 30, 10, 90], {"units": (Fraction(1, 10), Fraction(1, 10))}))
         found = frame.max_instance(2, 3)
         self.assertEqual((found.names[found.source - 1], dimacs.solve_max_arrays(*found).value), (2, 9))
         self.assertEqual(found.to_frame()[["source", "target"]].values.tolist(), [[2, 1], [2, 1], [2, 3], [1, 3]])

@@ -13,42 +13,23 @@ from rows import rows  # tests/rows.py
 from shared import Said, raised
 
 FILES = dict(rows("files"))
-MAX, FLOW, CUT, MIN, LEAST, POT, SURPLUS = map(FILES.get, ("max", "flow", "cut", "min", "least", "pot", "unmet"))
-GRAPH, PAIRS, SOURCE, DIST, CLAIMED = map(FILES.get, ("cycle", "pairs", "source", "labels", "near"))
-SLOW = "s 5\nf 1 2 3\nf 1 3 2\nf 2 4 3\nf 3 4 2\n"
+MAX, FLOW, MIN, UNMET, GRAPH, DIST, CLAIMED = map(FILES.get, ("max", "flow", "min", "unmet", "cycle", "labels", "near"))
 DEAR = "s 15\nf 1 2 2\nf 1 3 2\nf 2 3 1\nf 2 4 1\nf 3 4 3\n"
-NEAR = "p dist 4 1\nt 1 0 3\n"
 
 
 class Judges(Said):
-    def test_answers_to_queries(self):
-        pairs, beyond = (dimacs.Pair(1, 2, 5), dimacs.Pair(1, 4, None)), dimacs.Beyond(3)
-        for queries, labels, wanted in [
-            (SOURCE, DIST, dimacs.Verdict("sp", 1)),
-            (PAIRS, DIST, dimacs.Verdict("pairs", None, pairs)),
-            (PAIRS, NEAR, dimacs.Verdict("pairs", None, (dimacs.Pair(1, 2, beyond), dimacs.Pair(1, 4, beyond)))),
-            ("p aux sp p2p 0\n", DIST, dimacs.Verdict("pairs")),
-        ]:
-            found = dimacs.judge_paths(GRAPH, queries, labels)
-            self.assertEqual(found, wanted)
-            self.assertTrue(found)
+    """Their answers are in tests/rows/calls."""
 
-    def test_refusals(self):
-        for call, *words, message in [
-            (dimacs.judge_max, "", FLOW, CUT, "instance 1 0 ProblemMissing"),
-            (dimacs.judge_max, MAX, "s 6\nf 1 2 x\n", CUT, "solution 2 4 BadNumber"),
-            (dimacs.judge_max, MAX, FLOW, "p cut 4 1\nu 5\n", "certificate 2 2 NodeRange"),
-            (dimacs.judge_paths, GRAPH, "p aux sp xx 0\n", DIST, "query 1 4 BadWord"),
-            (dimacs.convert, "gr", "p sp 2 1\na 1 3 5\n", "instance 2 3 NodeRange"),
-            (dimacs.show, "gr", "p sp 2 1\u00b9\n", "instance 1 4 BadNumber"),
-            (dimacs.certify_paths, GRAPH, CLAIMED.replace("d 2 5", "d 2 6"), "arc 1 NotShortest"),
-            (dimacs.certify_paths, GRAPH, CLAIMED.replace("d 2 5", "d 2 4"), "node 2 NoTightArc"),
-            (dimacs.certify_paths, GRAPH, "p distances 4 1\nt 1 1\nd 5 5\n", "distances 3 2 NodeRange"),
-            (dimacs.solve_max, MIN, "instance 1 2 BadWord"),
-            (dimacs.solve_paths, GRAPH, "p aux sp ss 1\ns 5\n", "node 5 QueryNode"),
-            (dimacs.solve_paths, "p sp 4 1\na 1 2 -1\n", PAIRS, "arc 1 NegativeWeight"),
-        ]:
-            self.says(dimacs.Refused, message, call, *words)
+    def test_forms(self):
+        """What is handed out is str if the instance, or the claim, is."""
+        for form in str, lambda text: text.encode():
+            handed = [dimacs.certify_max(form(MAX), FLOW).certificate, dimacs.certify_paths(form(GRAPH), CLAIMED).certificate]
+            handed += raised(dimacs.NotOptimal, dimacs.certify_min, MIN, form(DEAR)).better, dimacs.solve_max(form(MAX)).solution
+            handed += raised(dimacs.Feasible, dimacs.certify_infeasible, form(MIN)).flow, dimacs.convert("max", form(MAX))
+            handed += [raised(dimacs.Infeasible, dimacs.solve_min, form(UNMET)).certificate]
+            self.assertEqual({type(it) for it in handed}, {type(form(""))})
+        self.says(dimacs.Refused, "instance 1 4 BadNumber", dimacs.show, "gr", "p sp 2 1\u00b9\n")
+        self.assertTrue(dimacs.Verdict("pairs"))
 
     def test_pairs_of_many_lines(self):
         pairs = "".join(f"q 1 {k % 4 + 1}\n" for k in range(1000))
@@ -67,35 +48,6 @@ class Judges(Said):
         with mock.patch.object(library, "judge", second_has_no_memory), self.assertRaises(MemoryError):
             dimacs.judge_paths(*words)
         self.assertEqual(len(calls), 2)
-
-
-class Certifies(unittest.TestCase):
-    def test_better(self):
-        for call, judge, instance, claim, reason in [
-            (dimacs.certify_max, dimacs.judge_max, MAX, SLOW, "NotMaximum"),
-            (dimacs.certify_min, dimacs.judge_min, MIN, DEAR, "NotLeast"),
-        ]:
-            it = raised(dimacs.NotOptimal, call, instance, claim)
-            self.assertEqual((it.text, it.line, it.field, it.reason), ("solution", 1, 2, reason))
-            self.assertIsInstance(it.better, str)
-            value, certificate = call(instance, it.better)
-            self.assertEqual(judge(instance, it.better, certificate).value, value)
-            it = raised(dimacs.NotOptimal, call, instance, claim.encode())
-            self.assertIsInstance(it.better, bytes)
-
-    def test_infeasible(self):
-        for instance, form in (SURPLUS, str), (SURPLUS.encode(), bytes):
-            value, shown = dimacs.certify_infeasible(instance)
-            self.assertEqual((value, type(shown)), (None, form))
-            self.assertEqual(dimacs.judge_infeasible(instance, shown), dimacs.Verdict("infeasible"))
-            it = raised(dimacs.Feasible, dimacs.certify_infeasible, MIN if form is str else MIN.encode())
-            self.assertIsInstance(it.flow, form)
-            no = raised(dimacs.Infeasible, dimacs.solve_min, instance)
-            self.assertEqual((no.certificate, str(no)), (shown, "no flow is feasible"))
-
-    def test_paths(self):
-        self.assertEqual(dimacs.certify_paths(GRAPH, CLAIMED), dimacs.Certified(None, DIST))
-        self.assertEqual(dimacs.certify_paths(GRAPH.encode(), CLAIMED), dimacs.Certified(None, DIST.encode()))
 
 
 class Spreads(Said):
@@ -155,11 +107,6 @@ class Spreads(Said):
 
 
 class Solves(unittest.TestCase):
-    def test_bytes_give_bytes(self):
-        solved = dimacs.solve_max(MAX.encode())
-        self.assertIsInstance(solved.solution, bytes)
-        self.assertIsInstance(solved.certificate, bytes)
-
     def test_longer_answers_than_texts(self):
         nodes = 200
         arcs = "".join(f"a {node} {node + 1} 1000000000000\n" for node in range(1, nodes))
@@ -171,23 +118,6 @@ class Solves(unittest.TestCase):
 
 
 class Texts(unittest.TestCase):
-    def test_forms(self):
-        for kind, text, shown in [
-            ("max", MAX, "i max 4 5 1 4\n"),
-            ("min", MIN, "i min 4 5 4 4\n"),
-            ("gr", GRAPH, "i sp 4 3\n"),
-            ("query", PAIRS, "i p2p 2\n"),
-            ("solution", FLOW, "i solution 6 5\n"),
-            ("cut", CUT, "i cut 4 1\n"),
-            ("pot", POT, "i pot 4 3\n"),
-            ("dist", DIST, "i dist 4 1\n"),
-            ("distances", "p distances 4 1\nt 1 1\nd 2 5\n", "i distances 4 1\n"),
-        ]:
-            loose = "c loose\n" + text.replace(" ", " \t").replace("\n", " \r\n")
-            self.assertEqual(dimacs.convert(kind, loose), text)
-            self.assertEqual(dimacs.convert(kind, loose.encode()), text.encode())
-            self.assertEqual(dimacs.show(kind, text), shown)
-
     def test_buffers(self):
         plain = MAX.encode()
         with tempfile.TemporaryFile() as file:

@@ -138,6 +138,7 @@ def _names(given: Any, nodes: int) -> NodeNames:
     return names
 
 
+@dataclass(frozen=True, eq=False, repr=False, init=False)
 class Instance(Value):
     """What MaxInstance, MinInstance and Graph have in common."""
 
@@ -223,14 +224,9 @@ class MaxInstance(Instance):
 
     name = "max"
     _form = MAX
-    nodes: int
     source: int
     sink: int
-    tails: Ids
-    heads: Ids
     caps: Amounts
-    names: NodeNames
-    units: Units
 
     def __init__(
         self, nodes: int, source: int, sink: int, tails: Numbers, heads: Numbers, caps: Numbers,
@@ -312,15 +308,10 @@ class MinInstance(Instance):
 
     name = "min"
     _form = MIN
-    nodes: int
-    tails: Ids
-    heads: Ids
     lows: Amounts
     caps: Amounts
     costs: Amounts
     supplies: Amounts
-    names: NodeNames
-    units: Units
 
     def __init__(
         self, nodes: int, tails: Numbers, heads: Numbers, lows: Numbers, caps: Numbers, costs: Numbers, supplies: Numbers,
@@ -369,7 +360,7 @@ class MinInstance(Instance):
         >>> instance.flows_from({1: {2: {0: 4, 1: 1}}}).tolist()
         [5, 1]
         """
-        if not isinstance(flow, Mapping):
+        if hasattr(flow, "x"):
             from .scipy.programs import rounded_of
 
             return _amounts(rounded_of(flow, len(self)))
@@ -396,12 +387,7 @@ class Graph(Instance):
 
     name = "gr"
     _form = GRAPH
-    nodes: int
-    tails: Ids
-    heads: Ids
     weights: Amounts
-    names: NodeNames
-    units: Units
 
     def __init__(
         self, nodes: int, tails: Numbers, heads: Numbers, weights: Numbers, names: NodeNames = None, units: Units = None,

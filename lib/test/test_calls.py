@@ -1,0 +1,104 @@
+"""The rows of tests/rows/calls: what each call answers."""
+
+import unittest
+
+import dimacs
+from rows import rows  # tests/rows.py
+
+
+def numbers(text):
+    return list(map(int, text.split()))
+
+
+def fields(text):
+    """The arguments of an instance: numbers, then arrays."""
+    lines = [numbers(it) for it in text.split("\n")]
+    ends = {6: 3, 7: 1, 4: 1}[len(lines)]
+    return [number for (number,) in lines[:ends]] + lines[ends:]
+
+
+def instance(text):
+    form = {6: dimacs.MaxInstance, 7: dimacs.MinInstance, 4: dimacs.Graph}
+    return form[len(fields(text))](*fields(text))
+
+
+def words_of(call, arguments):
+    """The arguments, each as the call takes it."""
+    first, *more = arguments
+    if call == "read":
+        return [first, more[0], *(instance(it) if "\n" in it else int(it) for it in more[1:])]
+    if not call.endswith("_arrays"):
+        return [int(it) if it.isdigit() else it for it in arguments]
+    singles = 1 if call.split("_")[1] == "paths" or call.startswith("solve") else 0
+    return [*fields(first), *(int(it) if place < singles else numbers(it) for place, it in enumerate(more))]
+
+
+def shown(it):
+    """What a call hands out, as a row has it."""
+    if isinstance(it, dimacs.Pair):
+        it = it._replace(distance="unreachable" if it.distance is None else it.distance)
+        return " ".join(str(f"more {word.radius}" if isinstance(word, dimacs.Beyond) else word) for word in it)
+    return str(it) if isinstance(it, (str, int)) else " ".join(str(int(number)) for number in it)
+
+
+def handed(answer):
+    """What a yes hands out, without its value and answers to queries; and all of it."""
+    if isinstance(answer, dimacs.Verdict):
+        return [], [answer.value] if answer.value is not None else list(answer.pairs) or ["yes"]
+    if not isinstance(answer, (dimacs.Certified, dimacs.Solved)):
+        found = list(answer)[isinstance(answer, dimacs.Distances) :]
+        return [], [answer] if isinstance(answer, str) else [it for it in found if it is not None]
+    value, *found = answer
+    pairs = list(found.pop(0)) if isinstance(found[0], tuple) else []
+    return found, [*([] if value is None else [value]), *pairs, *found]
+
+
+class Calls(unittest.TestCase):
+    def feasible(self, call, *words):
+        """Certifies a flow that was handed out."""
+        try:
+            getattr(dimacs, call)(*words)
+        except dimacs.NotOptimal:
+            pass
+
+    def answer(self, call, words):
+        """What a call answers, each part as a row has it."""
+        try:
+            found, every = handed(getattr(dimacs, call)(*words))
+            if found and call != "certify_paths":  # whose judge takes queries
+                getattr(dimacs, call.replace("certify", "judge").replace("solve", "judge"))(*words, *found)
+            return list(map(shown, every))
+        except dimacs.NotOptimal as no:
+            self.feasible(call, *words[:-1], no.better)
+            return [f"better {no.printed}"]
+        except dimacs.Feasible as no:
+            self.feasible(call.replace("infeasible", "min"), *words, no.flow)
+            return [f"feasible {no.printed}"]
+        except dimacs.Infeasible as no:
+            return [f"infeasible {shown(no.inside)}"]
+        except (dimacs.Refused, dimacs.PastLimit) as no:
+            return ["past " * isinstance(no, dimacs.PastLimit) + no.printed]
+        except dimacs.GaveUp:
+            return ["gave up"]
+        except ValueError as it:
+            return [str(it)]
+
+    def test_rows(self):
+        names = dict(rows("files")) | {name: it for mark, name, it in rows("calls") if mark == "="}
+        for call, arguments, wanted in rows("calls"):
+            if call == "=":
+                continue
+            given = [names.get(it, it) for it in arguments.split(", ")]
+            given[:1] = arguments.split(", ")[:1] if call in ("read", "convert", "show") else given[:1]
+            with self.subTest(call, given=arguments):
+                found, parts = self.answer(call, words_of(call, given)), wanted.split(" & ")
+                self.assertEqual(["any" if part == "any" else it for it, part in zip(found, parts)], parts)
+                self.assertEqual(len(found), len(parts))
+                if call == "read" and not wanted.startswith("x "):
+                    value = dimacs.read(*words_of(call, given))
+                    if getattr(value, "radius", None) is None:
+                        self.assertEqual(dimacs.read(*([given[0], dimacs.write(value)] + words_of(call, given)[2:])), value)
+
+
+if __name__ == "__main__":  # tests/targets.py runs it through node
+    unittest.main()
