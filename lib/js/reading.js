@@ -87,16 +87,18 @@ function explaining(kind, text, of, call) {
 /** The lines of a text's fault, or of what arrays alone refuse. */
 function explained({printed, reason, line, node}, kind, text, of) {
     const lines = explanation(`show ${kind}`, [text]), source = kind.startsWith("dist") ? of : null;
+    const begins = (it, letters, id) => new RegExp(`^[${letters}]\\s+\\+?0*${id}\\s`).test(it);
     if (lines.startsWith(`${printed}\n`)) return lines;
     if (kind === "solution" && reason !== "NumberRange") return ofEntry(of, text);
     const name = SINGLE[kind] ?? "instance", records = inFormOf("", bytesOf(text)).split("\n").map((it) => it.trim());
     const sources = records.filter((it) => it.startsWith("t ")).map((it) => it.split(/\s+/)[1]);
     if (reason === "BlockMissing") {
         const listed = [...sources.slice(0, 8), ...(sources.length > 8 ? [".."] : [])].join(", ");
-        return `${printed}\n${name} has no block from source ${source}; its blocks are from ${listed}; ${sources.length} in all\n`;
+        const has = `${name} has no block from source ${source}; its blocks are from ${listed}`;
+        return `${printed}\n${has}; ${sources.length} in all\n`;
     }
-    const begin = source === null ? 0 : records.findIndex((it) => new RegExp(`^t\\s+\\+?0*${source}\\s`).test(it));
-    const found = line ? line - 1 : records.findIndex((it, i) => i >= begin && new RegExp(`^[tyd]\\s+\\+?0*${node}\\s`).test(it));
+    const begin = source === null ? 0 : records.findIndex((it) => begins(it, "t", source));
+    const found = line ? line - 1 : records.findIndex((it, i) => i >= begin && begins(it, "tyd", node));
     const wide = source === null ? "numbers of 64 bits" : "distances below 2^63 - 1";
     return `${printed}\n${name}:${found + 1}: ${records[found]}\narrays have ${wide}\n`;
 }

@@ -34,7 +34,8 @@ function keepRefused(no, command, read) {
 
 /** The lines that explain a refusal, if it is still that of its texts. */
 export function unchanged({printed}, lines) {
-    return lines.startsWith(`${printed}\n`) ? lines : `${printed}\nthe texts hold something else now: the refusal isn't theirs\n`;
+    const changed = "the texts hold something else now: the refusal isn't theirs";
+    return lines.startsWith(`${printed}\n`) ? lines : `${printed}\n${changed}\n`;
 }
 
 function judge(kind, ...given) {

@@ -53,6 +53,10 @@ def handed(answer):
     return found, [*([] if value is None else [value]), *pairs, *found]
 
 
+def said(call, no):
+    return f"x {no}".replace(";", ",") if call.endswith("_arrays") else no.printed
+
+
 class Calls(unittest.TestCase):
     def feasible(self, call, *words):
         """Certifies a flow that was handed out."""
@@ -70,14 +74,14 @@ class Calls(unittest.TestCase):
             return list(map(shown, every))
         except dimacs.NotOptimal as no:
             self.feasible(call, *words[:-1], no.better)
-            return [f"better {no.printed}"]
+            return [f"better {said(call, no)}"]
         except dimacs.Feasible as no:
             self.feasible(call.replace("infeasible", "min"), *words, no.flow)
             return [f"feasible {no.printed}"]
         except dimacs.Infeasible as no:
             return [f"infeasible {shown(no.inside)}"]
         except (dimacs.Refused, dimacs.PastLimit) as no:
-            return ["past " * isinstance(no, dimacs.PastLimit) + no.printed]
+            return ["past " * isinstance(no, dimacs.PastLimit) + said(call, no)]
         except dimacs.GaveUp:
             return ["gave up"]
         except ValueError as it:

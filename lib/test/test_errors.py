@@ -43,52 +43,17 @@ class Errors(Said):
 
 class Arrays(Errors):
     def test_refused(self):
-        judge_max, judge_min, judge_paths = dimacs.judge_max_arrays, dimacs.judge_min_arrays, dimacs.judge_paths_arrays
-        certify_max, certify_min, certify_paths = dimacs.certify_max_arrays, dimacs.certify_min_arrays, dimacs.certify_paths_arrays
-        cut, prices, back = [True, True, False], [7, 0], (3, 2, 3, [1, 2, 2], [2, 3, 1], [5, 1, 1])
-        lead = "its predecessors don't lead back to the source"
+        """tests/rows/calls has what is said of most tests."""
         unmet = "certificate 0 0 NotViolated: the set supplies 6, and from 1 to 10 can leave it"
-        self.rows(
-            dimacs.Refused,
-            ("arc 2 AboveCap: it carries 5, its capacity is 4", judge_max, *MAX, [4, 5], cut),
-            ("arc 1 BelowLow: it carries -1, its lower bound is 0", judge_max, *MAX, [-1, 0], cut),
-            ("node 2 Balance: 3 leaves, 4 enters", judge_max, *MAX, [4, 3], cut),
-            ("node 2 Balance: 3 leaves, 4 enters", certify_max, *MAX, [4, 3]),
-            ("node 1 SourceOutside", judge_max, *MAX, [4, 4], [0, 0, 0]),
-            ("node 3 SinkInside", judge_max, *MAX, [4, 4], [1, 1, 1]),
-            ("arc 2 NotSaturated: it leaves the cut and carries 3, its capacity is 4", judge_max, *MAX, [3, 3], cut),
-            ("arc 1 BackFlow: it enters the cut and carries 1", judge_max, *back, [1, 1, 1], [0, 1, 0]),
-            ("arc 1 BelowLow: it carries 0, its lower bound is 1", judge_min, *MIN, [0, 6], prices),
-            ("node 1 Balance: 4 leaves, its supply is 6", judge_min, *MIN, [4, 0], prices),
-            ("node 1 Balance: 4 leaves, its supply is 6", certify_min, *MIN, [4, 0]),
-            ("arc 1 NotTight: its reduced cost is -4, and it carries 4 of 1 to 5", judge_min, *MIN, [4, 2], prices),
-            (unmet, dimacs.judge_infeasible_arrays, *MIN, [1, 0]),
-            ("node 1 NotShortest: the source is at 1", certify_paths, *PATHS, 1, [1, 5, 9]),
-            ("node 1 NotShortest: the source is at 1", judge_paths, *PATHS, 1, [1, 5, 9], [0, 1, 2]),
-            ("arc 2 NotShortest: 5 and its weight 4 are less than 10", certify_paths, *PATHS, 1, [0, 5, 10]),
-            ("arc 2 Escapes: its tail is at 5, its head isn't reached", certify_paths, *PATHS, 1, [0, 5, INF]),
-            ("arc 2 Escapes: its tail is at 5, its head isn't reached", judge_paths, *PATHS, 1, [0, 5, INF], [0, 1, 0]),
-            ("node 3 NoTightArc: no arc gives its distance 8", certify_paths, *PATHS, 1, [0, 5, 8]),
-            ("node 3 NoTightArc: no arc from 1 gives its distance 9", judge_paths, *PATHS, 1, [0, 5, 9], [0, 1, 1]),
-            (f"node 2 PredUnknown: {lead}", judge_paths, *PATHS, 1, [0, 5, 9], [0, 3, 2]),
-            ("arc 1 NegativeWeight: its weight is -1", dimacs.solve_paths_arrays, 2, [1], [2], [-1], 1),
-        )
-
-    def test_cost_out_of_range(self):
+        self.says(dimacs.Refused, unmet, dimacs.judge_infeasible_arrays, *MIN, [1, 0])
         most = 4 * 10**18
-        words = 2, [1], [2], [0], [most], [most], [most, -most], [most]
-        message = f"arc 1 CostRange: the cost up to it is {most * most}"
-        self.says(dimacs.Refused, message, dimacs.certify_min_arrays, *words)
+        message, words = f"arc 1 CostRange: the cost up to it is {most * most}", ([0], [most], [most], [most, -most], [most])
+        self.says(dimacs.Refused, message, dimacs.certify_min_arrays, 2, [1], [2], *words)
 
     def test_not_optimal(self):
-        certify_max, certify_min = dimacs.certify_max_arrays, dimacs.certify_min_arrays
+        certify_max = dimacs.certify_max_arrays
         better = "its value is 1, and that of a better flow 3"
-        self.rows(
-            dimacs.NotOptimal,
-            ("solution 0 0 NotMaximum: its value is 3, and that of a better flow 4", certify_max, *MAX, [3, 3]),
-            ("solution 0 0 NotLeast: it costs 26, and a better flow 22", certify_min, *MIN, [4, 2]),
-            (f"solution 1 2 NotMaximum: {better}", dimacs.certify_max, TEXT, "s 1\nf 1 2 1\n"),
-        )
+        self.says(dimacs.NotOptimal, f"solution 1 2 NotMaximum: {better}", dimacs.certify_max, TEXT, "s 1\nf 1 2 1\n")
         it = raised(dimacs.NotOptimal, certify_max, *MAX, [3, 3])
         self.assertEqual((it.value, it.better_value), (3, 4))
         shown = "NotOptimal('NotMaximum', text='solution', line=0, field=0, numbers={'value': 3, 'better_value': 4}, better=[4, 4])"
@@ -115,12 +80,6 @@ class Arrays(Errors):
             ("source is 1.5, not a whole number", certify, *changed(MAX, 1, 1.5), flows),
             ("distances[1] is -inf, not a whole number", dimacs.certify_paths_arrays, *PATHS, 1, [0, -INF, 0]),
             ("inside[2] is 256, not a whole number of 0 to 255", judge, *MAX, flows, [1, 0, 256]),
-            ("caps has 1 items, and there are 2 arcs", certify, *changed(MAX, 5, [1]), flows),
-            ("flows has 1 items, and there are 2 arcs", judge, *MAX, [1], [1, 1, 0]),
-            ("inside has 2 items, and there are 3 nodes", judge, *MAX, flows, [1, 0]),
-            ("supplies has 2 items, and there are 5 nodes", dimacs.certify_infeasible_arrays, *changed(MIN, 0, 5)),
-            ("distances has 0 items, and there are 3 nodes", dimacs.judge_paths_arrays, *PATHS, 1, [], [0, 1, 2]),
-            ("distances has 4 items, and there are 3 nodes", dimacs.certify_paths_arrays, *PATHS, 1, [0] * 4),
             ("limit is -1, not a whole number of 0 to 18446744073709551615", dimacs.solve_max, TEXT, -1),
             ("limit is -1, not a whole number of 0 to 18446744073709551615", dimacs.solve_max_arrays, *MAX, -1),
             ("base is 2, and has to be 0 or 1", lambda: certify(*MAX, flows, base=2)),
@@ -203,22 +162,12 @@ class Arrays(Errors):
             self.assertEqual(solve(numpy.longdouble(2.5), scale).value, Fraction(5, 2))
 
     def test_past_limit(self):
-        certify, flows, range_3 = dimacs.certify_max_arrays, [4, 4], "nodes are numbered from 1, and there are 3"
-        from_0, bounds = "base=0 numbers them from 0", "BoundOrder: its lower bound is"
+        solve, range_3 = dimacs.solve_max_arrays, "nodes are numbered from 1, and there are 3"
         self.rows(
             dimacs.PastLimit,
-            (f"arc 2 NodeRange: it goes from 2 to 4; {range_3}", certify, *changed(MAX, 4, [2, 4]), flows),
-            (f"arc 1 NodeRange: it goes from 0 to 2; {range_3}; {from_0}", certify, *changed(MAX, 3, [0, 2]), flows),
-            (f"node 0 NodeRange: {range_3}; {from_0}", certify, *changed(MAX, 1, 0), flows),
-            (f"node 4 NodeRange: {range_3}", certify, *changed(MAX, 2, 4), flows),
-            (f"node 4 NodeRange: {range_3}", dimacs.judge_paths_arrays, *PATHS, 4, [0, 5, 9], [0, 1, 2]),
-            ("node 1 NodeTwice: it is the source and the sink", certify, *changed(MAX, 2, 1), flows),
-            (f"arc 2 NodeRange: it goes from 2 to 4; {range_3}", dimacs.solve_max_arrays, *MAX[:4], [2, 4], [5, INF]),
-            (f"arc 2 {bounds} 0, its capacity -1", certify, *changed(MAX, 5, [1, -1]), flows),
-            (f"arc 1 {bounds} 6, its capacity 5", dimacs.solve_min_arrays, *changed(MIN, 3, [6, 0])),
-            (f"arc 1 {bounds} -3, its capacity 5", dimacs.certify_min_arrays, *changed(MIN, 3, [-3, 0]), flows),
-            (f"arc 2 {bounds} 6, its capacity 5", dimacs.certify_infeasible_arrays, *changed(MIN, 3, [0, 6])),
-            ("node 134217729 NumberRange: at most 134217728 nodes", certify, *changed(MAX, 0, 2**32 - 1), flows),
+            (f"arc 1 NodeRange: it goes from 0 to 2; {range_3}; base=0 numbers them from 0", solve, *changed(MAX, 3, [0, 2])),
+            (f"node 0 NodeRange: {range_3}; base=0 numbers them from 0", solve, *changed(MAX, 1, 0)),
+            (f"arc 2 NodeRange: it goes from 2 to 4; {range_3}", solve, *MAX[:4], [2, 4], [5, INF]),
         )
 
     def test_unbounded(self):
@@ -246,15 +195,6 @@ class Arrays(Errors):
             (f"{less} is out of range", dimacs.solve_min, text, 0),
             (apart, dimacs.certify_min_arrays, *wide),
             ("a distance is 2^63 - 1 or more", dimacs.solve_paths_arrays, 3, [1, 2], [2, 3], [2**62] * 2, 1),
-        )
-
-    def test_predecessors(self):
-        judge, far = dimacs.judge_paths_arrays, dimacs.UNREACHED
-        self.rows(
-            dimacs.Refused,
-            ("node 3 NodeRange: it isn't reached, and its predecessor is 2", judge, *PATHS, 1, [0, 5, far], [0, 1, 2]),
-            ("node 1 NodeRange: it is the source, and its predecessor is 2", judge, *PATHS, 1, [0, 5, 9], [2, 1, 2]),
-            ("node 3 NodeRange: its predecessor is 9, and there are 3 nodes", judge, *PATHS, 1, [0, 5, 9], [0, 1, 9]),
         )
 
     def test_supplies_that_do_not_add_up(self):

@@ -41,28 +41,9 @@ static void kinds(void) {
     CASE("no kind to certify", certify(4, surplus, ""), 2, "", "");
     CASE("no kind to solve", solve(4, max, ""), 2, "", "");
     CASE("sets aren't solved for", solve(DIMACS_INFEASIBLE, surplus, ""), 2, "", "");
+    CASE("no kind of text", dimacs_convert(9, TEXT(max), OUT), 2, "", "");
+    CASE("nor to show", dimacs_show(9, TEXT(max), OUT), 2, "", "");
     CASE("no kind to spread", dimacs_spread(DIMACS_INFEASIBLE, TEXT(max), TEXT(flow), OUT, SHOWN), 2, "", "");
-}
-
-static void text_is(const char *name, uint32_t kind, const char *text, uint32_t wanted, const char *converted,
-                    const char *wanted_text) {
-    CHECK(name, dimacs_convert(kind, TEXT(text), OUT), wanted, converted);
-    CHECK(name, dimacs_show(kind, TEXT(text), OUT), wanted, wanted_text);
-}
-
-static void converts_and_shows(void) {
-    text_is("max", DIMACS_TEXT_MAX, max, 0, max, "i max 4 5 1 4\n");
-    text_is("min", DIMACS_TEXT_MIN, min, 0, min, "i min 4 5 4 4\n");
-    text_is("gr", DIMACS_TEXT_GR, "c x\n  p  sp 2 1\r\n\na 1 2 +007", 0, "p sp 2 1\na 1 2 7\n", "i sp 2 1\n");
-    text_is("query", DIMACS_TEXT_QUERY, pairs, 0, pairs, "i p2p 2\n");
-    text_is("solution", DIMACS_TEXT_SOLUTION, flow, 0, flow, "i solution 6 5\n");
-    text_is("cut", DIMACS_TEXT_CUT, "p cut 4 2\nu 3\nu 1", 0, "p cut 4 2\nu 1\nu 3\n", "i cut 4 2\n");
-    text_is("pot", DIMACS_TEXT_POT, pot, 0, pot, "i pot 4 3\n");
-    text_is("dist", DIMACS_TEXT_DIST, dist, 0, dist, "i dist 4 1\n");
-    text_is("distances", DIMACS_TEXT_DISTANCES, "p distances 4 1\nt 1 1\nd 2 5", 0, near, "i distances 4 1\n");
-    text_is("a fault", DIMACS_TEXT_GR, "p sp 2 1\na 1 3 0\n", 1, "x instance 2 3 NodeRange\n",
-            "x instance 2 3 NodeRange\n");
-    text_is("no kind of text", 9, max, 2, "", "");
 }
 
 static void keeps_to_the_room(void) {
@@ -145,7 +126,6 @@ static void explains(void) {
 
 int main(void) {
     kinds();
-    converts_and_shows();
     keeps_to_the_room();
     reads_any_bytes();
     explains();

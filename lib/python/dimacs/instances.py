@@ -127,7 +127,7 @@ def _test_limits(given: Given) -> None:
 
 
 def _names(given: Any, nodes: int) -> NodeNames:
-    """The names of nodes. Raises ValueError if they aren't as many, or one stands twice, and TypeError if they have no order."""
+    """The names of nodes. Raises ValueError if they aren't as many or one stands twice, and TypeError if they have no order."""
     if given is None:
         return None
     names = given if isinstance(given, range) else tuple(gone_through(unlabelled(given), "names"))
@@ -173,7 +173,10 @@ class Instance(Value):
         return f"{type(self).__name__} of {self.nodes} nodes and {len(self)} arcs"
 
     def _compared(self) -> tuple[Any, ...]:
-        return (*super()._compared(), tuple(self._called()), self.units)
+        called = self._called()
+        if isinstance(called, tuple) and called[:1] == (1,) and called == (*range(1, self.nodes + 1),):
+            called = range(1, self.nodes + 1)
+        return (*super()._compared(), called, self.units)
 
     def _called(self) -> Sequence[Any]:
         return range(1, self.nodes + 1) if self.names is None else self.names
@@ -619,12 +622,13 @@ class Blocks(Mapping[int, Distances]):
     def __init__(self, nodes: int, blocks: Iterable[Distances]) -> None:
         self.nodes = number_of(nodes, IDS, "nodes")
         self._blocks: dict[int, Distances] = {}
+        kind = None
         for it in blocks:
             if not isinstance(it, Distances):
                 raise TypeError(f"a block is a {type(it).__name__}, and has to be Distances or Labels")
-            if len(it) != self.nodes or it.source in self._blocks or type(it) is not type(next(iter(self._blocks.values()), it)):
+            if len(it) != self.nodes or it.source in self._blocks or kind not in (None, type(it)):
                 raise ValueError(f"{it!r} comes beside blocks of {self.nodes} nodes, one from each source, all of a kind")
-            self._blocks[it.source] = it
+            self._blocks[it.source], kind = it, type(it)
 
     @property
     def sources(self) -> tuple[int, ...]:

@@ -149,12 +149,13 @@ class _explained(Asked):
 
     def _records(self, no: Refused) -> Iterator[tuple[int, str]]:
         """The lines, from 1, that a number past its limit may stand on, or those with the sources of blocks."""
-        is_here = not isinstance(self._of, int)
+        is_missing, is_here = no.reason == "BlockMissing", not isinstance(self._of, int)
         for number, line in enumerate(bytes(bytes_of(*self._texts).kept).decode("ascii", "replace").split("\n"), 1):
             letter, *rest = line.split() or [""]
             if letter == "t":
-                is_here = no.reason == "BlockMissing" or int(rest[0]) == self._of
-            if number == no.line or (is_here and letter in ("t", "y", "d") and (no.node == int(rest[0]) or no.reason == "BlockMissing")):
+                is_here = int(rest[0]) == self._of
+            of_node = letter in ("t", "y", "d") and is_here and int(rest[0]) == no.node
+            if number == no.line or (letter == "t" if is_missing else of_node):
                 yield number, line.strip()
 
 
