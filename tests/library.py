@@ -338,7 +338,7 @@ LAYERS = {
     "Rust": (test_cargo, 37),
     "Python": (test_python, 120),
     "wheel": (test_wheel, 1),
-    "page": (test_page, 16),
+    "page": (test_page, 9),
 }
 
 
