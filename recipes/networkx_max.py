@@ -12,11 +12,7 @@ def solve(instance):
     graph = instance.to_networkx()  # an edge has the capacities of parallel arcs, added up
     value, flow = nx.maximum_flow(graph, instance.source, instance.sink)
     _, (side, _) = nx.minimum_cut(graph, instance.source, instance.sink)
-    flows = []
-    for tail, head, cap in zip(*(it.tolist() for it in (instance.tails, instance.heads, instance.caps))):
-        flows.append(min(cap, flow[tail][head]))
-        flow[tail][head] -= flows[-1]
-    return value, flows, side
+    return value, instance.flows_from(flow), side
 
 
 if __name__ == "__main__":

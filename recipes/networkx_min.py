@@ -16,8 +16,7 @@ def solve(instance):
         _, flow = nx.network_simplex(instance.to_networkx())
     except nx.NetworkXUnfeasible as error:
         sys.exit(str(error))
-    arcs = zip(instance.tails.tolist(), instance.heads.tolist(), instance.lows.tolist())
-    return [low + flow[tail][head][key] for key, (tail, head, low) in enumerate(arcs)]
+    return instance.flows_from(flow).tolist()
 
 
 if __name__ == "__main__":

@@ -21,7 +21,7 @@ def certify(graph, sources):
     roads, found = graph.to_scipy(), {}
     for source in sources:
         found[source] = dijkstra(roads, indices=source - 1)
-        dimacs.certify_paths_arrays(*graph, source, found[source])
+        dimacs.certify_paths_arrays(graph, source, found[source])
     return found
 
 

@@ -7,7 +7,6 @@ with a message.
 """
 import sys
 
-import dimacs
 from scipy.sparse.csgraph import maximum_flow
 
 import command
@@ -21,10 +20,7 @@ def solve(instance):
         at = both.data.argmax()
         sys.exit(f"the capacities between {both.row[at] + 1} and {both.col[at] + 1} don't fit 32 bits")
     found = maximum_flow(caps.astype("int32"), instance.source - 1, instance.sink - 1)
-    # Of two arcs that lead to and fro the matrix has the difference of the flows: less than 0 on one of them.
-    flow = found.flow.tocoo()
-    tails, heads, flows = (it[flow.data > 0] for it in (flow.row + 1, flow.col + 1, flow.data))
-    return found.flow_value, dimacs.spread_max_arrays(*instance, tails, heads, flows)
+    return found.flow_value, instance.flows_from(found)
 
 
 def main():

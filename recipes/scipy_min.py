@@ -18,7 +18,7 @@ def solve(instance):
     found = linprog(**instance.to_scipy(), method="highs-ds")
     if found.status != 0:
         sys.exit(found.message)
-    return [round(x) for x in found.x], [round(y) for y in found.eqlin.marginals]
+    return instance.flows_from(found).tolist(), [round(y) for y in found.eqlin.marginals]
 
 
 def main():
