@@ -194,8 +194,20 @@ class Values(unittest.TestCase):
         self.assertEqual(dimacs.write(dimacs.certify_max(dimacs.write(OVER), dimacs.write(claim))), texts[2])
         self.assertRaises(ValueError, dimacs.write, pickle.loads(pickle.dumps(yes)))
         for more in {"base": 0}, {"scale": 10}:
-            message = "MaxInstance has whole numbers, and nodes from 1: scale= and base= are for arrays"
+            message = "values have whole numbers, and nodes from 1: scale= and base= are for arrays"
             self.assertRaisesRegex(TypeError, message, dimacs.solve_max_arrays, OVER, **more)
+        for message, call in [
+            ("certify_max_arrays takes no Graph there", lambda: dimacs.certify_max_arrays(graph, [1])),
+            ("certify_max_arrays takes no MaxInstance there", lambda: dimacs.certify_max_arrays(OVER, OVER)),
+            ("judge_max_arrays takes no MaxInstance for flows", lambda: dimacs.judge_max_arrays(OVER, flows=OVER, inside=cut)),
+            ("takes 1 arguments less", lambda: dimacs.certify_paths_arrays(graph, 1, labels)),
+            ("missing 1 required positional argument: 'flows'", lambda: dimacs.certify_max_arrays(OVER)),
+        ]:
+            self.assertRaisesRegex(TypeError, message, call)
+        least = MinInstance(2, [1, 1], [2, 2], [0, 0], [3, 5], [9, 1], [6, -6])
+        self.assertEqual(dimacs.spread_min_arrays(least, [1], [2], [6]), [1, 5])
+        no = raised(dimacs.NotOptimal, dimacs.certify_max_arrays, OVER, [0] * 4)
+        self.assertEqual(dimacs.read("solution", dimacs.write(no), OVER).flows.tolist(), no.better)
         for call in lambda: dimacs.certify_max(OVER, "s 6\n"), lambda: dimacs.draw(OVER):
             self.assertRaisesRegex(TypeError, r"takes texts, not MaxInstance: pass dimacs.write\(..\) of it", call)
 

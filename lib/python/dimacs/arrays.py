@@ -26,6 +26,7 @@ set or a masked array.
 
 from __future__ import annotations
 
+import inspect
 from functools import wraps
 from typing import Any, Callable, ParamSpec, Protocol, TypeVar, overload
 
@@ -48,15 +49,17 @@ class _Call(Protocol[_Words, _Answer]):
 
 def of_values(call: Callable[_Words, _Answer]) -> _Call[_Words, _Answer]:
     """The same call, which takes values in place of their fields too."""
+    names = [it.name for it in inspect.signature(call).parameters.values() if it.kind is it.POSITIONAL_OR_KEYWORD]
 
     @wraps(call)
     def made(*words: Any, **more: Any) -> Any:
-        values = [it for it in [*words, *more.values()] if isinstance(it, Value)]
-        for it in values:
-            if not isinstance(it, Cut) and (more.get("scale") is not None or more.get("base", 1) != 1):
-                raise TypeError(f"{type(it).__name__} has whole numbers, and nodes from 1: scale= and base= are for arrays")
-        named = {name: field for name, it in more.items() for field in _fields(it)}
-        found = call(*(field for it in words for field in _fields(it)), **named)
+        values = [it for it in (*words, *more.values()) if isinstance(it, Value)]
+        if not values:
+            return call(*words, **more)
+        has_numbers = any(not isinstance(it, Cut) for it in values)
+        if has_numbers and (more.get("scale") is not None or more.get("base", 1) != 1):
+            raise TypeError("values have whole numbers, and nodes from 1: scale= and base= are for arrays")
+        found: Any = call(**_named(call.__name__, names, words, more))
         for it in values:
             if isinstance(it, Solution) and isinstance(found, (Certified, Verdict)):
                 calls.of_value(found, it.value, "value")
@@ -65,9 +68,23 @@ def of_values(call: Callable[_Words, _Answer]) -> _Call[_Words, _Answer]:
     return made
 
 
-def _fields(it: Any) -> list[Any]:
-    """What stands in place of an argument: of a solution its flows."""
-    return [it.flows] if isinstance(it, Solution) else list(it) if isinstance(it, Value) else [it]
+#: What values have that not each call takes.
+_LEFT_OUT = {"value", "supplies", "predecessors"}
+
+
+def _named(call: str, names: list[str], words: tuple[Any, ...], more: dict[str, Any]) -> dict[str, Any]:
+    """The arguments by their names: a value stands for its fields, and others for what is left, in order."""
+    named = {name: it for name, it in more.items() if not isinstance(it, Value)}
+    for name, it in [*((None, it) for it in words), *more.items()]:
+        if isinstance(it, Value):
+            fields = dict(zip(it._fields, it))
+            if fields.keys() - _LEFT_OUT - {*names} or fields.keys() & named or name not in (None, *fields):
+                raise TypeError(f"{call} takes no {type(it).__name__} {'there' if name is None else f'for {name}'}")
+            named.update({name: field for name, field in fields.items() if name in names})
+    others, left = [it for it in words if not isinstance(it, Value)], [it for it in names if it not in named]
+    if len(others) > len(left):
+        raise TypeError(f"{call} takes {len(others) - len(left)} arguments less beside these values")
+    return {**named, **dict(zip(left, others))}
 
 
 @of_values

@@ -16,7 +16,8 @@ import ctypes
 import importlib
 import operator
 from array import array
-from collections.abc import Iterable, Mapping, Sized
+from collections import Counter
+from collections.abc import Hashable, Iterable, Mapping, Sized
 from dataclasses import dataclass
 from typing import TYPE_CHECKING, Any, ClassVar, Iterator, Sequence, TypeVar, Union
 
@@ -133,8 +134,11 @@ def _names(given: Any, nodes: int) -> NodeNames:
     names = given if isinstance(given, range) else tuple(gone_through(unlabelled(given), "names"))
     if len(names) != nodes:
         raise ValueError(f"names has {len(names)} items, and there are {nodes} nodes")
+    for place, it in enumerate(names if not isinstance(names, range) else ()):
+        if not isinstance(it, Hashable):
+            raise TypeError(f"names[{place}] is {it!r}, which can't name a node")
     if not isinstance(names, range) and len(set(names)) != nodes:
-        raise ValueError(f"names has {next(it for it in names if names.count(it) > 1)!r} twice")
+        raise ValueError(f"names has {Counter(names).most_common(1)[0][0]!r} twice")
     return names
 
 
@@ -198,11 +202,12 @@ class Instance(Value):
         """The arcs in a DataFrame of pandas, a row each: source, target, and their numbers. The index has the numbers of arcs,
         and attrs the units."""
         pandas, called = importlib.import_module("pandas"), self._called()
-        nodes = pandas.Index(called, dtype=None if isinstance(called, range) else "O", tupleize_cols=False)
-        ends = {"source": self.tails, "target": self.heads}
-        columns = {name: nodes.take(it.astype("int64") - 1) for name, it in ends.items()}
+        columns: dict[str, Any] = {"source": self.tails.astype("int64"), "target": self.heads.astype("int64")}
+        if called != range(1, self.nodes + 1):
+            nodes = pandas.Series(list(called), dtype="O").infer_objects().to_numpy()
+            columns = {name: nodes.take(it - 1) for name, it in columns.items()}
         columns.update((_COLUMNS[name], getattr(self, name)) for name in self._fields if name in _COLUMNS)
-        frame = pandas.DataFrame(columns, pandas.RangeIndex(1, len(self) + 1, name="arc")).infer_objects()
+        frame = pandas.DataFrame(columns, pandas.RangeIndex(1, len(self) + 1, name="arc"))
         frame.attrs.update({"units": self.units} if self.units else {})
         return frame
 

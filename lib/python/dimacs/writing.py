@@ -6,7 +6,7 @@ import ctypes
 from typing import Any, Sequence
 
 from . import library
-from .answers import Certified, Explainable, Infeasible, Solved
+from .answers import Certified, Explainable, Feasible, Infeasible, NotOptimal, Solved
 from .buffers import Buffer, bytes_of
 from .given import FLOWS, TAILS, Given
 from .instances import Blocks, Instance, Solution, Value
@@ -50,10 +50,12 @@ def _text_of_blocks(blocks: Blocks) -> bytes:
 
 
 def _text_of_answer(answer: Any) -> bytes:
-    """The text of the certificate of an answer, or of the solution of one that was made."""
-    asked, is_solved = answer._asked, isinstance(answer, Solved)
-    name = "certificate" if not is_solved else "distances" if answer._kind == "paths" else "solution"
-    found = answer.solution if is_solved else answer.certificate
+    """The text of a certificate that was asked for, or of a solution or a flow."""
+    asked, name, found = answer._asked, "certificate", getattr(answer, "certificate", None)
+    if isinstance(answer, Solved):
+        name, found = "distances" if answer._kind == "paths" else "solution", answer.solution
+    if isinstance(answer, (NotOptimal, Feasible)):
+        name, found = "better", answer.better if isinstance(answer, NotOptimal) else answer.flow
     if isinstance(found, (str, bytes)):
         return bytes(bytes_of(found).kept)
     if asked is None or not hasattr(asked, "written"):
@@ -71,7 +73,8 @@ def _units(instance: Instance) -> bytes:
 
 def write(value: Value | Blocks | Explainable, /) -> bytes:
     r"""The canonical text of what read returns, which read again is the same. A solution has an entry for each arc. If an
-    instance has units, a comment says so. Of an answer it is the text of what was asked for: a certificate, or a solution.
+    instance has units, a comment says so. Of an answer it is what was asked for, a certificate or a solution, or the flow of
+    a refusal.
 
     Raises PastLimit if a number is past a limit of texts; Refused if the distance of the source isn't 0, or predecessors of
     labels don't lead back to it; ValueError for labels with a radius, and for an answer that was pickled since.
@@ -88,7 +91,7 @@ def write(value: Value | Blocks | Explainable, /) -> bytes:
         return _units(value.instance) + _text_of_solution(value)
     if isinstance(value, Blocks):
         return _text_of_blocks(value)
-    if isinstance(value, (Certified, Solved, Infeasible)):
+    if isinstance(value, (Certified, Solved, Infeasible, NotOptimal, Feasible)):
         return _text_of_answer(value)
     if not isinstance(value, Value):
         raise TypeError(f"write takes what read returns, or an answer, not {type(value).__name__}")

@@ -76,6 +76,8 @@ def arcs_of(
 ) -> tuple[int, Any, Any, Any]:
     """The number of vertices, and the arcs: an edge of a graph that isn't directed is two. More than distances may be given.
     With a scale weights stay as they are."""
+    if scale is not None and sparse.issparse(csgraph) and csgraph.format not in SEVERAL:
+        csgraph = csgraph.tocsr()
     vertices, tails, heads, weights = _edges(csgraph, unweighted, has_more)
     if unweighted:
         weights = np.ones(len(tails), np.int64)
