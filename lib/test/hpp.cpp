@@ -70,7 +70,6 @@ static void certifies_texts() {
     check_that("certified least", cheap && cheap->value == 14);
     check_that("by potentials", judge_min(min, least, cheap->certificate).has_value());
     is("not least", certify_min(min, dear).message(), "x solution 1 2 NotLeast");
-    is("no flow", certify_min(min, "s 14").message(), "x node 1 Balance");
 }
 
 static void certifies_whole_claims() {
@@ -80,11 +79,8 @@ static void certifies_whole_claims() {
     const auto *flow_of = one.get_if<FeasibleText>();
     check_that("a feasible flow in a text", flow_of && flow_of->flow && one.message() == "x instance 0 0 Feasible");
     check_that("which is feasible", !certify_min(min, *flow_of->flow).get_if<Refused>());
-    is("a fault", certify_infeasible(max).message(), "x instance 1 2 BadWord");
     const auto far = certify_paths(graph, "p distances 4 1\nt 1 1\nd 2 5\n");
     check_that("distances in a text", far && far->sources == 1 && far->labels == dist);
-    is("a distance less 1", certify_paths(graph, "p distances 4 1\nt 1 1\nd 2 4\n").message(), "x node 2 NoTightArc");
-    is("a fault of distances", certify_paths(graph, "p distances 4 1\nt 1 x\n").message(), "x distances 2 3 BadNumber");
 }
 
 static void solves_texts() {
@@ -97,11 +93,9 @@ static void solves_texts() {
     const auto *set = none.get_if<Infeasible<std::string>>();
     check_that("no feasible flow", set && set->inside == both && none.message() == "v infeasible");
     check_that("no step", solve_min(min, 0).get_if<GaveUp>() != nullptr);
-    is("a fault", solve_min(max).message(), "x instance 1 2 BadWord");
     const auto found = solve_paths(graph, pairs);
     check_that("paths", found && found->labels == dist && found->pairs.size() == 2 && found->pairs[0].number == 5);
     check_that("all paths", solve_paths(graph, source)->sources == 1);
-    is("a weight below 0", solve_paths("p sp 2 2\na 1 2 0\na 2 1 -1\n", source).message(), "x arc 2 NegativeWeight");
 }
 
 static void makes_texts() {
@@ -110,7 +104,6 @@ static void makes_texts() {
     is("of another kind", show(Text::min, max).message(), "x instance 1 2 BadWord");
     const std::string parallel = "p max 2 2\nn 1 s\nn 2 t\na 1 2 3\na 1 2 5\n";
     is("spread", spread_max(parallel, "s 6\nf 1 2 4\nf 1 2 2\n").value(), "s 6\nf 1 2 3\nf 1 2 3\n");
-    is("of no arc", spread_max(parallel, "s 6\nf 2 1 6\n").message(), "x solution 2 0 UnknownArc");
     is("spread by costs", spread_min("p min 2 2\na 1 2 0 3 9\na 1 2 0 5 1\n", "s 0\nf 1 2 6\n").value(),
        "s 0\nf 1 2 1\nf 1 2 5\n");
     std::string queries = "p aux sp p2p 900\n";
@@ -262,9 +255,6 @@ static void reads_and_writes_paths() {
                                                                  block.distances[97] == 6 &&
                                                                  block.predecessors[97] == 1);
     is("no block", read_distances(far, 2).message(), "x node 2 BlockMissing");
-    is("a fault of labels", read_labels("p dist 1 1\nt 2 0\n", 2).message(), "x certificate 2 2 NodeRange");
-    is("a distance of 2^63 - 1", read_distances("p distances 2 1\nt 1 1\nd 2 9223372036854775807\n", 1).message(),
-       "x node 2 NumberRange");
     is("the source's isn't 0", write_distances(2, distances).message(), "x node 2 NotShortest");
     is("no way back", write_labels(1, distances, Ids{0, 2, 0, 0}).message(), "x node 2 PredUnknown");
     throws<WrongLength>("fewer predecessors", [&] { return write_labels(1, distances, Ids(1)); },
@@ -288,12 +278,7 @@ static void refuses_texts() {
     getrusage(RUSAGE_SELF, &after);
     check_that("which take no memory", after.ru_maxrss - before.ru_maxrss < 1 << 14);  // in kilobytes
     is("a byte 0", read_graph(std::string("p sp 2 1\na 1 2 7\0\n", 18)).message(), "x instance 2 4 BadNumber");
-    is("of another kind", read_min(max).message(), "x instance 1 2 BadWord");
-    is("queries", read_queries("p aux sp p2p 1\nq 1\n").message(), "x query 2 0 FieldCount");
-    is("a cut", read_cut("p cut 1 1\nu 2\n").message(), "x certificate 2 2 NodeRange");
     is("no arc", read_solution("s 6\nf 4 1 6\n", network).message(), "x solution 2 0 UnknownArc");
-    is("an arc twice", read_solution("s 6\nf 1 2 6\nf 1 2 6\n", network).message(), "x solution 3 0 ArcTwice");
-    is("a value past 64 bits", read_solution("s " + most + "\n", network).message(), "x solution 1 2 NumberRange");
     is("a potential past 64 bits", read_potentials("p pot 2 1\ny 2 " + most + "\n").message(), "x node 2 NumberRange");
     throws<WrongLength>("fewer flows", [] { return write_solution(6, network, Amounts(1)); },
                         "flows has 1 items, and there are 5 arcs");

@@ -275,6 +275,8 @@ class ShortestPath(Scipy):
                 ours.certify_shortest_path(graph, dist)
                 self.raises(ValueError, r"\(0, 1\) is inf", ours.certify_shortest_path, graph, dist, before)
             self.raises(ValueError, r"\(0, 1\) is inf", ours.shortest_path, graph, unweighted=True)
+        graph = sparse.csr_matrix(([numpy.nan, 3.0], ([0, 0], [1, 2])), shape=(3, 3))
+        self.raises(ValueError, r"\(0, 1\) is nan: by some methods", ours.shortest_path, graph, unweighted=True)
 
     def test_sums_of_entries(self):
         """Where SciPy adds entries up, in their own type, the sum is exact here."""

@@ -95,14 +95,7 @@ static void explains(void) {
               "entries out of it: 0\n"
               "entries into it: 1\n"
               "  S:2: f 1 2 4\n");
-    explained("show max a", "?", 0, "i max 4 5 1 4\n");
-    explained("convert max a", "?", 0, max);
     explained("show max \xff", "?", 0, "i max 4 5 1 4\n");
-    explained("certify-max I S C", "s 0\n", 1,
-              "x solution 1 2 NotMaximum\n"
-              "S:1: s 0\n"
-              "       ^\n"
-              "the flow is feasible, and a better one has the value 6: it goes to C\n");
     explained("spread-max I S O", flow, 0, "");
     explained("solve-max I S C --limit 0", flow, 5, "g limit\n");
     explained("solve-max I S C --limit", flow, 2, "");

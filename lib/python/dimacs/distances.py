@@ -2,7 +2,7 @@
 
 from __future__ import annotations
 
-from typing import NamedTuple, Sequence
+from typing import Sequence
 
 from .answers import UNREACHED, GaveUp, NotOptimal
 from .arrays import certify_min_arrays, judge_paths_arrays, solve_paths_arrays
@@ -16,25 +16,19 @@ class NegativeCycle(ValueError):
         super().__init__("there is a cycle of negative weight")
 
 
-class Distances(NamedTuple):
-    """For each node its distance from the source, or UNREACHED, and the number of its predecessor, from 1, or 0."""
-
-    distances: list[int]
-    predecessors: list[int]
-
-
 def distances_from(
     nodes: int, tails: Sequence[int], heads: Sequence[int], weights: Sequence[int], source: int,
     potentials: Sequence[int] | None = None,
-) -> Distances:
-    """Makes the distances from a source; they were judged with these weights before they are handed out.
+) -> tuple[list[int], list[int]]:
+    """Makes the distances from a source, UNREACHED of a node that isn't reached, and predecessors by number, from 1, or 0. They
+    were judged with these weights before they are handed out.
 
     For negative weights it takes the potentials of potentials_of, if they are at hand. Raises NegativeCycle if the source
     reaches one, and GaveUp if a number that is needed is out of range.
     """
     if min(weights, default=0) >= 0:
         solved = solve_paths_arrays(nodes, tails, heads, weights, source)
-        return Distances(list(solved.distances), list(solved.predecessors))
+        return list(solved.distances), list(solved.predecessors)
     if potentials is None:
         reached = solve_paths_arrays(nodes, tails, heads, [0] * len(tails), source).distances
         arcs = [arc for arc, tail in enumerate(tails) if reached[tail - 1] != UNREACHED]
@@ -45,7 +39,7 @@ def distances_from(
 
 def _with_negative(
     nodes: int, tails: Sequence[int], heads: Sequence[int], weights: Sequence[int], source: int, potentials: Sequence[int]
-) -> Distances:
+) -> tuple[list[int], list[int]]:
     """Weights are changed by potentials, so that none is negative: all walks between two nodes are longer by the same."""
     ends = zip(weights, tails, heads)
     reduced = [weight - potentials[tail - 1] + potentials[head - 1] for weight, tail, head in ends]
@@ -58,7 +52,7 @@ def _with_negative(
         raise GaveUp("a distance is out of range")
     distances = [reached.get(node, UNREACHED) for node in range(nodes)]
     judge_paths_arrays(nodes, tails, heads, weights, source, distances, predecessors)
-    return Distances(distances, list(predecessors))
+    return distances, list(predecessors)
 
 
 def potentials_of(nodes: int, tails: Sequence[int], heads: Sequence[int], weights: Sequence[int]) -> list[int]:

@@ -4,7 +4,7 @@ from __future__ import annotations
 
 import ctypes
 from array import array
-from typing import Any, Iterator, Literal, Sequence, overload
+from typing import Any, Literal, Sequence, overload
 
 from . import library
 from .answers import UNREACHED, Refused
@@ -129,13 +129,12 @@ class _explained(Asked):
             return lines
         if isinstance(self._of, Instance) and not printed.endswith("NumberRange"):
             return self._of_entry()
-        name, found = KINDS[self._kind], list(self._records(library.refusal(printed.encode())))
+        name, found = KINDS[self._kind], self._lines(library.refusal(printed.encode()))
         if printed.endswith("BlockMissing"):
-            sources = [it.split()[1] for _, it in found]
-            listed = ", ".join([*sources[:8], *[".."] * (len(sources) > 8)])
-            return [printed, f"{name} has no block from source {self._of}; its blocks are from {listed}; {len(sources)} in all"]
+            listed = ", ".join(it.split()[2] for it in found[:8]) + ", .." * (len(found) > 8)
+            return [printed, f"{name} has no block from source {self._of}; its blocks are from {listed}; {len(found)} in all"]
         wide = f"arrays have {'distances below 2^63 - 1' if self._kind.startswith('dist') else 'numbers of 64 bits'}"
-        return [printed, *(f"{name}:{number}: {it}" for number, it in found[:1]), wide]
+        return [printed, *(f"{name}:{it}" for it in found[:1]), wide]
 
     def _of_entry(self) -> list[str]:
         """What the certifier says of an entry: of a graph one of arcs that carry nothing."""
@@ -147,16 +146,16 @@ class _explained(Asked):
         kind = "min" if given.form is MIN else "max"
         return Asked(f"certify_{kind}", text_of_instance(given), *self._texts).told()
 
-    def _records(self, no: Refused) -> Iterator[tuple[int, str]]:
-        """The lines, from 1, that a number past its limit may stand on, or those with the sources of blocks."""
-        is_missing, is_here = no.reason == "BlockMissing", not isinstance(self._of, int)
+    def _lines(self, no: Refused) -> list[str]:
+        """The lines that a number past its limit may stand on, or those with the sources of blocks, after their numbers."""
+        found, is_here = [], not isinstance(self._of, int)
         for number, line in enumerate(bytes(bytes_of(*self._texts).kept).decode("ascii", "replace").split("\n"), 1):
-            letter, *rest = line.split() or [""]
-            if letter == "t":
-                is_here = int(rest[0]) == self._of
-            of_node = letter in ("t", "y", "d") and is_here and int(rest[0]) == no.node
-            if number == no.line or (letter == "t" if is_missing else of_node):
-                yield number, line.strip()
+            letter, word = [*line.split(), "", ""][:2]
+            is_here = word.lstrip("+0") == str(self._of) if letter == "t" else is_here
+            of_node = is_here and letter in ("t", "y", "d") and word.lstrip("+0") == str(no.node)
+            if number == no.line or (letter == "t" if no.reason == "BlockMissing" else of_node):
+                found.append(f"{number}: {line.strip()}")
+        return found
 
 
 #: What a text of a kind is of.

@@ -7,7 +7,7 @@ from typing import Any, Callable, Iterable, Iterator
 import networkx as nx
 
 from ..answers import UNREACHED
-from ..distances import Distances, NegativeCycle, distances_from, potentials_of
+from ..distances import NegativeCycle, distances_from, potentials_of
 from ..graphs import Arcs
 from .given import MOST_FLOAT, Unable, answered, graph_of, of_edges, unable
 
@@ -28,7 +28,7 @@ class _Paths:
             edge = next(edge for edge, it in zip(self.arcs.names(), self.weights.values) if it < 0)
             raise Unable(f"the weight of edge {edge!r} is negative")
 
-    def distances(self, starts: list[int]) -> Distances:
+    def distances(self, starts: list[int]) -> tuple[list[int], list[int]]:
         """The distances from the nearest of these nodes."""
         arcs, lengths = self.arcs, self.weights.values
         nodes, tails, heads, start = len(arcs.nodes), arcs.tails, arcs.heads, starts[0]
