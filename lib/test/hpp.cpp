@@ -151,18 +151,13 @@ static void misuses() {
                         "heads has 1 items, and there are 5 arcs");
     throws<WrongLength>("more marks", [&] { return judge_infeasible(shipping, Inside(5)); },
                         "inside has 5 items, and there are 4 nodes");
-    throws<WrongLength>("fewer potentials", [&] { return judge_min(shipping, flows, Amounts(3)); },
-                        "potentials has 3 items, and there are 4 nodes");
     throws<WrongLength>("fewer distances", [&] { return certify_paths({4, tails, heads, caps}, 1, Amounts(3)); },
                         "distances has 3 items, and there are 4 nodes");
     throws<WrongLength>("no kind", [&] { return convert(static_cast<Text>(99), max); },
                         "an array has another length than it has to have");
-    throws_limit("a head", [&] { return solve_max({3, 1, 3, tails, heads, caps}); }, "x arc 4 NodeRange");
     throws_limit("the sink", [&] { return certify_max({4, 1, 1, tails, heads, caps}, flows); }, "x node 1 NodeTwice");
     throws_limit("too many nodes", [&] { return solve_max({UINT32_MAX, 1, 2, {}, {}, {}}); },
                  "x node 134217729 NumberRange");
-    throws_limit("bounds", [&] { return solve_min({4, tails, heads, caps, lows, costs, supplies}); },
-                 "x arc 1 BoundOrder");
     throws_limit("no source", [&] { return solve_paths({4, tails, heads, caps}, 5); }, "x node 5 NodeRange");
 }
 

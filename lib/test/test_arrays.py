@@ -202,15 +202,9 @@ class Forms(unittest.TestCase):
 
     @unittest.skipUnless(numpy, "numpy isn't there")
     def test_numpy_that_does_not_fit(self):
-        ends = [numpy.full(5, end, kind) for end in (INF, -INF) for kind in ("float16", "float32", "longdouble")]
-        for flows in (
-            numpy.array(FLOW, "uint64") + numpy.uint64(2**63),
-            numpy.array(FLOW) + 0.5,
-            *(numpy.full(5, it) for it in (numpy.nan, INF, 2.0**63)),
-            *ends,
-            numpy.array([2**63] * 5, "object"),
-            numpy.zeros((5, 1), "int64"),
-        ):
+        kinds = ("float16", "float32", "longdouble", "float64")
+        past = [numpy.full(5, end, kind) for end in (INF, -INF) for kind in kinds], numpy.full(5, 2.0**63)
+        for flows in *past[0], past[1], numpy.array(FLOW) + 0.5, numpy.array([2**63] * 5, "object"):
             with self.subTest(flows.dtype), self.assertRaises(ValueError):
                 dimacs.judge_max_arrays(*MAX, flows, CUT)
         for tails in (numpy.array([2**32 + 1, 1, 2, 2, 3]), numpy.array([-1, 1, 2, 2, 3], "int8")):

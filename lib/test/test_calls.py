@@ -13,20 +13,15 @@ def numbers(text):
 def fields(text):
     """The arguments of an instance: numbers, then arrays."""
     lines = [numbers(it) for it in text.split("\n")]
-    ends = {6: 3, 7: 1, 4: 1}[len(lines)]
+    ends = 3 if len(lines) == 6 else 1
     return [number for (number,) in lines[:ends]] + lines[ends:]
-
-
-def instance(text):
-    form = {6: dimacs.MaxInstance, 7: dimacs.MinInstance, 4: dimacs.Graph}
-    return form[len(fields(text))](*fields(text))
 
 
 def words_of(call, arguments):
     """The arguments, each as the call takes it."""
     first, *more = arguments
     if call == "read":
-        return [first, more[0], *(instance(it) if "\n" in it else int(it) for it in more[1:])]
+        return [first, more[0], *(dimacs.MaxInstance(*fields(it)) if "\n" in it else int(it) for it in more[1:])]
     if not call.endswith("_arrays"):
         return [int(it) if it.isdigit() else it for it in arguments]
     singles = 1 if call.split("_")[1] == "paths" or call.startswith("solve") else 0

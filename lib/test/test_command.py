@@ -153,6 +153,7 @@ class Command(unittest.TestCase):
                 self.assertEqual(ours[2].split(b"\n")[0], b"dimacs: usage")
         for words in ["help"], ["--help"], ["help", "solve-max"]:
             self.assertIn(b"solve-max INSTANCE SOLUTION CUT [--limit N]", self.ran(by_package, words, {})[1])
+        self.assertEqual(self.ran(by_package, ["help", "help"], {})[:2], (0, b"dimacs help [COMMAND]\n"))
 
     def test_version(self):
         self.same("--version")

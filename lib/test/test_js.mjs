@@ -207,8 +207,7 @@ const CASES = {
     "texts that aren't read, and arrays that aren't written": () => {
         const wide = "9223372036854775808";
         for (const [said, ...given] of [
-            ["x solution 2 0 UnknownArc\nsolution:2: f 4 1 2\ninstance has no arc from 4 to 1\n", "solution", "s 4\nf 4 1 2\n", IN_MAX],
-            ["x solution 2 0 UnknownArc\nsolution:2: f 3 1 2\n", "solution", "s 4\nf 3 1 2\n", IN_GRAPH],
+            ["x solution 2 0 UnknownArc\nsolution:2: f 4 1 2\ninstance has no arc from 4 to 1\n", "solution", "s 4\nf 4 1 2\n", IN_GRAPH],
             [`x solution 1 2 NumberRange\nsolution:1: s ${wide}\narrays have numbers of 64 bits\n`, "solution", `s ${wide}\n`, IN_MAX],
             [`x node 1 NumberRange\ncertificate:2: y 1 ${wide}\narrays have numbers of 64 bits\n`, "pot", `p pot 1 1\ny 1 ${wide}\n`],
             ["x node 2 BlockMissing\ncertificate has no block from source 2; its blocks are from 1; 1 in all\n", "dist", NEAR, 2],
@@ -219,24 +218,20 @@ const CASES = {
         assert.equal(no.explain(), "x arc 1 AboveCap\nthe texts hold something else now: the refusal isn't theirs\n");
         const fault = thrown(() => dimacs.read("max", MAX.replace("4\n", "x\n")));
         assert.equal(fault.explain(), thrown(() => dimacs.show("max", MAX.replace("4\n", "x\n"))).explain());
-        throws(() => dimacs.read("gr", "p sp 2 268435456\n"), dimacs.Refused, {reason: "TooFew"});
         for (const [call, type, message] of [
             [() => dimacs.read("graph", GRAPH), RangeError, /^graph is no kind of text: these are max, min, gr, query, solution/],
             [() => dimacs.read("solution", FLOW), TypeError, /^a text of the kind solution comes with its instance$/],
             [() => dimacs.read("dist", NEAR), TypeError, /^a text of the kind dist comes with the source of a block$/],
             [() => dimacs.read("dist", NEAR, 2.5), RangeError, /^source: 2.5 isn't a whole number$/],
-            [() => dimacs.read("dist", NEAR, 2), dimacs.Refused, /^node 2 BlockMissing$/],
             [() => dimacs.read("max", MAX, IN_MAX), TypeError, /^a text of the kind max comes alone$/],
             [() => dimacs.read("max", 7), TypeError, /^a text is a string/],
             [() => dimacs.write("max"), TypeError, /^a value is an object/],
-            [() => dimacs.write("max", {...IN_MAX, heads: [1]}), RangeError, /^heads has 1 items, and there are 5 arcs$/],
             [() => dimacs.write("max", {...IN_MAX, heads: [2, 3, 3, 4, 9]}), dimacs.PastLimit, /^arc 5 NodeRange: it goes/],
             [() => dimacs.write("max", IN_MAX, IN_MAX), TypeError, /^a text of the kind max comes alone$/],
             [() => dimacs.write("query", {froms: [1], tos: [2, 3]}), RangeError, /^tos has 2 items, and froms has 1$/],
             [() => dimacs.write("query", {froms: [0], tos: null}), dimacs.PastLimit, /^node 0 NumberRange/],
             [() => dimacs.write("dist", dimacs.read("dist", NEAR, 1)), RangeError, /^labels with a radius, here 7, aren't/],
             [() => dimacs.write("dist", {source: 2, ...LABELS}), dimacs.Refused, /^node 2 NotShortest$/],
-            [() => dimacs.write("solution", {value: 3, flows: [1]}, IN_MAX), RangeError, /^flows has 1 items/],
             [() => dimacs.write("solution", {value: 2n ** 63n, flows: [1, 1, 1, 1, 1]}, IN_MAX), RangeError, /^value: /],
         ]) {
             assert.match(throws(call, type).message, message);

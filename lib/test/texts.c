@@ -37,9 +37,6 @@ static void kinds(void) {
     CASE("no claim is certified", certify(DIMACS_INFEASIBLE, surplus, "?"), 0, "v infeasible\n", both);
     CASE("no query is solved", solve(DIMACS_MAX, max, "?"), 0, "v max 6\n", cut);
     CASE("no kind to judge", judge(4, max, flow, cut), 2, "", "");
-    CASE("the greatest number, no kind", judge(UINT32_MAX, max, flow, cut), 2, "", "");
-    CASE("no kind to certify", certify(4, surplus, ""), 2, "", "");
-    CASE("no kind to solve", solve(4, max, ""), 2, "", "");
     CASE("sets aren't solved for", solve(DIMACS_INFEASIBLE, surplus, ""), 2, "", "");
     CASE("no kind of text", dimacs_convert(9, TEXT(max), OUT), 2, "", "");
     CASE("nor to show", dimacs_show(9, TEXT(max), OUT), 2, "", "");

@@ -170,6 +170,13 @@ class Instance(Value):
         value._take(given, names, units)
         return value
 
+    @classmethod
+    def _of_graph(cls: type[_Instance], graph: Any, scale: Any, form: str, *words: Any) -> _Instance:
+        from .graphs import NumberedGraph
+
+        found = NumberedGraph(graph, scale)
+        return cls._of(getattr(found, form)(*words), found.nodes, graph.graph.get("units"))
+
     def __len__(self) -> int:
         return len(self.tails)
 
@@ -248,10 +255,7 @@ class MaxInstance(Instance):
     ) -> MaxInstance:
         """That of a DiGraph or MultiDiGraph, with the capacities of its edges; without one an edge has 2^63 - 1. With scale=
         (see dimacs.arrays) they are multiples of a unit."""
-        from .graphs import NumberedGraph
-
-        found = NumberedGraph(graph, scale)
-        return cls._of(found.max(source, sink, capacity), found.nodes, graph.graph.get("units"))
+        return cls._of_graph(graph, scale, "max", source, sink, capacity)
 
     @classmethod
     def from_scipy(cls, matrix: Any, source: int, sink: int, *, scale: Any = None) -> MaxInstance:
@@ -333,10 +337,7 @@ class MinInstance(Instance):
     ) -> MinInstance:
         """That of a DiGraph or MultiDiGraph, as network_simplex takes it; without a capacity an edge has 2^63 - 1. With scale=
         (see dimacs.arrays) numbers are multiples of a unit."""
-        from .graphs import NumberedGraph
-
-        found = NumberedGraph(graph, scale)
-        return cls._of(found.min(demand, capacity, weight), found.nodes, graph.graph.get("units"))
+        return cls._of_graph(graph, scale, "min", demand, capacity, weight)
 
     def to_networkx(self) -> Any:
         """A MultiDiGraph whose keys are the places of arcs, from 0. It has no lower bounds: what they take is moved to the
@@ -407,10 +408,7 @@ class Graph(Instance):
     def from_networkx(cls, graph: Any, *, weight: Any = "weight", scale: Any = None) -> Graph:
         """That of a DiGraph or MultiDiGraph; without a weight an edge is 1 long. With scale= (see dimacs.arrays) weights are
         multiples of a unit."""
-        from .graphs import NumberedGraph
-
-        found = NumberedGraph(graph, scale)
-        return cls._of(found.graph(weight), found.nodes, graph.graph.get("units"))
+        return cls._of_graph(graph, scale, "graph", weight)
 
     @classmethod
     def from_scipy(cls, matrix: Any, *, scale: Any = None) -> Graph:
@@ -629,9 +627,8 @@ class Blocks(Mapping[int, Distances]):
         self._blocks: dict[int, Distances] = {}
         kind = None
         for it in blocks:
-            if not isinstance(it, Distances):
-                raise TypeError(f"a block is a {type(it).__name__}, and has to be Distances or Labels")
-            if len(it) != self.nodes or it.source in self._blocks or kind not in (None, type(it)):
+            is_block = isinstance(it, Distances) and len(it) == self.nodes and kind in (None, type(it))
+            if not is_block or it.source in self._blocks:
                 raise ValueError(f"{it!r} comes beside blocks of {self.nodes} nodes, one from each source, all of a kind")
             self._blocks[it.source], kind = it, type(it)
 
