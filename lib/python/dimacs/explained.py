@@ -51,9 +51,6 @@ def _explanation(command: str, texts: Sequence[Any]) -> list[str]:
     return lines.decode().splitlines()
 
 
-_TEXTS_CHANGED = "the texts hold something else now: the refusal isn't theirs"
-
-
 class Asked:
     """A call over texts: these, then what it hands out. It keeps them alive."""
 
@@ -88,7 +85,7 @@ class Asked:
     def lines(self) -> list[str]:
         lines = self.told()
         is_changed = self.printed is not None and lines[0] != self.printed
-        return [str(self.printed), _TEXTS_CHANGED] if is_changed else lines
+        return [str(self.printed), "the texts hold something else now: the refusal isn't theirs"] if is_changed else lines
 
     def told(self) -> list[str]:
         return _explanation(self.command(), self._texts)

@@ -121,6 +121,8 @@ class Given:
         self._words: list[Any] = []
         self._buffers: dict[str, Buffer] = {}
         self._limitless: list[int] | None = None
+        #: How many nodes, arcs and so on there are: an item for each in the first array.
+        self._count: dict[str, int] = {}
         for kind, numbers in zip(form.arrays, given[count:]):
             self._keep(kind, numbers)
 
@@ -145,7 +147,6 @@ class Given:
     def words(self) -> list[Any]:
         """The arguments. Raises ValueError or TypeError if one of them has a wrong value, length or type."""
         numbers = {name: self._single(name, IDS) for name in self.form.numbers}
-        #: How many nodes, arcs and so on there are: an item for each in the first array.
         self._count = {"nodes": numbers["nodes"]} if numbers else {}
         #: The scales of amounts and costs, if numbers aren't whole.
         self.units = units_of(self._scale, self._groups)

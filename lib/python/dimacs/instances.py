@@ -226,8 +226,9 @@ _COLUMNS = {"lows": "low", "caps": "capacity", "costs": "cost", "weights": "weig
 @dataclass(frozen=True, eq=False, repr=False, init=False)
 class MaxInstance(Instance):
     """A maximum flow instance: nodes, source and sink, and the tail, head and capacity of each arc. Nodes are numbered from 1,
-    or with base=0 from 0, in what is given; the value has them from 1. Its arrays can't be written to. names has what nodes
-    are called, each once, and units what 1 stands for. Raises PastLimit as the calls over arrays.
+    or with base=0 from 0, in what is given; the value has them from 1. Its arrays can't be written to; those of nodes are
+    uint32, so tails - heads wraps. names has what nodes are called, each once, and units what 1 stands for in amounts and
+    in costs. Raises PastLimit as the calls over arrays.
 
     >>> import dimacs
     >>> instance = MaxInstance(3, 0, 2, [0, 1], [1, 2], [5, 4], base=0)

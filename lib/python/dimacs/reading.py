@@ -118,7 +118,7 @@ class _explained(Asked):
     def __enter__(self) -> None:
         pass
 
-    def __exit__(self, kind: Any, no: Any, where: Any) -> None:
+    def __exit__(self, _: Any, no: Any, where: Any) -> None:
         if isinstance(no, Refused):
             self.of_refusal(no)
 
