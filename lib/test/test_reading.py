@@ -103,7 +103,7 @@ class Rows(unittest.TestCase):
             ("pot", f"p pot 3 2\ny 2 5\ny 1 {-LAST - 2}\n", "x node 1 NumberRange", f"certificate:3: y 1 {-LAST - 2}\n{wide}"),
             ("distances", "p distances 3 1\nt 1 0\n", "x node 3 BlockMissing", "its blocks are from 1; 1 in all", 3),
             ("distances", f"p distances 3 1\nt 1 1\nd 2 {LAST}\n", "x node 2 NumberRange", f"distances:3: d 2 {LAST}\n{far}", 1),
-            ("distances", f"p distances 3 2\nt 3 0\nt 1 1\nd 2 {LAST}\n", "x node 2 NumberRange", f"distances:4: d 2 {LAST}\n{far}"),
+            ("distances", f"p distances 3 2\nt 3 1\nd 2 5\nt 1 1\nd 2 {LAST}\n", "x node 2 NumberRange", f"distances:5: d 2 {LAST}\n{far}"),
             ("dist", "p dist 3 1\nt 1 0\n", "x node 2 BlockMissing", "its blocks are from 1; 1 in all", 2),
             ("dist", f"p dist 3 1\nt 1 0 {LAST}\n", "x node 1 NumberRange", f"certificate:2: t 1 0 {LAST}\n{far}", 1),
         ]:
@@ -328,6 +328,7 @@ class Converted(unittest.TestCase):
     @needs("scipy")
     def test_scipy(self):
         from scipy.optimize import linprog
+        from scipy.sparse import coo_matrix
         from scipy.sparse.csgraph import dijkstra, maximum_flow
 
         matrix = self.most.to_scipy()
@@ -343,6 +344,8 @@ class Converted(unittest.TestCase):
         program = self.least.to_scipy()
         found = linprog(**program)
         self.assertEqual(found.fun, dimacs.certify_min_arrays(self.least, self.least.flows_from(found)).value)
+        twice = coo_matrix(([0.1, 0.2], ([0, 0], [1, 1])), shape=(2, 2))  # in this format one edge of their sum, by SciPy
+        self.assertRaisesRegex(ValueError, "0.30000000000000004, not a multiple", lambda: Graph.from_scipy(twice, scale=10))
         found = Graph.from_scipy(matrix * 0.25, scale=Decimal("0.25"))
         self.assertEqual((found.weights.tolist(), found.units), ([3, 0, 7], (Decimal("0.25"), Decimal("0.25"))))
         with self.assertRaisesRegex(ValueError, r"the capacity at \(0, 1\) is \d+, which has more than 64 bits"):
