@@ -74,7 +74,8 @@ class Calls(unittest.TestCase):
             self.feasible(call.replace("infeasible", "min"), *words, no.flow)
             return [f"feasible {no.printed}"]
         except dimacs.Infeasible as no:
-            return [f"infeasible {shown(no.inside)}"]
+            getattr(dimacs, call.replace("solve_min", "judge_infeasible"))(*words, no.inside)
+            return ["infeasible", shown(no.inside)]
         except (dimacs.Refused, dimacs.PastLimit) as no:
             return ["past " * isinstance(no, dimacs.PastLimit) + said(call, no)]
         except dimacs.GaveUp:

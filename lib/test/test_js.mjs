@@ -130,7 +130,10 @@ function answerOf(name, given) {
         const said = saidOf(name, no), certifyMin = call.replace("Infeasible", "Min");
         if (no instanceof dimacs.NotOptimal) return feasible(call, [...given.slice(0, -1), no.better], `better ${said}`);
         if (no instanceof dimacs.Feasible) return feasible(certifyMin, [...given, no.flow], `feasible ${no.printed}`);
-        if (no instanceof dimacs.Infeasible) return [`infeasible ${shown(no.inside)}`];
+        if (no instanceof dimacs.Infeasible) {
+            dimacs[call.replace("solveMin", "judgeInfeasible")](...given, no.inside);
+            return ["infeasible", shown(no.inside)];
+        }
         if (no instanceof dimacs.Refused) return [saidOf(name, no)];
         if (no instanceof dimacs.PastLimit) return [`past ${saidOf(name, no)}`];
         if (no instanceof dimacs.GaveUp) return ["gave up"];

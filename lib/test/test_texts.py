@@ -13,7 +13,8 @@ from rows import rows  # tests/rows.py
 from shared import Said, raised
 
 FILES = dict(rows("files"))
-MAX, FLOW, MIN, UNMET, GRAPH, DIST, CLAIMED = map(FILES.get, ("max", "flow", "min", "unmet", "cycle", "labels", "near"))
+MAX, FLOW, CUT, MIN, LEAST, POT, SURPLUS = map(FILES.get, ("max", "flow", "cut", "min", "least", "pot", "unmet"))
+GRAPH, PAIRS, SOURCE, DIST, CLAIMED = map(FILES.get, ("cycle", "pairs", "source", "labels", "near"))
 DEAR = "s 15\nf 1 2 2\nf 1 3 2\nf 2 3 1\nf 2 4 1\nf 3 4 3\n"
 
 
@@ -26,7 +27,7 @@ class Judges(Said):
             handed = [dimacs.certify_max(form(MAX), FLOW).certificate, dimacs.certify_paths(form(GRAPH), CLAIMED).certificate]
             handed += raised(dimacs.NotOptimal, dimacs.certify_min, MIN, form(DEAR)).better, dimacs.solve_max(form(MAX)).solution
             handed += raised(dimacs.Feasible, dimacs.certify_infeasible, form(MIN)).flow, dimacs.convert("max", form(MAX))
-            handed += [raised(dimacs.Infeasible, dimacs.solve_min, form(UNMET)).certificate]
+            handed += [raised(dimacs.Infeasible, dimacs.solve_min, form(SURPLUS)).certificate]
             self.assertEqual({type(it) for it in handed}, {type(form(""))})
         self.says(dimacs.Refused, "instance 1 4 BadNumber", dimacs.show, "gr", "p sp 2 1\u00b9\n")
         self.assertTrue(dimacs.Verdict("pairs"))
