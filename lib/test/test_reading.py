@@ -51,7 +51,7 @@ class Rows(unittest.TestCase):
             (f"p sp {2**27} 9\n" + f"a {2**27} {2**27} {-LAST - 1}\n" * 9, Graph(2**27, *[[2**27] * 9] * 2, [-LAST - 1] * 9)),
             (f"s {LAST}\nf 1 2 {LAST}\nf 2 3 {-LAST - 1}\n", Solution(LAST, [LAST, -LAST - 1, 0, 0], OVER), OVER),
             ("f 1 3 -2\nc\nf 1 2 3\ns -7\nf 1 2 1\n", Solution(-7, [3, 0, 1, -2], OVER), OVER),
-            ("p cut 3 2\nu 3\nu 1\n", Cut([1, 0, 255])),
+            ("p cut 3 2\nu 3\nu 1\n", Cut([1, 0, 1])),
             ("p cut 500 1\nu 500\n", Cut([0] * 499 + [1])),
             (f"p pot 500 2\ny 500 +05\ny 1 {LAST}\n", Potentials([LAST] + [0] * 498 + [5])),
             (f"p distances 4 2\nt 3 1\nd 1 {far}\nt 1 2\nd 3 7\nd 2 -{far}\n", Distances(1, [0, -far, 7, float("inf")]), 1),
