@@ -333,8 +333,8 @@ def wanted_status(lines):
 
 # The layers but for that of the arrays: what tests each, and the least that passes in it.
 LAYERS = {
-    "C": (test_c, 2260),
-    "C++": (test_cpp, 1100),
+    "C": (test_c, 2100),
+    "C++": (test_cpp, 1040),
     "Rust": (test_cargo, 37),
     "Python": (test_python, 120),
     "wheel": (test_wheel, 1),

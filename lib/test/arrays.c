@@ -116,7 +116,6 @@ static void maximum_flows(void) {
     CASE("no arcs", solve_max(MAX(3, 1, 3, EMPTY, EMPTY, EMPTY)), 0, "v max 0\n", 0, 3);
     MISUSED("fewer heads", judge_max(MAX(4, 1, 4, TAILS, IDS(2, 3, 3, 4), CAPS), FLOW, CUT));
     MISUSED("fewer flows", certify_max(NETWORK, NUMBERS(4, 2, 2, 3)));
-    MISUSED("fewer bytes", judge_max(NETWORK, FLOW, MARKS(1, 0, 0)));
     CASE("source 5", judge_max(MAX(4, 5, 4, TAILS, HEADS, CAPS), FLOW, CUT), 2, "x node 5 NodeRange\n", 0);
     CASE("the greatest number as the sink", judge_max(MAX(4, 1, UINT32_MAX, TAILS, HEADS, CAPS), FLOW, CUT), 2,
          "x node 4294967295 NodeRange\n", 0);
@@ -147,7 +146,6 @@ static void least_costs(void) {
     CASE("potentials past 64 bits", certify_min(DEAR_CHAIN, NUMBERS(1, 1, 1)), 5, "g limit\n", 0);
     CASE("potentials past 64 bits", solve_min(DEAR_CHAIN), 5, "g limit\n", 0);
     MISUSED("fewer costs", judge_min(SHIP(LOWS, CAPS, NUMBERS(1, 2), SUPPLIES), LEAST, POTENTIALS));
-    MISUSED("fewer supplies", judge_min(SHIP(LOWS, CAPS, COSTS, NUMBERS(4, -4)), LEAST, POTENTIALS));
     MISUSED("fewer supplies", solve_min(SHIP(LOWS, CAPS, COSTS, NUMBERS(4, -4))));
     MISUSED("fewer flows", certify_min(SHIPPING, NUMBERS(2, 2, 2, 0)));
     MISUSED("more potentials", judge_min(SHIPPING, LEAST, NUMBERS(4, 2, 1, 0, 0)));

@@ -149,10 +149,6 @@ static void misuses() {
                         "flows has 1 items, and there are 5 arcs");
     throws<WrongLength>("fewer heads", [&] { return solve_max({4, 1, 4, tails, Ids{2}, caps}); },
                         "heads has 1 items, and there are 5 arcs");
-    throws<WrongLength>("more marks", [&] { return judge_infeasible(shipping, Inside(5)); },
-                        "inside has 5 items, and there are 4 nodes");
-    throws<WrongLength>("fewer distances", [&] { return certify_paths({4, tails, heads, caps}, 1, Amounts(3)); },
-                        "distances has 3 items, and there are 4 nodes");
     throws<WrongLength>("no kind", [&] { return convert(static_cast<Text>(99), max); },
                         "an array has another length than it has to have");
     throws_limit("the sink", [&] { return certify_max({4, 1, 1, tails, heads, caps}, flows); }, "x node 1 NodeTwice");
