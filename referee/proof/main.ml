@@ -1,10 +1,15 @@
 (* Gives the bytes of files to the judge, and prints what it says. Statuses and messages are those of docs/JUDGING.md. *)
 
+exception Usage
 exception Device of string
 
 let usage =
   "    judge max INSTANCE SOLUTION CUT            judge infeasible INSTANCE CUT\n\
-  \    judge min INSTANCE SOLUTION POTENTIALS     judge paths GRAPH QUERY LABELS"
+  \    judge min INSTANCE SOLUTION POTENTIALS     judge paths GRAPH QUERY LABELS\n\
+   without a certificate, which is written:\n\
+  \    judge certify-max INSTANCE SOLUTION [CUT]  judge certify-infeasible INSTANCE [CUT]\n\
+  \    judge certify-min INSTANCE SOLUTION [POTENTIALS]\n\
+  \    judge certify-paths GRAPH DISTANCES [LABELS]"
 
 (* The system's numbers of errors, as on Linux. *)
 let numbers =
@@ -36,14 +41,42 @@ let rec read command state (name, file) =
         for k = 0 to n - 1 do state := Judge.next_byte command !state bytes.(Char.code (Bytes.get piece k)) done;
         read command !state (name, file)
 
-let judge command files =
-  Option.get (Judge.report_of (List.fold_left (read command) (Judge.begun_run command) (List.map opened files)))
+let after_texts command names =
+  let files = List.map opened names in
+  let state = List.fold_left (read command) (Judge.begun_run command) files in
+  List.iter (fun (_, file) -> Unix.close file) files;
+  state
 
-let print lines =
+let judge command names = Option.get (Judge.report_of (after_texts command names)), None
+
+(* The first line of the report is printed. The file gets the others, if there are any. *)
+let certify command (names, made) =
+  let yes, lines = Option.get (Judge.report_of (Judge.text_ended command (after_texts command names))) in
+  (yes, [ List.hd lines ]), Option.map (fun name -> name, List.tl lines) made
+
+let rec write (name, file) text from =
+  if from < Bytes.length text then
+    write (name, file) text
+      (from + trying name "written" (fun () -> again (fun () -> Unix.single_write file text from (Bytes.length text - from))))
+
+let print device lines =
   let text = Buffer.create 65536 in
   let word = function Judge.Word s -> s | Judge.Decimal n -> Z.to_string n in
-  List.iter (fun line -> Buffer.add_string text (String.concat " " (List.map word line) ^ "\n")) lines;
-  trying "standard output" "written" (fun () -> ignore (Unix.write Unix.stdout (Buffer.to_bytes text) 0 (Buffer.length text)))
+  let flush () = write device (Buffer.to_bytes text) 0; Buffer.clear text in
+  List.iter (fun line ->
+    Buffer.add_string text (String.concat " " (List.map word line) ^ "\n");
+    if Buffer.length text > 60000 then flush ()) lines;
+  flush ()
+
+let create name =
+  name, trying name "created" (fun () -> again (fun () -> Unix.openfile name Unix.[ O_WRONLY; O_CREAT; O_TRUNC ] 0o666))
+
+(* So many names to read, and perhaps one to write. *)
+let parted count names =
+  match List.filteri (fun k _ -> k < count) names, List.filteri (fun k _ -> k >= count) names with
+  | read, [] when List.length read = count -> read, None
+  | read, [ made ] -> read, Some made
+  | _ -> raise Usage
 
 (* Whether the bytes from k on are UTF-8. *)
 let rec is_utf8 s k =
@@ -57,25 +90,39 @@ let rec is_utf8 s k =
      && (first <> 0xF0 || second >= 0x90) && (first <> 0xF4 || second < 0x90)
      && is_utf8 s (k + 1 + count)
 
+let run command names =
+  match command, names with
+  | _ when not (List.for_all (fun name -> is_utf8 name 0) names) -> raise Usage
+  | "max", [ _; _; _ ] -> judge Judge.command_max names
+  | "min", [ _; _; _ ] -> judge Judge.command_min names
+  | "infeasible", [ _; _ ] -> judge Judge.command_infeasible names
+  | "paths", [ _; _; _ ] -> judge Judge.command_paths names
+  | "certify-max", _ -> certify (Judge.command_certify_max Search.max) (parted 2 names)
+  | "certify-min", _ -> certify (Judge.command_certify_min Search.min) (parted 2 names)
+  | "certify-infeasible", _ -> certify (Judge.command_certify_infeasible Search.infeasible) (parted 1 names)
+  | "certify-paths", _ -> certify (Judge.command_certify_paths Search.paths) (parted 2 names)
+  | _ -> raise Usage
+
+(* A file that is opened doesn't take the place of a standard device that is closed. *)
+let keep_closed device =
+  try ignore (Unix.fstat device) with Unix.Unix_error _ -> ignore (Unix.openfile "/dev/null" [ Unix.O_RDONLY ] 0)
+
+(* What can't be said changes no status. *)
+let complain status text = (try prerr_endline ("judge: " ^ text) with Sys_error _ -> ()); status
+
 let status =
   Sys.set_signal Sys.sigpipe Sys.Signal_ignore;
   Gc.(set { (get ()) with minor_heap_size = 1 lsl 20; space_overhead = 60 });
-  let command, files = match Array.to_list Sys.argv with _ :: command :: files -> command, files | _ -> "", [] in
   try
-    let yes, lines =
-      match command, files with
-      | _ when not (List.for_all (fun file -> is_utf8 file 0) files) -> raise Not_found
-      | "max", [ _; _; _ ] -> judge Judge.command_max files
-      | "min", [ _; _; _ ] -> judge Judge.command_min files
-      | "infeasible", [ _; _ ] -> judge Judge.command_infeasible files
-      | "paths", [ _; _; _ ] -> judge Judge.command_paths files
-      | _ -> raise Not_found
-    in
-    print lines;
-    if yes then 0 else 1
+    List.iter keep_closed Unix.[ stdin; stdout; stderr ];
+    let (yes, lines), file =
+      match Array.to_list Sys.argv with _ :: command :: names -> run command names | _ -> raise Usage in
+    Option.iter (fun (name, made) -> if made <> [] then print (create name) made) file;
+    print ("standard output", Unix.stdout) lines;
+    if yes then 0 else if lines = [ [ Judge.Word "g"; Judge.Word "search" ] ] then 5 else 1
   with
-  | Not_found -> prerr_endline ("judge: usage\n" ^ usage); 2
-  | Device message -> prerr_endline ("judge: device fault\njudge: " ^ message); 3
-  | Out_of_memory | Stack_overflow -> prerr_endline "judge: out of memory"; 4
+  | Usage -> complain 2 ("usage\n" ^ usage)
+  | Device message -> complain 3 ("device fault\njudge: " ^ message)
+  | Out_of_memory | Stack_overflow -> complain 4 "out of memory"
 
 let () = exit status

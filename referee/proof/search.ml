@@ -1,0 +1,231 @@
+(* Searches certificates, and better flows. Nothing is proved of this file: the judge reads and tests what it writes. *)
+
+module Integers = Z
+open Judge
+module Z = Integers
+
+(* Nodes are those that occur, numbered from 0. Residual arc 2 k is arc k, and 2 k + 1 is arc k back. *)
+type graph = {
+  arcs : arc array;
+  ids : int array;
+  number : (int, int) Hashtbl.t;
+  tails : int array;
+  heads : int array;
+  first : int array;  (* the residual arcs out of node v are out.(first.(v)) up to first.(v + 1) *)
+  out : int array;
+}
+
+let size g = Array.length g.ids
+let from g r = if r land 1 = 0 then g.tails.(r / 2) else g.heads.(r / 2)
+let goal g r = if r land 1 = 0 then g.heads.(r / 2) else g.tails.(r / 2)
+let number_of g id = Hashtbl.find_opt g.number (Z.to_int id)
+
+(* For each node the places of its residual arcs, in their order. *)
+let incidence n tails heads =
+  let first = Array.make (n + 2) 0 and out = Array.make (2 * Array.length tails) 0 in
+  let count v = first.(v + 2) <- first.(v + 2) + 1 in
+  Array.iter count tails;
+  Array.iter count heads;
+  for v = 2 to n + 1 do first.(v) <- first.(v) + first.(v - 1) done;
+  let put v r = out.(first.(v + 1)) <- r; first.(v + 1) <- first.(v + 1) + 1 in
+  Array.iteri (fun k v -> put v (2 * k); put heads.(k) (2 * k + 1)) tails;
+  first, out
+
+(* The graph of a network, and of other nodes. *)
+let graph_of (network : network) others =
+  let arcs = Array.of_list network.arcs in
+  let number = Hashtbl.create 1024 and ids = ref [] in
+  let numbered id =
+    let id = Z.to_int id in
+    try Hashtbl.find number id with Not_found -> let v = Hashtbl.length number in Hashtbl.add number id v; ids := id :: !ids; v in
+  let tails = Array.map (fun a -> numbered a.tail) arcs in
+  let heads = Array.map (fun a -> numbered a.head) arcs in
+  List.iter (fun id -> ignore (numbered id)) others;
+  let first, out = incidence (Hashtbl.length number) tails heads in
+  { arcs; ids = Array.of_list (List.rev !ids); number; tails; heads; first; out }
+
+(* ---- Flows *)
+
+let amounts_of (x : flow) = Array.of_list (List.rev (List.rev_map snd x))
+let room g x r = let a = g.arcs.(r / 2) in if r land 1 = 0 then Z.sub a.cap x.(r / 2) else Z.sub x.(r / 2) a.low
+let has_room g x r = Z.sign (room g x r) > 0
+let push x n r = x.(r / 2) <- (if r land 1 = 0 then Z.add else Z.sub) x.(r / 2) n
+
+(* As much as fits along some residual arcs, at most so much. *)
+let push_all g x most path = let n = List.fold_left (fun n r -> Z.min n (room g x r)) most path in List.iter (push x n) path; n
+
+(* The nodes that are reached from some over residual arcs with room, in order, and by node the arc to it, -1 for the first ones,
+   or -2. *)
+let reached g x sources =
+  let via = Array.make (size g) (-2) and queue = Array.make (size g) 0 and count = ref 0 and next = ref 0 in
+  let reach v r = if via.(v) = -2 then (via.(v) <- r; queue.(!count) <- v; incr count) in
+  List.iter (fun v -> reach v (-1)) sources;
+  while !next < !count do
+    let v = queue.(!next) in
+    incr next;
+    for j = g.first.(v) to g.first.(v + 1) - 1 do if has_room g x g.out.(j) then reach (goal g g.out.(j)) g.out.(j) done
+  done;
+  via, Array.sub queue 0 !count
+
+(* The residual arcs from one node to another, each found before the next. *)
+let path_of g via start v = let rec back v path = if v = start then path else back (from g via.(v)) (via.(v) :: path) in back v []
+
+let line word numbers = String.concat " " (word :: List.map Z.to_string numbers)
+let headed word (network : network) lines = line word [ network.nodes; Z.of_int (List.length lines) ] :: lines
+
+let cut_of g network nodes =
+  let ids = Array.map (fun v -> g.ids.(v)) nodes in
+  Array.sort compare ids;
+  Shown (headed "p cut" network (List.map (fun id -> line "u" [ Z.of_int id ]) (Array.to_list ids)))
+
+(* A flow with its value or cost. One out of range, which no text can claim, is written as 0. *)
+let solution_of g x value =
+  let entry k n = line "f" [ g.arcs.(k).tail; g.arcs.(k).head; n ] in
+  let value = if Z.leq (Z.abs value) most_value then value else Z.zero in
+  Better (line "s" [ value ] :: Array.to_list (Array.mapi entry x))
+
+let cost_of g x =
+  let total = ref Z.zero in
+  Array.iteri (fun k n -> total := Z.add !total (Z.mul g.arcs.(k).cost n)) x;
+  !total
+
+(* A cut of the nodes that can be reached; or more along one path. *)
+let max (i : max_instance) (x : flow) =
+  let g = graph_of i.max_network [ i.source; i.sink ] and x = amounts_of x in
+  let source = Option.get (number_of g i.source) and sink = Option.get (number_of g i.sink) in
+  let via, nodes = reached g x [ source ] in
+  if via.(sink) = -2 then cut_of g i.max_network nodes
+  else begin
+    let path = path_of g via source sink in
+    ignore (push_all g x (room g x (List.hd path)) path);
+    let net = ref Z.zero in
+    Array.iteri (fun k n ->
+      if g.tails.(k) = source then net := Z.add !net n;
+      if g.heads.(k) = source then net := Z.sub !net n) x;
+    solution_of g x !net
+  end
+
+(* A cycle of residual arcs, of negative cost. *)
+exception Cycle of int list
+
+(* Bellman and Ford's labels from 0 everywhere, with Tarjan's disassembly: the nodes are a tree, in preorder, below a root with
+   the number n. If a node gets a lesser label, those below it leave the tree; if the arc comes from one of them, it closes a
+   cycle of negative cost. *)
+let labels_of g x =
+  let n = size g in
+  let label = Array.make (n + 1) Z.zero and via = Array.make (n + 1) (-1) and depth = Array.make (n + 1) 1 in
+  let after = Array.init (n + 1) (fun v -> if v = n then 0 else v + 1) in
+  let before = Array.init (n + 1) (fun v -> if v = 0 then n else v - 1) in
+  depth.(n) <- 0;
+  let queue = Queue.create () and queued = Array.make n true in
+  for v = 0 to n - 1 do Queue.add v queue done;
+  let cost r = let c = g.arcs.(r / 2).cost in if r land 1 = 0 then c else Z.neg c in
+  let leave v u r =
+    let last = ref after.(v) in
+    while depth.(!last) > depth.(v) do
+      if !last = u then raise (Cycle (r :: path_of g via v u));
+      depth.(!last) <- -1;
+      last := after.(!last)
+    done;
+    if u = v then raise (Cycle [ r ]);
+    after.(before.(v)) <- !last;
+    before.(!last) <- before.(v) in
+  let lower r u v it =
+    if depth.(v) > 0 then leave v u r;
+    label.(v) <- it; via.(v) <- r; depth.(v) <- depth.(u) + 1;
+    after.(v) <- after.(u); before.(v) <- u; before.(after.(u)) <- v; after.(u) <- v;
+    if not queued.(v) then (queued.(v) <- true; Queue.add v queue) in
+  while not (Queue.is_empty queue) do
+    let u = Queue.pop queue in
+    queued.(u) <- false;
+    if depth.(u) > 0 then
+      for j = g.first.(u) to g.first.(u + 1) - 1 do
+        let r = g.out.(j) in
+        if has_room g x r then begin
+          let v = goal g r and it = Z.add label.(u) (cost r) in
+          if Z.lt it label.(v) then lower r u v it
+        end
+      done
+  done;
+  label
+
+(* Potentials, or less cost along one cycle. *)
+let min (i : min_instance) (x : flow) =
+  let g = graph_of i.min_network [] and x = amounts_of x in
+  match labels_of g x with
+  | label ->
+      let nodes = List.filter (fun v -> Z.sign label.(v) <> 0) (List.init (size g) Fun.id) in
+      let nodes = List.sort (fun v w -> compare g.ids.(v) g.ids.(w)) nodes in
+      Shown (headed "p pot" i.min_network (List.map (fun v -> line "y" [ Z.of_int g.ids.(v); Z.neg label.(v) ]) nodes))
+  | exception Cycle path ->
+      ignore (push_all g x (room g x (List.hd path)) path);
+      solution_of g x (cost_of g x)
+
+(* One round of Dinic: along shortest paths from the nodes that have to send more to those that send too much. *)
+let push_round g x more (via, nodes) =
+  let level = Array.make (size g) (-1) and next = Array.copy g.first in
+  Array.iter (fun v -> level.(v) <- if via.(v) = -1 then 0 else level.(from g via.(v)) + 1) nodes;
+  (* From v, with the arcs to it, the last first. *)
+  let rec search source v path =
+    if Z.sign more.(v) < 0 then begin
+      let n = push_all g x (Z.min more.(source) (Z.neg more.(v))) path in
+      more.(source) <- Z.sub more.(source) n;
+      more.(v) <- Z.add more.(v) n;
+      if Z.sign more.(source) > 0 then search source source []
+    end
+    else if next.(v) < g.first.(v + 1) then begin
+      let r = g.out.(next.(v)) in
+      if level.(goal g r) = level.(v) + 1 && has_room g x r then search source (goal g r) (r :: path)
+      else (next.(v) <- next.(v) + 1; search source v path)
+    end
+    else match path with [] -> () | r :: path -> let u = from g r in next.(u) <- next.(u) + 1; search source u path in
+  Array.iter (fun v -> if via.(v) = -1 then search v v []) nodes
+
+(* A feasible flow, or the set of nodes that can be reached from those that have to send more. *)
+let infeasible (i : min_instance) =
+  let g = graph_of i.min_network (List.rev_map fst i.supplies) in
+  let x = Array.map (fun a -> a.low) g.arcs and more = Array.make (size g) Z.zero in
+  let add v amount = more.(v) <- Z.add more.(v) amount in
+  List.iter (fun (id, supply) -> add (Option.get (number_of g id)) supply) i.supplies;
+  Array.iteri (fun k a -> add g.tails.(k) (Z.neg a.low); add g.heads.(k) a.low) g.arcs;
+  let are_sources sign = List.filter (fun v -> Z.sign more.(v) = sign) (List.init (size g) Fun.id) in
+  let rec rounds () =
+    match are_sources 1, are_sources (-1) with
+    | [], [] -> solution_of g x (cost_of g x)
+    | [], _ -> cut_of g i.min_network (Array.init (size g) Fun.id)
+    | sources, _ ->
+        let via, nodes = reached g x sources in
+        if Array.for_all (fun v -> Z.sign more.(v) >= 0) nodes then cut_of g i.min_network nodes
+        else (push_round g x more (via, nodes); rounds ()) in
+  rounds ()
+
+(* ---- Distances *)
+
+(* For each block the labels that tight arcs reach from its source; up to the first block that has others. *)
+let paths (network : network) (l : labelling) =
+  let g = graph_of network [] in
+  let label = Array.make (size g) Z.zero and mark = Array.make (size g) 0 in
+  let block number b =
+    let to_reach = 2 * number + 1 and queue = Queue.create () and lines = ref [] and count = ref 0 in
+    let note id d = Option.iter (fun v -> label.(v) <- d; mark.(v) <- to_reach) (number_of g id) in
+    List.iter (fun l -> note l.id l.dist) b.labels;
+    let reach v = mark.(v) <- to_reach + 1; Queue.add v queue in
+    Option.iter (fun v -> label.(v) <- Z.zero; reach v) (number_of g b.start);
+    while not (Queue.is_empty queue) do
+      let v = Queue.pop queue in
+      for j = g.first.(v) to g.first.(v + 1) - 1 do
+        let r = g.out.(j) in
+        let w = goal g r in
+        if r land 1 = 0 && mark.(w) = to_reach && Z.equal (Z.add label.(v) g.arcs.(r / 2).cost) label.(w) then begin
+          reach w;
+          incr count;
+          lines := line "d" [ Z.of_int g.ids.(w); label.(w); Z.of_int g.ids.(v) ] :: !lines
+        end
+      done
+    done;
+    line "t" [ b.start; Z.of_int !count ] :: List.rev !lines, !count = List.length b.labels in
+  let rec all number done_ = function
+    | [] -> number, done_
+    | b :: more -> let lines, is_whole = block number b in all (number + 1) (List.rev_append lines done_) (if is_whole then more else []) in
+  let count, lines = all 0 [] l.blocks in
+  line "p dist" [ network.nodes; Z.of_int count ] :: List.rev lines
