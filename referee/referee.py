@@ -3,6 +3,7 @@
 
     referee.py max INSTANCE SOLUTION CUT            referee.py infeasible INSTANCE CUT
     referee.py min INSTANCE SOLUTION POTENTIALS     referee.py paths GRAPH QUERY LABELS
+    It needs a certificate. Without one, certify-max and so on of `make referee`'s build/referee/judge make it.
 
 It is a transcript of docs/TEXTS.md and docs/JUDGING.md, in their words and order: read it beside them. It was written
 from these two pages alone, by someone who hadn't seen the code of `dimacs`. It is not proved.
@@ -267,11 +268,19 @@ def judge(command, texts):
         return 1, f"{refusal}\n"
 
 
+def complain(status, *lines):
+    """The status, whether the message can be written or not."""
+    try:
+        os.write(2, "".join(f"{line}\n" for line in lines).encode())
+    except OSError:
+        pass
+    return status
+
+
 def main(command="", *files):
     not_utf8 = re.search("[\udc80-\udcff]", "".join(files))
     if command not in JUDGES or len(files) != len(JUDGES[command][1]) or not_utf8:
-        print("referee: usage", __doc__.split("\n\n")[1], sep="\n", file=sys.stderr)
-        return 2
+        return complain(2, "referee: usage", __doc__.split("\n\n")[1])
     at = [""]  # the file, and what can't be done with it, if it fails
 
     def opened(name):
@@ -289,11 +298,9 @@ def main(command="", *files):
             out.write(output)
         return status
     except OSError as error:
-        print(f"referee: device fault\nreferee: {at[0]}: {error.strerror} (os error {error.errno})", file=sys.stderr)
-        return 3
+        return complain(3, "referee: device fault", f"referee: {at[0]}: {error.strerror} (os error {error.errno})")
     except MemoryError:
-        print("referee: out of memory", file=sys.stderr)
-        return 4
+        return complain(4, "referee: out of memory")
 
 
 if __name__ == "__main__":

@@ -4,8 +4,9 @@
 The program, referee/referee.py and the judge in Coq (`make referee`) judge COUNT cases (10,000 if it isn't given), whose
 texts spoiled_texts.py makes at random, and have to print the same, with the same status. Listed is how often each answer
 of a judge was met, and each fault of a text by KIND, letter, field and reason; what wasn't met has failed, but
-LineLimit, which takes 10^12 lines. Then all run with files that fail, and with wrong arguments. At last the referees
-alone judge the rows of tests/rows.
+LineLimit, which takes 10^12 lines. A fifth as many claims are certified without a certificate, by the program and by the
+judge in Coq (certified.py); its search made wrong, this gives no wrong answer. Then all run with files and outputs that
+fail, and with wrong arguments. At last the referees alone judge the rows of tests/rows.
 
 BINARY is the built program; crates/dimacs/out/dimacs by default. Without Coq its judge is left out.
 """
@@ -18,8 +19,10 @@ import subprocess
 import sys
 import tempfile
 
+import certified
 import scripts
-from instances import BINARY, MEMORY, Folder
+from certified import Texts, run
+from instances import BINARY, MEMORY
 from rows import rows
 from spoiled_texts import JUDGES, KINDS, judged_texts
 import referee  # the folder of which spoiled_texts.py adds to the path
@@ -99,12 +102,6 @@ def to_be_met():
     return list(dict.fromkeys(listed))
 
 
-class Texts(Folder):
-    """Texts with a character for each byte."""
-
-    encoding = ("latin-1",)
-
-
 def write(folder, texts):
     for name, text in texts.items():
         Texts(folder).write(name, text)
@@ -158,12 +155,30 @@ def compare_all(binary, judge, count, seed):
     return count + len(listed), failures
 
 
+def certify_all(binary, judge, count, seed):
+    """How many claims are certified, and which of them otherwise by the judge in Coq; the same for wrong searches."""
+    cases = [(certified.COMMANDS[number % 4], f"{seed}:{number}") for number in range(count)]
+    found, failures = collections.Counter(), []
+    with concurrent.futures.ProcessPoolExecutor(WORKERS) as pool:
+        for counts, differing in pool.map(certified.compared, *map(itertools.repeat, (binary, judge)), [cases[k::50] for k in range(50)]):
+            found += counts
+            failures += differing
+    failures += [f"certify-{it}: never met" for it in certified.ANSWERS if not found[it]]
+    parts = [(count, failures), certified.wrong_searches(binary, 24), certified.refused_calls(judge, FILES)]
+    return sum(tests for tests, _ in parts), [failure for _, some in parts for failure in some]
+
+
 # ---- the commands
 
 FILES = {
     "max": "p max 2 1\nn 1 s\nn 2 t\na 1 2 1\n",
     "flow": "s 1\nf 1 2 1\n",
+    "zero": "s 0\n",
+    "gr": "p sp 1 0\n",
+    "many": "p aux sp p2p 20000\n" + "q 1 1\n" * 20_000,
+    "dist": "p dist 1 1\nt 1 0\n",
     "cut": "p cut 2 1\nu 1\n",
+    "near": "p distances 1 1\nt 1 0\n",
     "min": "p min 1 0\nn 1 1\n",
     "set": "p cut 1 1\nu 1\n",
     "faulty": "p max 2 1\nn 1\n",
@@ -176,31 +191,49 @@ RUNS = [
     *["max max flow cut\udcff", "max \udcff flow cut", "--help", "max max flow --help"],
     *["max absent flow cut", "max max absent cut", "max faulty flow absent", "max absent absent absent"],
     *["max folder flow cut", "max max folder cut", "max faulty folder cut", "max max faulty folder"],
+    *["max absent1 absent2 cut", "max loop flow cut", "paths gr many dist"],
+    # Bytes just outside of UTF-8, and just inside.
+    *[f"max {name} flow cut" for name in ["\udce0\udc9f\udcbf", "\udced\udca0\udc80", "\udcf0\udc8f\udcbf\udcbf"]],
+    *[f"max {name} flow cut" for name in ["\udcf4\udc90\udc80\udc80", "\u0800", "\ud7ff", "\U00010000", "\U0010ffff"]],
 ]
 
+# Those of certifiers, which the referee in Python doesn't have.
+CERTIFIED_RUNS = [
+    *["max max flow", "max max flow made", "max max zero", "max max zero made", "max max zero zero", "infeasible min made"],
+    *["paths gr near made", "max max flow made more", "max max", "infeasible", "infeasible min made more", "max max flow \udcff"],
+    *["max max flow folder", "max max zero absent/made", "max faulty flow made", "max max absent made", "max max flow /dev/full"],
+]
 
-def run(words, folder, output):
-    """The status, the output, and the messages without the program's name and the usage text."""
-    ran = subprocess.run(words, stdout=output, stderr=subprocess.PIPE, cwd=folder, text=True, check=False)
-    messages = [line.partition(": ")[2] for line in ran.stderr.splitlines()]
-    return ran.returncode, ran.stdout, messages[:1] if ran.returncode == 2 else messages
+# How the shell closes devices, or fills them.
+CLOSED = [("max absent flow cut", "2>&-"), ("max absent flow cut", "2>/dev/full"), ("max max flow cut", ">&-"), ("max", "2>&-")]
+CLOSED += [("max max flow cut", "<&- >&-"), ("max max flow cut", "<&- 2>&-"), ("max max flow max", ">&- 2>&-")]
+CLOSED += [("max max flow cut", ">/dev/full"), ("max max flow max", ">/dev/full"), ("max max flow cut", "| (exec <&-; sleep 0.1)")]
+
+
+def ended(words, how, folder):
+    """How a command ends whose devices the shell closes, and what all files hold then, but for long ones."""
+    write(folder, FILES)
+    shell = ["bash", "-c", f'{{ sleep 0.05; "$@"; }} {how}; exit ${{PIPESTATUS[0]}}', "bash"] if "|" in how else ["sh", "-c", f'"$@" {how}', "sh"]
+    answer = run([*shell, *words] if how else words, folder)
+    made = Texts(folder).taken("made")
+    return answer, made, {name: Texts(folder).read(name) for name in FILES if name != "many"}
 
 
 def compare_commands(binary, second):
     """How many runs there are, and those in which the answers differ."""
-    failures = []
-    with tempfile.TemporaryDirectory(dir=MEMORY) as folder, open("/dev/full", "wb") as full:
-        write(folder, FILES)
+    failures, runs = [], [("judge", words, "") for words in RUNS] + [("judge", *it) for it in CLOSED]
+    if second:
+        runs += [("certify", words, "") for words in CERTIFIED_RUNS] + [("certify", "max max flow made", how) for _, how in CLOSED]
+    with tempfile.TemporaryDirectory(dir=MEMORY) as folder:
         os.mkdir(os.path.join(folder, "folder"))
-        runs = [(words, subprocess.PIPE) for words in RUNS] + [("max max flow cut", full), ("max max flow max", full)]
-        for words, output in runs:
-            judge = [f"judge-{words}".split(), []][not words]
-            proved = run([binary, *judge], folder, output)
-            plain = run([sys.executable, referee.__file__, *words.split()], folder, output)
-            again = run([second, *words.split()], folder, output) if second else plain
+        os.symlink("loop", os.path.join(folder, "loop"))
+        for kind, words, how in runs:
+            proved = ended([binary, *(f"{kind}-{words}" if words else "").split()], how, folder)
+            plain = ended([sys.executable, referee.__file__, *words.split()], how, folder) if kind == "judge" else proved
+            again = ended([second, *[words, f"certify-{words}"][kind == "certify"].split()], how, folder) if second else plain
             if not proved == plain == again:
                 answers = f"the program {proved}, the referee {plain}, the judge in Coq {again}"
-                failures.append(f"the arguments {words!r}: {answers}")
+                failures.append(f"{kind}-{words!a} {how}: {answers}"[:2000])
     return len(runs), failures
 
 
@@ -267,6 +300,7 @@ def main():
     binary = os.path.abspath(binary)
     second = second_judge()
     parts = [compare_all(binary, second, int(count), seed), compare_commands(binary, second), judge_tables(second)]
+    parts += [certify_all(binary, second, int(count) // 5, seed)] if second else []
     failures = [failure for _, some in parts for failure in some]
     for failure in failures:
         print(f"FAILED: {failure}")

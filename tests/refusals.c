@@ -186,6 +186,16 @@ int open(const char *name, int flags, ...)
     return file;
 }
 
+/* The names by which the judge in Coq calls the same. */
+#define TEXT(name) #name
+#define TEXT_OF(name) TEXT(name)
+int open64(const char *name, int flags, ...) __attribute__((alias(TEXT_OF(open))));
+
+ssize_t __read_chk(int file, void *into, size_t size, size_t room)
+{
+    return read(file, into, size < room ? size : room);
+}
+
 int close(int file)
 {
     note("closed", name_of(file));

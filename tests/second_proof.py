@@ -2,8 +2,8 @@
 """Tests the judge in Coq, referee/proof: tests/second_proof.py
 
 `make referee` has coqc check all files. Then second_proof.v compares the statement of each promise with the text there,
-and no promise may use an axiom. In copies of one file a proof is left out, an axiom is used, a promise is missing or has
-a weaker statement, a test is left out: each has to be found. tests/referee.py compares what the judge answers.
+and no promise may use an axiom. In copies of a file a proof is left out, an axiom is used, a promise is missing or has a
+weaker statement, a test is left out: each has to be found. tests/referee.py compares what the judge answers.
 """
 import os
 import re
@@ -17,19 +17,41 @@ from scripts import TOP
 BUILT = f"{TOP}/build/referee"
 NEEDED = ["coqc", "ocamlfind", "flock"]
 
-# What is replaced in Judge.v, by what, and what is found wrong then.
-PROMISE = "Theorem promise_infeasible a c out"
-PROOF = "rewrite run_infeasible_is. intros (i & I"
-UNPROVED, AXIOM, UNSTATED = "Judge.v isn't proved", "a promise uses an axiom", "a statement isn't proved"
+# The files with promises, each after those that it needs.
+FILES = ["Canonical", "Judge", "Certify", "Complete"]
+
+UNPROVED, AXIOM, UNSTATED = "the file isn't proved", "a promise uses an axiom", "a statement isn't proved"
+
+
+def spoiled(theorem, proof, weaker):
+    """What is replaced of a theorem, which begins and whose proof begins so, by what, and what is found wrong then."""
+    name = theorem.split()[0]
+    return {
+        "a proof is left out": (AXIOM, [(f"Theorem {theorem}", f"Lemma left_out : 0 = 1.\nAdmitted.\nTheorem {theorem}"), (proof, f"pose left_out. {proof}")]),
+        "an axiom is used": (AXIOM, [(f"Theorem {theorem}", f"Axiom is_well : 0 = 1.\nTheorem {theorem}"), (proof, f"pose is_well. {proof}")]),
+        "a promise is missing": (UNSTATED, [(f"Theorem {theorem}", f"Theorem {theorem.replace(name, name + '_or_not')}")]),
+        "a statement is weaker": (UNSTATED, weaker),
+    }
+
+
 SPOILED = {
-    "a proof is left out": (AXIOM, [("exists i, k. auto.\nQed.", "exists i, k. auto.\nAdmitted.")]),
-    "an axiom is used": (AXIOM, [(PROMISE, f"Axiom is_well : False.\n{PROMISE}"), (PROOF, f"assert (well := is_well). {PROOF}")]),
-    "a promise is missing": (UNSTATED, [(PROMISE, f"{PROMISE}_or_not".replace(" a c out_or_not", "_or_not a c out"))]),
-    "a statement is weaker": (
-        UNSTATED,
+    "Judge": spoiled(
+        "promise_infeasible a c out",
+        "rewrite run_infeasible_is. intros (i & I",
         [("/\\ no_flow i /\\ out", "/\\ (no_flow i \\/ out = out) /\\ out"), ("exists i, k. auto.", "exists i, k. auto 6.")],
+    )
+    | {"another program is promised": (UNPROVED, [("quick_infeasible i k", "None")])},
+    "Certify": spoiled(
+        "promise_certify_infeasible search a r",
+        "rewrite (run_without_second_is",
+        [("/\\ refutes_max i s file /\\ ~ true_max i s)))", "/\\ refutes_max i s file)))")],
+    )
+    | {"a certificate isn't tested": (UNPROVED, [("(quick_infeasible i) (true", "(fun _ => None) (true")])},
+    "Complete": spoiled(
+        "every_infeasible_is_shown a i",
+        "intros I F. destruct (min_keeps_more",
+        [("true_max i s ->\n  exists c", "true_max i s -> a = b ->\n  exists c"), ("intros I S K [M V]. destruct (max", "intros I S K [M V] _. destruct (max")],
     ),
-    "another program is promised": (UNPROVED, [("quick_infeasible i k", "None")]),
 }
 
 
@@ -39,15 +61,18 @@ def coqc(folder, file):
     return ran.stdout + ran.stderr, ran.returncode == 0
 
 
-def stated():
-    """The text of second_proof.v, and the theorems that it states."""
+def stated(upto="Complete"):
+    """The text of second_proof.v, up to the part that needs a file, and the theorems that it states."""
     text = scripts.read("tests/second_proof.v")
+    parts = re.split(r"^(?=From Dimacs)", text, flags=re.MULTILINE)
+    last = next(k for k, part in enumerate(parts) if re.match(rf"From Dimacs .*\b{upto}\b", part))
+    text = "".join(parts[: last + 1])
     return text, [name for name in re.findall(r"^Check @?(\w+) :", text, re.MULTILINE) if name != "eq_refl"]
 
 
-def wrong_in(folder):
+def wrong_in(folder, upto="Complete"):
     """Yields what is wrong with what is proved in a folder. One question for all axioms takes less time than one for each."""
-    text, names = stated()
+    text, names = stated(upto)
     with open(f"{folder}/second_proof.v", "w", encoding="utf-8") as it:
         it.write(f"{text}Definition stated := ({', '.join(f'@{name}' for name in names)}).\nPrint Assumptions stated.\n")
     output, accepted = coqc(folder, "second_proof.v")
@@ -58,32 +83,32 @@ def wrong_in(folder):
 
 
 def unstated():
-    """Yields each theorem of Judge.v and Canonical.v that isn't stated in second_proof.v."""
-    for file in ("Judge", "Canonical"):
+    """Yields each theorem of the files that isn't stated in second_proof.v."""
+    for file in FILES:
         for name in re.findall(r"^Theorem (\w+)", scripts.read(f"referee/proof/{file}.v"), re.MULTILINE):
             if name not in stated()[1]:
                 yield f"{name} isn't stated in second_proof.v"
 
 
-def link_built(folder, *but):
-    """Puts what coqc made of the files into a folder, but of these."""
+def link_built(folder, but=None):
+    """Puts what coqc made of the files into a folder, but of this one."""
     for name in os.listdir(BUILT):
-        if name.endswith(".vo") and name not in but:
+        if name.endswith(".vo") and name != f"{but}.vo":
             os.symlink(f"{BUILT}/{name}", f"{folder}/{name}")
 
 
-def unfound(wanted, edits):
-    """Yields how an edit of Judge.v fails to be found wrong, for this reason."""
+def unfound(file, wanted, edits):
+    """Yields how an edit of a file fails to be found wrong, for this reason."""
     with tempfile.TemporaryDirectory() as folder:
-        link_built(folder, "Judge.vo")
-        text = scripts.read("referee/proof/Judge.v")
+        link_built(folder, file)
+        text = scripts.read(f"referee/proof/{file}.v")
         for old, new in edits:
             if text.count(old) != 1:
                 yield f"{old!r} stands {text.count(old)} times"
             text = text.replace(old, new)
-        with open(f"{folder}/Judge.v", "w", encoding="utf-8") as it:
+        with open(f"{folder}/{file}.v", "w", encoding="utf-8") as it:
             it.write(text)
-        found = list(wrong_in(folder)) if coqc(folder, "Judge.v")[1] else [UNPROVED]
+        found = list(wrong_in(folder, file)) if coqc(folder, f"{file}.v")[1] else [UNPROVED]
         if not any(it.startswith(wanted) for it in found):
             yield f"found is {found or 'nothing'}, and not: {wanted}"
 
@@ -100,11 +125,12 @@ def main():
     with tempfile.TemporaryDirectory() as folder:
         link_built(folder)
         failures = [*wrong_in(folder), *unstated()]
-    for name, spoiled in SPOILED.items():
-        failures += [f"{name}: {it}" for it in unfound(*spoiled)]
+    cases = [(file, name, *case) for file, cases in SPOILED.items() for name, case in cases.items()]
+    for file, name, *case in cases:
+        failures += [f"{file}.v, {name}: {it}" for it in unfound(file, *case)]
     for it in failures:
         print(f"FAILED: {it}")
-    tests = len(stated()[1]) + len(SPOILED) + 1
+    tests = len(stated()[1]) + len(cases) + 1
     scripts.finish(max(tests - len(failures), 0), len(failures))
 
 

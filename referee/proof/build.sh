@@ -20,7 +20,7 @@ mkdir -p "$1"
 cd "$1"
 exec 9>lock
 flock 9
-sources=$(cd "$here" && cat ./*.v search.ml main.ml build.sh | sha256sum)
+sources=$(cd "$here" && cat ./*.v search.ml main.ml memory.c build.sh | sha256sum)
 [ "$sources" != "$(cat built 2>/dev/null)" ] || exit 0
 rm -f built
 set -- -name lock
@@ -39,9 +39,9 @@ for it in $proofs; do
         echo "$before" >$it.checked
     fi
 done
-cp "$here/Extract.v" "$here/search.ml" "$here/main.ml" .
-echo "coqc Extract.v; ocamlfind ocamlopt judge.ml search.ml main.ml"
+cp "$here/Extract.v" "$here/search.ml" "$here/main.ml" "$here/memory.c" .
+echo "coqc Extract.v; ocamlfind ocamlopt judge.ml search.ml memory.c main.ml"
 coqc -q -R . Dimacs Extract.v
-ocamlfind ocamlopt -inline 100 -package zarith,unix -linkpkg -w -a judge.mli judge.ml search.ml main.ml -o judge
+ocamlfind ocamlopt -inline 100 -package zarith,unix -linkpkg -w -a judge.mli judge.ml search.ml memory.c main.ml -o judge
 echo "$sources" >built
 echo "Try:  $(pwd)/judge certify-max examples/pipes.max examples/pipes.solution"

@@ -1,5 +1,9 @@
 (* Gives the bytes of files to the judge, and prints what it says. Statuses and messages are those of docs/JUDGING.md. *)
 
+external end_with_4 : unit -> unit = "judge_ends_with_4"
+
+let () = end_with_4 ()
+
 exception Usage
 exception Device of string
 
@@ -108,12 +112,14 @@ let keep_closed device =
   try ignore (Unix.fstat device) with Unix.Unix_error _ -> ignore (Unix.openfile "/dev/null" [ Unix.O_RDONLY ] 0)
 
 (* What can't be said changes no status. *)
-let complain status text = (try prerr_endline ("judge: " ^ text) with Sys_error _ -> ()); status
+let complain status text =
+  (try write ("standard error", Unix.stderr) (Bytes.of_string ("judge: " ^ text ^ "\n")) 0 with Device _ -> ());
+  status
 
 let status =
-  Sys.set_signal Sys.sigpipe Sys.Signal_ignore;
-  Gc.(set { (get ()) with minor_heap_size = 1 lsl 20; space_overhead = 60 });
   try
+    Sys.set_signal Sys.sigpipe Sys.Signal_ignore;
+    Gc.(set { (get ()) with minor_heap_size = 1 lsl 20; space_overhead = 60 });
     List.iter keep_closed Unix.[ stdin; stdout; stderr ];
     let (yes, lines), file =
       match Array.to_list Sys.argv with _ :: command :: names -> run command names | _ -> raise Usage in
