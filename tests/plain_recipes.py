@@ -1,0 +1,49 @@
+#!/usr/bin/env python3
+"""Runs the recipes that need neither the kit nor the library: tests/plain_recipes.py [BINARY]
+
+The program and the judge in Coq certify what they write. One whose package isn't there isn't run, and the output says so.
+"""
+import os
+import shutil
+import subprocess
+import sys
+import tempfile
+
+import scripts
+from instances import BINARY
+
+# Each recipe, how it is built, what asks whether its package is there, and what is certified.
+CXX = "g++ -O2 -std=c++17 -o recipe"
+RECIPES = [
+    ("plain_networkx.py", "cp -t .", [sys.executable, "-c", "import networkx"], "max", "v max 12\n"),
+    ("plain_lemon.cpp", CXX, ["g++", "-E", "-include", "lemon/network_simplex.h", "-x", "c++", "/dev/null"], "min", "v min 14\n"),
+    ("plain_ortools.py", "cp -t .", [sys.executable, "-c", "import ortools"], "min", "v min 14\n"),
+]
+
+
+def printed(words, folder):
+    ran = subprocess.run(words, cwd=folder, capture_output=True, text=True, check=False)
+    return ran.stdout + ran.stderr
+
+
+def main():
+    programs = [os.path.abspath((sys.argv[1:] or [BINARY])[0])]
+    if shutil.which("coqc") and shutil.which("ocamlfind"):
+        subprocess.run(["make", "--no-print-directory", "referee"], cwd=scripts.TOP, check=True)
+        programs.append(f"{scripts.TOP}/build/referee/judge")
+    counts = scripts.Counts()
+    for recipe, build, asks, command, verdict in RECIPES:
+        if subprocess.run(asks, capture_output=True, check=False).returncode:
+            print(f"not run: {recipe}: its package isn't there")
+            continue
+        with tempfile.TemporaryDirectory() as folder:
+            subprocess.run([*build.split(), f"{scripts.TOP}/recipes/{recipe}"], cwd=folder, check=True)
+            made = ["./recipe"] if build == CXX else [sys.executable, recipe]
+            subprocess.run([*made, "instance", "solution"], cwd=folder, check=True)
+            answers = [printed([program, f"certify-{command}", "instance", "solution", "made"], folder) for program in programs]
+            counts.expect(recipe, answers == [verdict] * len(programs), answers)
+    counts.end()
+
+
+if __name__ == "__main__":
+    main()
