@@ -17,7 +17,7 @@ TOP = os.path.dirname(os.path.dirname(os.path.abspath(__file__)))
 # What runs side by side: what it needs, how much has to pass in it, and its commands, one after the other. First comes
 # what needs nothing that is built, then what needs the program alone, and of the rest what takes longest.
 TABLE = """
-nothing | 28     | tests/second_proof.py
+nothing | 46     | tests/second_proof.py
 nothing | 420    | tests/lower_addresses.py
 nothing | 34     | tests/gate_test.py
 nothing | 0      | tools/try_bodies.py --apply
@@ -28,7 +28,8 @@ nothing | 380    | tests/promises.py
 nothing | 400    | tests/links.py
 nothing | 14     | tests/theorem.py
 nothing | 110    | tests/man_pages.py
-program | 11400  | tests/referee.py {program}
+program | 13800  | tests/referee.py {program}
+program | 2      | tests/plain_recipes.py {program}
 program | 290    | tests/batch.py {program}
 program | 150    | tests/large_runs.py {program}
 program | 40     | tests/malicious.py {program} 50000

@@ -1,8 +1,8 @@
 #!/usr/bin/env python3
 """Repeats the runs that the pages show: tests/shown_runs.py [BINARY]
 
-Each line '$ dimacs WORDS' or '$ referee/referee.py WORDS' in a page's block of code is run beside a copy of the
-examples, where it may write files. What it prints is compared with the lines under it, up to a line '...' and without
+Each line '$ dimacs WORDS', '$ referee/referee.py WORDS' or, where Coq is there, '$ build/referee/judge WORDS' in a page's
+block of code is run beside a copy of the examples, where it may write files. What it prints is compared with the lines under it, up to a line '...' and without
 remarks, which begin with '  # '. Its exit status is compared with what these lines mean; the standard error has to stay
 empty. A page that shows no run has failed, and so has one that does and isn't read here.
 BINARY is the built program; crates/dimacs/out/dimacs by default.
@@ -20,14 +20,14 @@ from instances import BINARY
 from pages import commands
 
 PAGES = ["README.md", "examples/README.md", "docs/JUDGING.md", "man/dimacs.1.md", "referee/README.md"]
-REFEREE = "referee/referee.py"
+REFEREE, JUDGE = "referee/referee.py", "build/referee/judge"
 
 
 def shown(page):
     """Yields the program and the words of each run that the page shows, and the lines under it."""
     for command, lines in commands(page):
         program, *words = command.split()
-        if program in ("dimacs", REFEREE):
+        if program in ("dimacs", REFEREE, JUDGE):
             yield program, words, re.sub(r" {2,}# .*", "", lines).rstrip("\n").split("\n")
 
 
@@ -58,11 +58,15 @@ def status(lines):
 
 def cases(binary):
     """Yields what is wrong with pages, and each run with what it prints, and whether that is shown."""
-    programs = {"dimacs": binary, REFEREE: os.path.abspath(REFEREE)}
+    programs = {"dimacs": binary, REFEREE: os.path.abspath(REFEREE), JUDGE: os.path.abspath(JUDGE)}
+    if shutil.which("coqc") and shutil.which("ocamlfind"):
+        subprocess.run(["make", "--no-print-directory", "referee"], check=True)
+    else:
+        print(f"left out: the runs of {programs.pop(JUDGE)}: there is no coqc or ocamlfind")
     yield from ((fault, False) for fault in wrong_pages())
     with tempfile.TemporaryDirectory() as place:
         shutil.copytree("examples", os.path.join(place, "examples"))
-        for page, (program, words, lines) in ((page, it) for page in PAGES for it in shown(page)):
+        for page, (program, words, lines) in ((page, it) for page in PAGES for it in shown(page) if it[0] in programs):
             ran = subprocess.run([programs[program], *words], capture_output=True, text=True, check=False, cwd=place)
             is_so = is_shown(ran.stdout.rstrip("\n").split("\n"), lines) and (ran.returncode, ran.stderr) == (status(lines), "")
             told = f"status {ran.returncode}, prints\n{ran.stdout}{ran.stderr}"
