@@ -44,7 +44,7 @@ SPOILED = {
     "Certify": spoiled(
         "promise_certify_infeasible search a r",
         "rewrite (run_without_second_is",
-        [("/\\ refutes_max i s file /\\ ~ true_max i s)))", "/\\ refutes_max i s file)))")],
+        [("/\\ is_feasible i y file /\\ ~ no_flow i).", "/\\ is_feasible i y file /\\ True)."), ("intros N. now apply (N 1 y), F.", "easy.")],
     )
     | {"a certificate isn't tested": (UNPROVED, [("(quick_infeasible i) (true", "(fun _ => None) (true")])},
     "Complete": spoiled(
