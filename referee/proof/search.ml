@@ -71,12 +71,15 @@ let reached g x sources =
 let path_of g via start v = let rec back v path = if v = start then path else back (from g via.(v)) (via.(v) :: path) in back v []
 
 let line word numbers = String.concat " " (word :: List.map Z.to_string numbers)
-let headed word (network : network) lines = line word [ network.nodes; Z.of_int (List.length lines) ] :: lines
+
+(* A line for each item, below one that counts them. (The standard map needs a stack as deep as the list is long.) *)
+let listed word (network : network) line_of items =
+  line word [ network.nodes; Z.of_int (List.length items) ] :: List.rev (List.rev_map line_of items)
 
 let cut_of g network nodes =
   let ids = Array.map (fun v -> g.ids.(v)) nodes in
   Array.sort compare ids;
-  Shown (headed "p cut" network (List.map (fun id -> line "u" [ Z.of_int id ]) (Array.to_list ids)))
+  Shown (listed "p cut" network (fun id -> line "u" [ Z.of_int id ]) (Array.to_list ids))
 
 (* A flow with its value or cost. One out of range, which no text can claim, is written as 0. *)
 let solution_of g x value =
@@ -156,7 +159,7 @@ let min (i : min_instance) (x : flow) =
   | label ->
       let nodes = List.filter (fun v -> Z.sign label.(v) <> 0) (List.init (size g) Fun.id) in
       let nodes = List.sort (fun v w -> compare g.ids.(v) g.ids.(w)) nodes in
-      Shown (headed "p pot" i.min_network (List.map (fun v -> line "y" [ Z.of_int g.ids.(v); Z.neg label.(v) ]) nodes))
+      Shown (listed "p pot" i.min_network (fun v -> line "y" [ Z.of_int g.ids.(v); Z.neg label.(v) ]) nodes)
   | exception Cycle path ->
       ignore (push_all g x (room g x (List.hd path)) path);
       solution_of g x (cost_of g x)
