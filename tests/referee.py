@@ -160,7 +160,8 @@ def certify_all(binary, judge, count, seed):
     cases = [(certified.COMMANDS[number % 4], f"{seed}:{number}") for number in range(count)]
     found, failures = collections.Counter(), []
     with concurrent.futures.ProcessPoolExecutor(WORKERS) as pool:
-        for counts, differing in pool.map(certified.compared, *map(itertools.repeat, (binary, judge)), [cases[k::50] for k in range(50)]):
+        programs = map(itertools.repeat, (binary, judge))
+        for counts, differing in pool.map(certified.compared, *programs, [cases[k::50] for k in range(50)]):
             found += counts
             failures += differing
     failures += [f"certify-{it}: never met" for it in certified.ANSWERS if not found[it]]
@@ -200,21 +201,27 @@ RUNS = [
 # Those of certifiers, which the referee in Python doesn't have.
 CERTIFIED_RUNS = [
     *["max max flow", "max max flow made", "max max zero", "max max zero made", "max max zero zero", "infeasible min made"],
-    *["paths gr near made", "max max flow made more", "max max", "infeasible", "infeasible min made more", "max max flow \udcff"],
-    *["max max flow folder", "max max zero absent/made", "max faulty flow made", "max max absent made", "max max flow /dev/full"],
+    *["paths gr near made", "max max flow made more", "max max", "infeasible", "infeasible min made more"],
+    *["max max flow \udcff", "max max flow folder", "max max zero absent/made", "max faulty flow made"],
+    *["max max absent made", "max max flow /dev/full"],
 ]
 
-# How the shell closes devices, or fills them.
+# How the shell closes devices, or fills them; `|` is a pipe that nobody reads.
 CLOSED = [("max absent flow cut", "2>&-"), ("max absent flow cut", "2>/dev/full"), ("max max flow cut", ">&-"), ("max", "2>&-")]
 CLOSED += [("max max flow cut", "<&- >&-"), ("max max flow cut", "<&- 2>&-"), ("max max flow max", ">&- 2>&-")]
-CLOSED += [("max max flow cut", ">/dev/full"), ("max max flow max", ">/dev/full"), ("max max flow cut", "| (exec <&-; sleep 0.1)")]
+CLOSED += [("max max flow cut", ">/dev/full"), ("max max flow max", ">/dev/full"), ("max max flow cut", "|")]
 
 
 def ended(words, how, folder):
-    """How a command ends whose devices the shell closes, and what all files hold then, but for long ones."""
+    """How a command ends whose devices are closed so, and what all files hold then, but for long ones."""
     write(folder, FILES)
-    shell = ["bash", "-c", f'{{ sleep 0.05; "$@"; }} {how}; exit ${{PIPESTATUS[0]}}', "bash"] if "|" in how else ["sh", "-c", f'"$@" {how}', "sh"]
-    answer = run([*shell, *words] if how else words, folder)
+    if how == "|":
+        unread, pipe = os.pipe()
+        os.close(unread)
+        answer = run(words, folder, pipe)
+        os.close(pipe)
+    else:
+        answer = run([*["sh", "-c", f'"$@" {how}', "sh"], *words] if how else words, folder)
     made = Texts(folder).taken("made")
     return answer, made, {name: Texts(folder).read(name) for name in FILES if name != "many"}
 
@@ -223,7 +230,8 @@ def compare_commands(binary, second):
     """How many runs there are, and those in which the answers differ."""
     failures, runs = [], [("judge", words, "") for words in RUNS] + [("judge", *it) for it in CLOSED]
     if second:
-        runs += [("certify", words, "") for words in CERTIFIED_RUNS] + [("certify", "max max flow made", how) for _, how in CLOSED]
+        runs += [("certify", words, "") for words in CERTIFIED_RUNS]
+        runs += [("certify", "max max flow made", how) for _, how in CLOSED]
     with tempfile.TemporaryDirectory(dir=MEMORY) as folder:
         os.mkdir(os.path.join(folder, "folder"))
         os.symlink("loop", os.path.join(folder, "loop"))

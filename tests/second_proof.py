@@ -25,11 +25,12 @@ UNPROVED, AXIOM, UNSTATED = "the file isn't proved", "a promise uses an axiom", 
 
 def spoiled(theorem, proof, weaker):
     """What is replaced of a theorem, which begins and whose proof begins so, by what, and what is found wrong then."""
-    name = theorem.split()[0]
+    name, theorem = theorem.split()[0], f"Theorem {theorem}"
+    using = (proof, f"pose is_well. {proof}")
     return {
-        "a proof is left out": (AXIOM, [(f"Theorem {theorem}", f"Lemma left_out : 0 = 1.\nAdmitted.\nTheorem {theorem}"), (proof, f"pose left_out. {proof}")]),
-        "an axiom is used": (AXIOM, [(f"Theorem {theorem}", f"Axiom is_well : 0 = 1.\nTheorem {theorem}"), (proof, f"pose is_well. {proof}")]),
-        "a promise is missing": (UNSTATED, [(f"Theorem {theorem}", f"Theorem {theorem.replace(name, name + '_or_not')}")]),
+        "a proof is left out": (AXIOM, [(theorem, f"Lemma is_well : 0 = 1.\nAdmitted.\n{theorem}"), using]),
+        "an axiom is used": (AXIOM, [(theorem, f"Axiom is_well : 0 = 1.\n{theorem}"), using]),
+        "a promise is missing": (UNSTATED, [(theorem, theorem.replace(name, f"{name}_or_not"))]),
         "a statement is weaker": (UNSTATED, weaker),
     }
 
@@ -44,13 +45,13 @@ SPOILED = {
     "Certify": spoiled(
         "promise_certify_infeasible search a r",
         "rewrite (run_without_second_is",
-        [("/\\ is_feasible i y file /\\ ~ no_flow i).", "/\\ is_feasible i y file /\\ True)."), ("intros N. now apply (N 1 y), F.", "easy.")],
+        [("is_feasible i y file /\\ ~ no_flow i)", "is_feasible i y file /\\ True)"), ("intros N. now apply (N 1 y), F.", "easy.")],
     )
     | {"a certificate isn't tested": (UNPROVED, [("(quick_infeasible i) (true", "(fun _ => None) (true")])},
     "Complete": spoiled(
         "every_infeasible_is_shown a i",
         "intros I F. destruct (min_keeps_more",
-        [("true_max i s ->\n  exists c", "true_max i s -> a = b ->\n  exists c"), ("intros I S K [M V]. destruct (max", "intros I S K [M V] _. destruct (max")],
+        [("true_max i s ->\n  exists c", "true_max i s -> a = b ->\n  exists c"), ("K [M V]. destruct (max", "K [M V] _. destruct (max")],
     ),
 }
 
