@@ -75,7 +75,7 @@ def distances(text, rng):
     lines = [line.split() if line[:1] in "ptd" else [line] for line in text.split("\n")]
     lines = [words[:3] if words[:1] in (["t"], ["d"]) and len(words) == 4 else words for words in lines]
     lines = [["p", "distances", *words[2:]] if words[:2] == ["p", "dist"] else words for words in lines]
-    given = [words for words in lines if words[:1] == ["d"] and re.fullmatch(r"-?\d+", words[-1])]
+    given = [words for words in lines if words[:1] == ["d"] and re.fullmatch(r"-?\d{1,30}", words[-1])]
     if given and rng.random() < 0.3:
         words = rng.choice(given)
         words[-1] = str(int(words[-1]) + rng.choice([-1, 1]))
