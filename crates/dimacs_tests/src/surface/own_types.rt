@@ -244,7 +244,8 @@ fn ended<K: Sink>(
     alloc: Global,
     run: Run,
     texts: &[&str; 3],
-    written: &mut [Wanted<'_>; 2],
+    claim: &mut Wanted<'_>,
+    certificate: &mut Wanted<'_>,
     report: &mut K,
 ) -> Result<Status, RunError> {
     let [first, second, third] = texts;
@@ -257,7 +258,6 @@ fn ended<K: Sink>(
     let third = &mut Bytewise {
         left: third.as_bytes(),
     };
-    let [claim, certificate] = written;
     match run {
         Run::Convert(kind) => run_convert(alloc, kind, first, report),
         Run::Show(kind) => run_show(alloc, kind, first, report),
@@ -271,16 +271,20 @@ fn ended<K: Sink>(
 #[test]
 fn runs_take_any_source_and_any_sink(rt: HostRuntime) {
     for (run, texts, written, report) in &RUNS {
+        let mut claim = Wanted::bytes_of(written[0]);
+        let mut certificate = Wanted::bytes_of(written[1]);
         let mut report = Wanted::bytes_of(report);
-        let mut written = [Wanted::bytes_of(written[0]), Wanted::bytes_of(written[1])];
-        let end = ended(rt.alloc(), *run, texts, &mut written, &mut report);
-        same(&rt, texts[0], end, Ok(Status::Done));
-        let [claim, certificate] = &written;
-        holds(
-            &rt,
-            texts[0],
-            report.is_met() && claim.is_met() && certificate.is_met(),
+        let end = ended(
+            rt.alloc(),
+            *run,
+            texts,
+            &mut claim,
+            &mut certificate,
+            &mut report,
         );
+        same(&rt, texts[0], end, Ok(Status::Done));
+        let are_met = claim.is_met() && certificate.is_met() && report.is_met();
+        holds(&rt, texts[0], are_met);
     }
 }
 
