@@ -49,6 +49,7 @@ def rows(table):
 
 
 def counting():
+    os.environ.pop("ALL_TOOLS", None)
     for least, status, output, counts in rows(COUNTED):
         ran = scripts.counted("it", int(least), int(status), output)
         yield f"of {output!r}, status {status}: {ran}", counts == f"{ran.passed} {ran.failed}"
