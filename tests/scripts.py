@@ -43,7 +43,7 @@ program | 50     | tests/shown_runs.py {program}
 proved  | 6000   | tests/targets.py --build {build}
 proved  | 60     | tools/dist.py ; tests/packages.py dist
 build   | 120    | tests/library.py --build {build} Python wheel
-build   | 1100   | tests/library.py --build {build} C++
+build   | 1040   | tests/library.py --build {build} C++
 build   | 7300   | tests/library.py --build {build} --instances 5000 C Rust page arrays
 build   | 43     | tests/install.py {build}
 build   | 28     | tests/abi.py {build}
