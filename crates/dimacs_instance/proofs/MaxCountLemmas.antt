@@ -12,8 +12,8 @@ use Rattle.dimacs_network.specs.{declared.network.ArcView.{ArcView}, Arcs.{Joins
 use Rattle.dimacs_instance.specs.{MaxFlows.{HasCapacityAlone, MaxValue}, MaxTexts.{GivesMax, max_arc}}
 use Rattle.dimacs_instance.specs.MaxReading.{MaxBegun, MaxCount, context, end_context, count_of, end_records, max_begun_records, AreNodes, EndsAreDistinct, IsMaxBegun, IsMaxCountedBy}
 use Rattle.dimacs_instance.specs.{inside.MaxReading.{AreEnds}, Summaries.{SumsUpMax, GivesSummary}}
-use Rattle.dimacs_instance.specs.declared.max.EndLines.{EndLines}
-use Rattle.dimacs_instance.specs.declared.max.EndLines.TheVariants.{Neither, One, Both}
+use Rattle.dimacs_instance.specs.declared.max.ends.EndLines.{EndLines}
+use Rattle.dimacs_instance.specs.declared.max.ends.EndLines.TheVariants.{Neither, One, Both}
 use Rattle.dimacs_instance.proofs.MaxLemmas.{end_context_by_records, context_by_records}
 
 pub counted_none : (nodes declared : ℕ) → nodes ≤ most_nodes → declared ≤ most_count → IsMaxCountedBy (record { nodes = nodes; declared = declared; ends = Neither; arcs = 0 }) (MaxProblem nodes declared ∷ [])

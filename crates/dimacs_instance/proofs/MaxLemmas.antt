@@ -12,8 +12,8 @@ use Rattle.dimacs_records.specs.Readings.{IsAllowed, IsComplete}
 use Rattle.dimacs_records.specs.Tests.{plain_context_after, plain_context_of, end_context_of, context_after}
 use Rattle.dimacs_records.proofs.ConditionLemmas.{is_allowed, is_complete}
 use Rattle.dimacs_network.specs.declared.network.ArcView.{ArcView}
-use Rattle.dimacs_instance.specs.{declared.max.EndLine.{EndLine}, declared.max.EndLines.{EndLines}, MaxTexts.{max_arc}}
-use Rattle.dimacs_instance.specs.declared.max.EndLines.TheVariants.{Neither, One, Both}
+use Rattle.dimacs_instance.specs.{declared.max.ends.EndLine.{EndLine}, declared.max.ends.EndLines.{EndLines}}
+use Rattle.dimacs_instance.specs.{MaxTexts.{max_arc}, declared.max.ends.EndLines.TheVariants.{Neither, One, Both}}
 use Rattle.dimacs_instance.specs.MaxReading.{MaxBegun, end_records, max_begun_records, max_node, plain_context, context, end_context, count_of}
 
 none_of_arcs : (test : Record → Bool) → ((a : ArcView) → test (max_arc a) ≡ false) → (arcs : List ArcView) → list_any test (map max_arc arcs) ≡ false

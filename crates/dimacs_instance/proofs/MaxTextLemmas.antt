@@ -13,8 +13,8 @@ use Rattle.dimacs_records.specs.Texts.{AreSpelled, AreFaultless}
 use Rattle.dimacs_records.proofs.SplitLemmas.{ImageAt, image_at, All-at}
 use Rattle.dimacs_records.proofs.CanonicalLaws.{canonical_spelled, numbered_all}
 use Rattle.dimacs_network.specs.{declared.network.ArcView.{ArcView}, Arcs.{JoinsNodes}, KeptArcs.{capacity_arc}}
-use Rattle.dimacs_instance.specs.{declared.max.EndLine.{EndLine}, MaxFlows.{MaxValue, IsMax, HasCapacityAlone}}
-use Rattle.dimacs_instance.specs.declared.max.EndLines.TheVariants.{Neither, One, Both}
+use Rattle.dimacs_instance.specs.{declared.max.ends.EndLine.{EndLine}, MaxFlows.{MaxValue, IsMax, HasCapacityAlone}}
+use Rattle.dimacs_instance.specs.declared.max.ends.EndLines.TheVariants.{Neither, One, Both}
 use Rattle.dimacs_instance.specs.MaxTexts.{max_arc, max_records, canonical_max, GivesMax, SpellsMax}
 use Rattle.dimacs_instance.specs.MaxReading.{MaxBegun, max_node, max_begun_records, IsMaxBegun}
 use Rattle.dimacs_instance.proofs.MaxLemmas.{first_problem, one_more_node, one_more_arc, all_arcs, lacking}

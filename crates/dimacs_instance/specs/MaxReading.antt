@@ -4,8 +4,9 @@ use Rattle.dimacs_records.specs.{declared.records.Record.{Record}, declared.orde
 use Rattle.dimacs_records.specs.declared.records.Record.TheVariants.{MaxProblem, MaxNode, MaxArc}
 use Rattle.dimacs_records.specs.{Conditions.{lacks_end}, Earlier.{is_end_node, names}, Tests.{plain_context_of}}
 use Rattle.dimacs_network.specs.{declared.network.ArcView.{ArcView}, Arcs.{JoinsNodes}}
-use Rattle.dimacs_instance.specs.{declared.max.EndLine.{EndLine}, declared.max.EndLines.{EndLines}, MaxTexts.{max_arc}}
-use Rattle.dimacs_instance.specs.{declared.max.EndLines.TheVariants.{Neither, One, Both}, MaxFlows.{HasCapacityAlone}}
+use Rattle.dimacs_instance.specs.{declared.max.ends.EndLine.{EndLine}, declared.max.ends.EndLines.{EndLines}}
+use Rattle.dimacs_instance.specs.{MaxTexts.{max_arc}, declared.max.ends.EndLines.TheVariants.{Neither, One, Both}}
+use Rattle.dimacs_instance.specs.MaxFlows.{HasCapacityAlone}
 use Rattle.dimacs_lines.specs.Limits.{most_count, most_nodes, IsNode}
 
 -- the declared numbers, and the node lines and arcs so far

@@ -25,6 +25,6 @@ pub use min::{
 };
 pub use queries::{LawfulQueries, Queries, QueriesReading, read_queries, write_queries};
 pub use summaries::{
-    GraphSummary, GraphSummaryReading, MaxSummary, MaxSummaryReading, MinNodes, MinNodesReading,
+    GraphNodesReading, GraphSummary, MaxNodesReading, MaxSummary, MinNodes, MinNodesReading,
     MinSummary, Summary,
 };

@@ -1,24 +1,20 @@
 //! Minimum cost flow instances.
 
-ghost use Rattle.std.specs.Prelude.{◌≡◌, ◌<◌, ◌+◌, ◌≤ℤ◌, ◌<ℤ◌, ◌+ℤ◌, ◌^◌, ◌∷◌, [], ℕ, List, None, Some, pos, IfOk, if◌then◌else◌, length, option_map, refl, slice_get, ◌≤◌, ◌++◌, OnOk, OnErr};
+ghost use Rattle.std.specs.Prelude.{◌≡◌, ◌<◌, ◌+◌, ◌≤ℤ◌, ◌<ℤ◌, ◌+ℤ◌, ◌^◌, ◌∷◌, [], pos, IfOk, length, ◌≤◌, ◌++◌, OnOk, OnErr};
 ghost use Rattle.std.specs.{List.{All}, FinMap.{empty}};
-ghost use Rattle.dimacs_lines.specs.{Limits.{most_nodes, most_count, IsNode}, Lines.{lines}, Puts.{Puts}};
-ghost use Rattle.dimacs_records.specs.declared.kinds.TextKind.TheVariants as kinds;
-ghost use Rattle.dimacs_records.specs.{declared.records.Record.TheVariants.{MinNode}, Readings.{CountsRead}};
-ghost use Rattle.dimacs_records.specs.{Faults.{Fault}, Texts.{Reads}, NodeValues.{is_nonzero}};
+ghost use Rattle.dimacs_lines.specs.Limits.{most_nodes, most_count, IsNode};
 ghost use Rattle.dimacs_network.specs.{Arcs.{JoinsNodes}, Skips.{Skips}};
 ghost use Rattle.dimacs_instance.specs.MinFlows.{MinValue, IsMin, supply_of, positive_part, negative_part, supply_sum, demand_sum, HasBounds, with_supply};
-ghost use Rattle.dimacs_instance.specs.MinTexts.{GivesMin, SpellsMin, canonical_min, min_arc};
-ghost use Rattle.dimacs_instance.specs.MinReading.{IsMinBegunBy, plain_context, context, count_of};
 
-use dimacs_lines::{DeviceFault, Memory, OutputBuffer, Sink, Source};
-use dimacs_network::{ArcView, ForwardStar, Network, NodeMap, OfCostArcs, PlainArcs, StoredArc};
-use dimacs_records::{
-    Builder, Context, CountedReading, Declared, ReadError, Record, TextKind, read_counted,
-    write_lines, write_record, write_sparse_lines,
-};
+mod reading;
+mod writing;
+
+use dimacs_lines::Memory;
+use dimacs_network::{ArcView, ForwardStar, Network, NodeMap, PlainArcs, StoredArc};
+pub use reading::{MinBuilder, MinReading, PlainMinReading, read_min, read_plain_min};
 use std::alloc::Global;
-use std::marker::{Model, PhantomData};
+use std::marker::Model;
+pub use writing::write_min;
 
 /// A minimum cost flow instance. A node with a positive supply feeds flow into the network, one with a negative supply
 /// takes flow out.
@@ -189,201 +185,5 @@ impl<A: StoredArc> MinInstance<ForwardStar<A>> {
             supplies: self.supplies,
             network: self.network.into_plain(),
         }
-    }
-}
-
-/// Reads the records of a minimum cost flow instance.
-pub type MinReading = CountedReading<MinBuilder<ForwardStar<ArcView>>>;
-
-/// The same, without an index of its arcs.
-pub type PlainMinReading = CountedReading<MinBuilder<PlainArcs<ArcView>>>;
-
-/// A minimum cost flow instance while its text is read: node lines after the problem line, then arcs.
-#[derive(Drop)]
-pub struct MinBuilder<N: OfCostArcs> {
-    declared: u32,
-    /// The supplies of the named nodes, some perhaps 0.
-    supplies: NodeMap<i64>,
-    arcs: PlainArcs<ArcView>,
-    of: PhantomData<N>,
-}
-
-impl<N: OfCostArcs> Model for MinBuilder<N> {
-    ghost use Rattle.dimacs_instance.specs.MinReading.{MinBegun};
-    ghost use Rattle.dimacs_instance.specs.MinReading.{IsMinBegun};
-    ghost use Rattle.dimacs_instance.specs.MinCodes.{begun_code};
-
-    ghost Value = { MinBegun };
-
-    ghost coded = { begun_code };
-
-    ghost view = { λ b. record { nodes = b.arcs.nodes; declared = b.declared; supplies = b.supplies; arcs = b.arcs.arcs } };
-
-    ghost invariant = { λ b. IsMinBegun (record { nodes = b.arcs.nodes; declared = b.declared; supplies = b.supplies; arcs = b.arcs.arcs }) };
-}
-
-impl<N: OfCostArcs> Builder for MinBuilder<N> {
-    type Value = MinInstance<N>;
-
-    ghost kind = { kinds.Min };
-
-    ghost built_from = { λ begun rs. IsMinBegunBy begun rs };
-
-    ghost context = { λ begun r. context (count_of begun) r };
-
-    ghost end_context = { λ begun. plain_context (count_of begun) };
-
-    ghost gives = { λ rs m. GivesMin rs m };
-
-    fn kind() -> TextKind {
-        TextKind::Min
-    }
-
-    fn begin(alloc: Global, problem: Record) -> MinBuilder<N> {
-        let Record::MinProblem { nodes, arcs } = problem else {
-            unreachable!()
-        };
-        MinBuilder {
-            declared: arcs,
-            supplies: NodeMap::new(alloc),
-            arcs: PlainArcs::new(alloc, nodes),
-            of: PhantomData,
-        }
-    }
-
-    #[inline(always)]
-    fn context(&self, rec: Record) -> Context {
-        match rec {
-            Record::MinArc { .. } | Record::MinProblem { .. } => self.end_context(),
-            Record::MinNode { id, .. } => Context {
-                misplaced: self.arcs.arcs() > 0,
-                named: self.supplies.get(id).is_some(),
-                ..self.end_context()
-            },
-            _ => unreachable!(),
-        }
-    }
-
-    #[inline(always)]
-    fn keep(&mut self, rec: Record) -> Result<(), Memory> {
-        match rec {
-            Record::MinArc {
-                tail,
-                head,
-                low,
-                cap,
-                cost,
-            } => {
-                self.arcs.push(ArcView {
-                    tail,
-                    head,
-                    low,
-                    cap,
-                    cost,
-                })?;
-                Ok(())
-            }
-            Record::MinNode { id, supply } => {
-                self.supplies.set(id, supply)?;
-                Ok(())
-            }
-            _ => unreachable!(),
-        }
-    }
-
-    #[inline(always)]
-    fn end_context(&self) -> Context {
-        let nodes = Some(self.arcs.nodes());
-        let count = self.declared;
-        Context::of(Some(Declared { nodes, count }), self.arcs.arcs())
-    }
-
-    #[tactic(auto, using(crate::proofs::MinLemmas::gives_min, crate::proofs::MinLemmas::min_law))]
-    fn value(self, alloc: Global) -> Result<MinInstance<N>, Memory> {
-        Ok(MinInstance {
-            supplies: self.supplies,
-            network: N::of_arcs(alloc, self.arcs)?,
-        })
-    }
-
-    ghost has_problem = { refl };
-}
-
-/// Reads the text of a minimum cost flow instance. `docs/TEXTS.md` has the rules and the order of faults.
-pub fn read_min<S: Source>(
-    alloc: Global,
-    source: &mut S,
-) -> Result<MinInstance<ForwardStar<ArcView>>, ReadError>
-    ensures reads { (text : List ℕ) → S.coming source.old ≡ Some text → Reads (SpellsMin text) (Fault kinds.Min (lines text)) result }
-    ensures faults { CountsRead result (S.faults source.old) (S.faults source.new) }
-{
-    read_counted::<MinBuilder<ForwardStar<ArcView>>, S>(alloc, source)
-}
-
-/// The same, without an index of its arcs.
-pub fn read_plain_min<S: Source>(
-    alloc: Global,
-    source: &mut S,
-) -> Result<MinInstance<PlainArcs<ArcView>>, ReadError>
-    ensures reads { (text : List ℕ) → S.coming source.old ≡ Some text → Reads (SpellsMin text) (Fault kinds.Min (lines text)) result }
-    ensures faults { CountsRead result (S.faults source.old) (S.faults source.new) }
-{
-    read_counted::<MinBuilder<PlainArcs<ArcView>>, S>(alloc, source)
-}
-
-/// Writes the canonical text of a minimum cost flow instance.
-pub fn write_min<N: Network, S: Sink>(
-    instance: &MinInstance<N>,
-    sink: &mut S,
-) -> Result<(), DeviceFault>
-    ensures puts { Puts result (S.seen sink.old) (canonical_min instance.now) (S.seen sink.new) }
-    ensures round_trip { SpellsMin (canonical_min instance.now) instance.now }
-    ensures same_text { (read : MinValue) → SpellsMin (canonical_min instance.now) read → canonical_min read ≡ canonical_min instance.now }
-{
-    let network = instance.network();
-    let nodes = network.nodes();
-    let arcs = network.arcs();
-    let mut output = OutputBuffer::new();
-    write_record(&mut output, sink, &Record::MinProblem { nodes, arcs });
-    write_sparse_lines(
-        &mut output,
-        sink,
-        nodes as usize,
-        |i|
-            requires { i ≤ nodes × nodes ≤ most_nodes }
-            ensures { Skips (λ id. supply_of instance.entry.now id ≡ pos 0) (i + 1) (nodes + 1) (result + 1) }
-        { instance.next_supply(i as u32 + 1, nodes + 1) as usize - 1 },
-        |i|
-            requires { i < most_nodes }
-            ensures { let supply = supply_of instance.entry.now (i + 1) in
-                result ≡ (if is_nonzero supply then Some (MinNode (i + 1) supply) else None) }
-        {
-            let id = i as u32 + 1;
-            let supply = instance.supply(id);
-            (supply != 0).then_some(Record::MinNode { id, supply })
-        },
-    );
-    write_lines(
-        &mut output,
-        sink,
-        arcs as usize,
-        |i|
-            requires { i < length (N.list network.now) × i < 2 ^ 32 }
-            ensures { result ≡ option_map min_arc (slice_get (N.list network.entry.now) i) }
-        { Some(arc_record(network.arc(i as u32))) },
-    );
-    output.finish(sink)
-}
-
-#[inline(always)]
-fn arc_record(arc: ArcView) -> Record
-    ensures { result ≡ min_arc arc }
-{
-    Record::MinArc {
-        tail: arc.tail,
-        head: arc.head,
-        low: arc.low,
-        cap: arc.cap,
-        cost: arc.cost,
     }
 }

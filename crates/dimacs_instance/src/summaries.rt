@@ -11,9 +11,9 @@ mod min;
 
 use dimacs_lines::{DeviceFault, Sink, Source};
 use dimacs_records::{ReadError, TextKind};
-pub use graph::{GraphSummary, GraphSummaryReading};
-pub(crate) use max::CountedMax;
-pub use max::{MaxSummary, MaxSummaryReading};
+pub use graph::{GraphNodesReading, GraphSummary};
+pub(crate) use max::MaxNodesBuilder;
+pub use max::{MaxNodesReading, MaxSummary};
 pub use min::{MinNodes, MinNodesReading, MinSummary};
 use std::alloc::Global;
 

@@ -17,10 +17,10 @@ use crate::queries::{Queries, read_queries, write_queries};
 use crate::summaries::{GraphSummary, MaxSummary, MinSummary, Summary};
 use dimacs_lines::{DeviceFault, Sink, Source};
 use dimacs_network::{Network, OfCapacityArcs, OfCostArcs, OfWeightArcs};
-use dimacs_records::{Part, ReadError, Text, TextKind, put_line, read_counted};
+use dimacs_records::{Part, ReadError, Text, TextKind, Writable, put_line, read_counted};
 use std::alloc::Global;
 
-impl<N: OfCapacityArcs + Drop> Text for MaxInstance<N> {
+impl<N: Network> Writable for MaxInstance<N> {
     ghost kind = { kinds.Max };
 
     ghost Content = { MaxValue };
@@ -39,10 +39,6 @@ impl<N: OfCapacityArcs + Drop> Text for MaxInstance<N> {
         TextKind::Max
     }
 
-    fn read<S: Source>(alloc: Global, source: &mut S) -> Result<Self, ReadError> {
-        read_counted::<MaxBuilder<N>, S>(alloc, source)
-    }
-
     fn write<K: Sink>(&self, sink: &mut K) -> Result<(), DeviceFault> {
         write_max(self, sink)
     }
@@ -59,7 +55,13 @@ impl<N: OfCapacityArcs + Drop> Text for MaxInstance<N> {
     }
 }
 
-impl<N: OfCostArcs + Drop> Text for MinInstance<N> {
+impl<N: OfCapacityArcs + Drop> Text for MaxInstance<N> {
+    fn read<S: Source>(alloc: Global, source: &mut S) -> Result<Self, ReadError> {
+        read_counted::<MaxBuilder<N>, S>(alloc, source)
+    }
+}
+
+impl<N: Network> Writable for MinInstance<N> {
     ghost kind = { kinds.Min };
 
     ghost Content = { MinValue };
@@ -76,10 +78,6 @@ impl<N: OfCostArcs + Drop> Text for MinInstance<N> {
 
     fn kind() -> TextKind {
         TextKind::Min
-    }
-
-    fn read<S: Source>(alloc: Global, source: &mut S) -> Result<Self, ReadError> {
-        read_counted::<MinBuilder<N>, S>(alloc, source)
     }
 
     fn write<K: Sink>(&self, sink: &mut K) -> Result<(), DeviceFault> {
@@ -99,7 +97,13 @@ impl<N: OfCostArcs + Drop> Text for MinInstance<N> {
     }
 }
 
-impl<N: OfWeightArcs + Drop> Text for Graph<N> {
+impl<N: OfCostArcs + Drop> Text for MinInstance<N> {
+    fn read<S: Source>(alloc: Global, source: &mut S) -> Result<Self, ReadError> {
+        read_counted::<MinBuilder<N>, S>(alloc, source)
+    }
+}
+
+impl<N: Network> Writable for Graph<N> {
     ghost kind = { kinds.Graph };
 
     ghost Content = { NetworkValue };
@@ -118,10 +122,6 @@ impl<N: OfWeightArcs + Drop> Text for Graph<N> {
         TextKind::Graph
     }
 
-    fn read<S: Source>(alloc: Global, source: &mut S) -> Result<Self, ReadError> {
-        read_counted::<GraphBuilder<N>, S>(alloc, source)
-    }
-
     fn write<K: Sink>(&self, sink: &mut K) -> Result<(), DeviceFault> {
         write_graph(self, sink)
     }
@@ -136,7 +136,13 @@ impl<N: OfWeightArcs + Drop> Text for Graph<N> {
     }
 }
 
-impl Text for Queries {
+impl<N: OfWeightArcs + Drop> Text for Graph<N> {
+    fn read<S: Source>(alloc: Global, source: &mut S) -> Result<Self, ReadError> {
+        read_counted::<GraphBuilder<N>, S>(alloc, source)
+    }
+}
+
+impl Writable for Queries {
     ghost kind = { kinds.Queries };
 
     ghost Content = { QueriesValue };
@@ -155,10 +161,6 @@ impl Text for Queries {
         TextKind::Queries
     }
 
-    fn read<S: Source>(alloc: Global, source: &mut S) -> Result<Self, ReadError> {
-        read_queries(alloc, source)
-    }
-
     fn write<K: Sink>(&self, sink: &mut K) -> Result<(), DeviceFault> {
         write_queries(self, sink)
     }
@@ -168,6 +170,12 @@ impl Text for Queries {
             Queries::Sources(ids) => show_queries(sink, b"ss", ids.len()),
             Queries::Pairs(pairs) => show_queries(sink, b"p2p", pairs.len()),
         }
+    }
+}
+
+impl Text for Queries {
+    fn read<S: Source>(alloc: Global, source: &mut S) -> Result<Self, ReadError> {
+        read_queries(alloc, source)
     }
 }
 

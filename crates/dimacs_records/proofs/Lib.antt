@@ -6,7 +6,6 @@ mod PlaceLemmas
 mod LineLemmas
 mod DriverLemmas
 pub mod ConditionLemmas
-pub mod ConditionExamples
 mod SpellLaws
 mod ShapeLaws
 pub mod SplitLemmas

@@ -36,4 +36,4 @@ pub use printed::{Part, put_line, write_line};
 pub use reading::Reading;
 pub use reasons::Reason;
 pub use records::{End, QueryKind, Record};
-pub use text::Text;
+pub use text::{Text, Writable};

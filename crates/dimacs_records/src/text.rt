@@ -10,8 +10,8 @@ use crate::kinds::TextKind;
 use dimacs_lines::{DeviceFault, Sink, Source};
 use std::alloc::Global;
 
-/// A value that texts of one kind spell: it is read, written in the canonical form, and shown on one line.
-pub trait Text: Drop {
+/// A value that texts of one kind spell: it is written in the canonical form, and shown on one line.
+pub trait Writable {
     /// The kind of text.
     ghost kind: { TextKind };
 
@@ -37,12 +37,6 @@ pub trait Text: Drop {
     fn kind() -> TextKind
         ensures { result ≡ kind };
 
-    /// Reads a whole text: its value, or its first fault.
-    fn read<S: Source>(alloc: Global, source: &mut S) -> Result<Self, ReadError>
-        ensures reads { (bytes : List ℕ) → S.coming source.old ≡ Some bytes → ReadsAs content (spells bytes) (Fault kind (lines bytes)) result }
-        ensures faults { CountsRead result (S.faults source.old) (S.faults source.new) }
-        ensures lawful { IfOk result (λ value. lawful (content value)) };
-
     /// Writes the canonical text of the value.
     fn write<K: Sink>(&self, sink: &mut K) -> Result<(), DeviceFault>
         ensures puts { Puts result (K.seen sink.old) (canonical (content self.now)) (K.seen sink.new) };
@@ -50,4 +44,14 @@ pub trait Text: Drop {
     /// Writes one line about the value, which begins with `i`.
     fn show<K: Sink>(&self, sink: &mut K) -> Result<(), DeviceFault>
         ensures puts { Puts result (K.seen sink.old) (shown (content self.now)) (K.seen sink.new) };
+}
+
+/// A value that is read from a text, too.
+pub trait Text: Writable + Drop {
+    /// Reads a whole text: its value, or its first fault.
+    fn read<S: Source>(alloc: Global, source: &mut S) -> Result<Self, ReadError>
+        ensures reads { (bytes : List ℕ) → S.coming source.old ≡ Some bytes
+            → ReadsAs Self.content (Self.spells bytes) (Fault Self.kind (lines bytes)) result }
+        ensures faults { CountsRead result (S.faults source.old) (S.faults source.new) }
+        ensures lawful { IfOk result (λ value. Self.lawful (Self.content value)) };
 }

@@ -1,7 +1,7 @@
 -- Inside: a maximum flow instance while its text is read.
 use Rattle.std.specs.Prelude.{ℕ, ◌≡◌, ◌⊎◌}
 use Rattle.dimacs_records.specs.declared.records.End.TheVariants.{Source, Sink}
-use Rattle.dimacs_instance.specs.{declared.max.EndLines.{EndLines}, declared.max.EndLines.TheVariants.{Both}}
+use Rattle.dimacs_instance.specs.{declared.max.ends.EndLines.{EndLines}, declared.max.ends.EndLines.TheVariants.{Both}}
 
 -- the node lines of source and sink, in either order
 abbrev pub AreEnds : EndLines → ℕ → ℕ → Type 0

@@ -39,7 +39,7 @@ impl Summary for GraphSummary {
     }
 
     fn read<S: Source>(alloc: Global, source: &mut S) -> Result<GraphSummary, ReadError> {
-        read_counted::<CountedGraph, S>(alloc, source)
+        read_counted::<GraphNodesBuilder, S>(alloc, source)
     }
 
     fn show<K: Sink>(&self, sink: &mut K) -> Result<(), DeviceFault> {
@@ -55,18 +55,18 @@ impl Summary for GraphSummary {
     }
 }
 
-/// Reads the records of a graph, and keeps its summary alone.
-pub type GraphSummaryReading = CountedReading<CountedGraph>;
+/// Reads the records of a graph, and keeps its nodes, of the arcs only how many they are.
+pub type GraphNodesReading = CountedReading<GraphNodesBuilder>;
 
 /// A graph while its text is read, with the arcs only counted.
 #[derive(Clone, Copy)]
-pub struct CountedGraph {
+pub struct GraphNodesBuilder {
     nodes: u32,
     declared: u32,
     arcs: u32,
 }
 
-impl Builder for CountedGraph {
+impl Builder for GraphNodesBuilder {
     type Value = GraphSummary;
 
     ghost kind = { kinds.Graph };
@@ -85,11 +85,11 @@ impl Builder for CountedGraph {
     }
 
     #[tactic(auto, using(crate::proofs::SummaryLemmas::counted_none))]
-    fn begin(_alloc: Global, problem: Record) -> CountedGraph {
+    fn begin(_alloc: Global, problem: Record) -> GraphNodesBuilder {
         let Record::GraphProblem { nodes, arcs } = problem else {
             unreachable!()
         };
-        CountedGraph {
+        GraphNodesBuilder {
             nodes,
             declared: arcs,
             arcs: 0,

@@ -43,7 +43,7 @@ impl Summary for MaxSummary {
     }
 
     fn read<S: Source>(alloc: Global, source: &mut S) -> Result<MaxSummary, ReadError> {
-        read_counted::<CountedMax, S>(alloc, source)
+        read_counted::<MaxNodesBuilder, S>(alloc, source)
     }
 
     fn show<K: Sink>(&self, sink: &mut K) -> Result<(), DeviceFault> {
@@ -61,19 +61,19 @@ impl Summary for MaxSummary {
     }
 }
 
-/// Reads the records of a maximum flow instance, and keeps its summary alone.
-pub type MaxSummaryReading = CountedReading<CountedMax>;
+/// Reads the records of a maximum flow instance, and keeps its nodes, of the arcs only how many they are.
+pub type MaxNodesReading = CountedReading<MaxNodesBuilder>;
 
 /// A maximum flow instance while its text is read, with the arcs only counted.
 #[derive(Drop)]
-pub struct CountedMax {
+pub struct MaxNodesBuilder {
     pub(crate) nodes: u32,
     pub(crate) declared: u32,
     pub(crate) ends: EndLines,
     pub(crate) arcs: u32,
 }
 
-impl Model for CountedMax {
+impl Model for MaxNodesBuilder {
     ghost use Rattle.dimacs_instance.specs.MaxReading.{MaxCount};
     ghost use Rattle.dimacs_instance.specs.MaxReading.{EndsAreDistinct};
 
@@ -84,7 +84,7 @@ impl Model for CountedMax {
     ghost invariant = { λ c. EndsAreDistinct c.ends };
 }
 
-impl CountedMax {
+impl MaxNodesBuilder {
     /// The context if source and sink don't matter.
     #[inline(always)]
     fn plain_context(&self) -> Context
@@ -96,7 +96,7 @@ impl CountedMax {
     }
 }
 
-impl Builder for CountedMax {
+impl Builder for MaxNodesBuilder {
     type Value = MaxSummary;
 
     ghost kind = { kinds.Max };
@@ -115,11 +115,11 @@ impl Builder for CountedMax {
     }
 
     #[tactic(auto, using(crate::proofs::MaxCountLemmas::counted_none))]
-    fn begin(_alloc: Global, problem: Record) -> CountedMax {
+    fn begin(_alloc: Global, problem: Record) -> MaxNodesBuilder {
         let Record::MaxProblem { nodes, arcs } = problem else {
             unreachable!()
         };
-        CountedMax {
+        MaxNodesBuilder {
             nodes,
             declared: arcs,
             ends: EndLines::Neither,

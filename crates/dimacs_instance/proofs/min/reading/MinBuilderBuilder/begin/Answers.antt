@@ -1,0 +1,10 @@
+use Rattle.std.proofs.Common.{◌≤◌, rules}
+use Rattle.dimacs_lines.specs.Limits.{most_count, most_nodes}
+use Rattle.dimacs_instance.proofs.MinLemmas.{new_law}
+use Rattle.dimacs_instance.proofs.min.reading.MinBuilderBuilder.begin.Goals as goal
+
+pub invariant_of-result : goal.invariant_of-result
+invariant_of-result g c =
+    let nodes : c.in-MinProblem.nodes ≤ most_nodes = search rules in
+    let arcs : c.in-MinProblem.arcs ≤ most_count = search rules in
+    rw (c.new.ensures, c.new-2.ensures) (new_law c.in-MinProblem.nodes c.in-MinProblem.arcs nodes arcs)
