@@ -13,10 +13,10 @@ use crate::labels::{Labels, read_plain_labels, write_labels};
 use crate::potentials::{Potentials, read_potentials, write_potentials};
 use crate::solution::{Solution, read_solution, write_solution};
 use dimacs_lines::{DeviceFault, Sink, Source};
-use dimacs_records::{Part, ReadError, Text, TextKind, put_line};
+use dimacs_records::{Part, ReadError, Text, TextKind, Writable, put_line};
 use std::alloc::Global;
 
-impl Text for Solution {
+impl Writable for Solution {
     ghost kind = { kinds.Solution };
 
     ghost Content = { SolutionValue };
@@ -33,10 +33,6 @@ impl Text for Solution {
 
     fn kind() -> TextKind {
         TextKind::Solution
-    }
-
-    fn read<S: Source>(alloc: Global, source: &mut S) -> Result<Self, ReadError> {
-        read_solution(alloc, source)
     }
 
     fn write<K: Sink>(&self, sink: &mut K) -> Result<(), DeviceFault> {
@@ -56,7 +52,13 @@ impl Text for Solution {
     }
 }
 
-impl Text for Cut {
+impl Text for Solution {
+    fn read<S: Source>(alloc: Global, source: &mut S) -> Result<Self, ReadError> {
+        read_solution(alloc, source)
+    }
+}
+
+impl Writable for Cut {
     ghost kind = { kinds.Cut };
 
     ghost Content = { CutValue };
@@ -73,10 +75,6 @@ impl Text for Cut {
 
     fn kind() -> TextKind {
         TextKind::Cut
-    }
-
-    fn read<S: Source>(alloc: Global, source: &mut S) -> Result<Self, ReadError> {
-        read_cut(alloc, source)
     }
 
     fn write<K: Sink>(&self, sink: &mut K) -> Result<(), DeviceFault> {
@@ -96,7 +94,13 @@ impl Text for Cut {
     }
 }
 
-impl Text for Potentials {
+impl Text for Cut {
+    fn read<S: Source>(alloc: Global, source: &mut S) -> Result<Self, ReadError> {
+        read_cut(alloc, source)
+    }
+}
+
+impl Writable for Potentials {
     ghost kind = { kinds.Potentials };
 
     ghost Content = { PotentialsValue };
@@ -113,10 +117,6 @@ impl Text for Potentials {
 
     fn kind() -> TextKind {
         TextKind::Potentials
-    }
-
-    fn read<S: Source>(alloc: Global, source: &mut S) -> Result<Self, ReadError> {
-        read_potentials(alloc, source)
     }
 
     fn write<K: Sink>(&self, sink: &mut K) -> Result<(), DeviceFault> {
@@ -136,7 +136,13 @@ impl Text for Potentials {
     }
 }
 
-impl Text for Labels {
+impl Text for Potentials {
+    fn read<S: Source>(alloc: Global, source: &mut S) -> Result<Self, ReadError> {
+        read_potentials(alloc, source)
+    }
+}
+
+impl Writable for Labels {
     ghost kind = { kinds.Labels };
 
     ghost Content = { LabelsValue };
@@ -153,10 +159,6 @@ impl Text for Labels {
 
     fn kind() -> TextKind {
         TextKind::Labels
-    }
-
-    fn read<S: Source>(alloc: Global, source: &mut S) -> Result<Self, ReadError> {
-        read_plain_labels(alloc, source)
     }
 
     fn write<K: Sink>(&self, sink: &mut K) -> Result<(), DeviceFault> {
@@ -176,7 +178,13 @@ impl Text for Labels {
     }
 }
 
-impl Text for Distances {
+impl Text for Labels {
+    fn read<S: Source>(alloc: Global, source: &mut S) -> Result<Self, ReadError> {
+        read_plain_labels(alloc, source)
+    }
+}
+
+impl Writable for Distances {
     ghost kind = { kinds.Distances };
 
     ghost Content = { LabelsValue };
@@ -195,10 +203,6 @@ impl Text for Distances {
         TextKind::Distances
     }
 
-    fn read<S: Source>(alloc: Global, source: &mut S) -> Result<Self, ReadError> {
-        read_distances(alloc, source)
-    }
-
     fn write<K: Sink>(&self, sink: &mut K) -> Result<(), DeviceFault> {
         write_distances(self, sink)
     }
@@ -214,5 +218,11 @@ impl Text for Distances {
                 Part::Wide(blocks.len() as i128),
             ],
         )
+    }
+}
+
+impl Text for Distances {
+    fn read<S: Source>(alloc: Global, source: &mut S) -> Result<Self, ReadError> {
+        read_distances(alloc, source)
     }
 }

@@ -7,10 +7,9 @@ use Rattle.dimacs_network.specs.{declared.adjacency_lists.Side.{Side}, Adjacency
 use Rattle.dimacs_network.specs.declared.adjacency_lists.Side.TheVariants.{Tail, Head}
 use Rattle.dimacs_methods.specs.declared.potentials.claim.ResidualArc.{ResidualArc}
 use Rattle.dimacs_judging.specs.{Flows.{net, cost}, Rows.{amount_at}}
-use Rattle.dimacs_judging.proofs.{Products.{mul_add, mul_neg, mul_comm, mul_le, mul_zero}, Passing.{pair_at}}
-use Rattle.dimacs_decide.specs.{Bounds.{KeepsBounds}, inside.Heights.{gain_at}}
+use Rattle.dimacs_judging.proofs.{Products.{mul_add, mul_neg, mul_comm, mul_le}, Passing.{pair_at}}
+use Rattle.dimacs_decide.specs.{inside.Heights.{gain_at}, inside.Cancelling.{IsCancelling, HasCapacityFor}}
 use Rattle.dimacs_decide.specs.inside.ResidualCapacities.{carried_after, residual_capacity_at, residual_capacity_on}
-use Rattle.dimacs_decide.specs.inside.Cancelling.{IsCancelling, HasCapacityFor}
 use Rattle.dimacs_decide.specs.inside.Cycles.{IsSaving, LeadsFrom, ending_of, gain_after, node_after, residual_at}
 use Rattle.dimacs_decide.proofs.RaiseLemmas.{AllZip-set, net-raise, sum_arcs-set, when-neg, within_at}
 use Rattle.dimacs_decide.proofs.HeightLemmas.{arc_bounds}
@@ -34,15 +33,6 @@ saved before after total amount gained c h g = omega (arith, ints, h, g, mul_add
 
 mul_neg_left : (a b : ℤ) → a *ℤ b ≡ neg_ℤ (neg_ℤ a *ℤ b)
 mul_neg_left a b = let e = mul_neg b a in omega (arith, ints, e, mul_comm a b, mul_comm (neg_ℤ a) b)
-
-pub cancel_none : (arcs : List ArcView) (x : List ℤ) (cycle : List ResidualArc) (amount : ℤ) → KeepsBounds arcs x → IsCancelling arcs x x cycle 0 amount
-cancel_none arcs x cycle amount within = record {
-  within = within;
-  balance = λ u. omega (arith, ints);
-  heads = λ k inside other. omega (arith, ints);
-  tails = λ k inside other. omega (arith, ints);
-  costs = omega (arith, ints, mul_zero amount);
-}
 
 pub residual_capacity_none : (arcs : List ArcView) (x : List ℤ) (cycle : List ResidualArc) (amount : ℤ) → pos 0 <ℤ amount → HasCapacityFor arcs x cycle 0 amount
 residual_capacity_none arcs x cycle amount some = record { positive = some; each = λ i less. absurd (omega (arith, less)) }

@@ -184,8 +184,8 @@ reaches_all g s claim b reached nodes source whole v node some = elim (cases_Boo
 pub certified : (g : NetworkValue) (s : ℕ) (claim : ℕ → Option ℤ) (b : BlockValue) (reached : ℕ → Bool) → All (JoinsNodes g.nodes) g.arcs → b.source ≡ s → IsTightTree g.nodes g.arcs claim b reached → ReachesAll g.nodes claim reached
     → Clear (claim_row g.arcs claim) → AreDistancesFrom g s claim × IsBlockOf g s claim b
 certified g s claim b reached joined source is all arcs =
-    let agrees : (v : ℕ) → IsNode g.nodes v → label b v ≡ claim v = λ v node. same_option (label b v) (claim v) (is.claimed v) (λ some. sym (is.marked v) ∙ all v node some) in
-    shown g s claim b joined source is.whole is.lawful is.tight_arcs agrees (all_relaxed g.arcs claim arcs)
+    let agrees : (v : ℕ) → IsNode g.nodes v → label b v ≡ claim v = λ v node. same_option (label b v) (claim v) (is.block.claimed v) (λ some. sym (is.block.marks v) ∙ all v node some) in
+    shown g s claim b joined source is.block.whole is.block.lawful is.tight_arcs agrees (all_relaxed g.arcs claim arcs)
 
 -- ---- a single block
 found_alone : (b : BlockValue) (s : ℕ) → b.source ≡ s → block_of (b ∷ []) s ≡ Some b

@@ -133,9 +133,6 @@ module _ (arcs : List ArcView) (x : List ℤ) (labels : ℕ → HeightLabel) (pa
     }
 
 -- ---- a cycle that a heuristic found
-pub walk_none : (arcs : List ArcView) (x : List ℤ) (cycle : List ResidualArc) → IsWalked arcs x cycle 0
-walk_none arcs x cycle = record { each = λ j h. absurd (omega (arith, h)); apart = λ i j less h. absurd (omega (arith, h)) }
-
 module _ (arcs : List ArcView) (x : List ℤ) (cycle : List ResidualArc) (j : ℕ) where
   pub walk_more : IsWalked arcs x cycle j → LeadsFrom arcs x (node_after arcs cycle j) (residual_at cycle j) → ((i : ℕ) → i < j → ending_of arcs (residual_at cycle i) ≢ ending_of arcs (residual_at cycle j))
       → IsWalked arcs x cycle (j + 1)

@@ -28,12 +28,6 @@ part_none (pos n) h = omega (arith, ints)
 part_none (negsuc n) h = refl
 
 -- ---- no excess
-pub even_tells : (i : MinValue) (x : List ℤ) (imbalance : ℕ → ℤ) → KeepsBounds i.arcs x → AreImbalances i x imbalance → ((v : ℕ) → 1 ≤ v → v < i.nodes + 1 → imbalance v ≡ pos 0) → FeasibleMin i x
-even_tells i x imbalance within are none = record {
-  within = within;
-  balanced = λ v node. omega (arith, ints, are v node, none v node.0 (omega (arith, node.1)));
-}
-
 -- ---- a set whose supply is more than can leave it
 shows : (i : MinValue) (set : CutValue) → IsMin i → set.nodes ≡ i.nodes → Violated i (members set) → ShowsNoFlow i set
 shows i set law of bad = (record { nodes_are = of; violated = bad }, violated_has_no_flow i law.joined (members set) bad)

@@ -11,7 +11,7 @@ use Rattle.dimacs_claims.proofs.{BlockLemmas.{label_at_wide}, ByIdLemmas.{distan
 use Rattle.dimacs_judging.specs.{CertificateTests.{RelaxFails}, Tests.{Clear}}
 use Rattle.dimacs_decide.specs.{Distances.{claim_row}, inside.TightTrees.{ReachesAll, node_at}}
 use Rattle.dimacs_decide.specs.inside.FewLabels.{AreNamed, ArcsHoldFrom, ArePlaced, IsUnreached}
-use Rattle.dimacs_decide.proofs.{ClaimLemmas.{some_value}, TightLemmas.{none_of, placed}}
+use Rattle.dimacs_decide.proofs.{ClaimLemmas.{some_value}, MarkedLemmas.{none_of}, TightLemmas.{placed}}
 
 abbrev pub id_at : BlockValue → ℕ → ℕ
 id_at b k = (get_or b.labels k no_label).id

@@ -1,33 +1,21 @@
 -- Labels of nodes that lead back to the source, and one more.
-use Rattle.std.proofs.Common.{◌≡◌, ◌≢◌, inl, inr, ℕ, suc, ◌+◌, ◌<◌, ◌≤◌, ◌==◌, Bool, true, false, not, cond, [], ◌∷◌, length, Option, Some, None, IsSome, is_some, ℤ, pos, refl, sym, ap, subst, ◌∙◌, arith}
-use Rattle.std.proofs.{lemmas.Bool.{cases_eq, ne_eqb}, lemmas.Bool.Decides.{eqb_tells}, lemmas.List.{length-append}}
+use Rattle.std.proofs.Common.{◌≡◌, ◌≢◌, inl, inr, ℕ, suc, ◌==◌, Bool, true, false, cond, [], Option, Some, None, IsSome, is_some, ℤ, pos, refl, sym, ap, subst, ◌∙◌}
+use Rattle.std.proofs.{lemmas.Bool.{cases_eq, ne_eqb}, lemmas.Bool.Decides.{eqb_tells}}
 use Rattle.std.proofs.lemmas.List.Elements.{All-nil, All-push}
-use Rattle.dimacs_lines.specs.Limits.{most_count, most_nodes, IsNode}
+use Rattle.dimacs_lines.specs.Limits.{IsNode}
 use Rattle.dimacs_claims.specs.declared.block.Label.{Label}
 use Rattle.dimacs_claims.specs.Labels.{BlockValue, IsBlock, distance_in, label, with_label}
 use Rattle.dimacs_claims.proofs.BlockLemmas.{each_after_nil, each_after_push}
-use Rattle.dimacs_decide.specs.{inside.TightTrees.{absent}, Predecessors.{IsNext, LeadsBack}}
+use Rattle.dimacs_decide.specs.Predecessors.{IsNext, LeadsBack}
 use Rattle.dimacs_decide.specs.inside.LabelTrees.{AreLabelled, AreLabelledBelow, IsLabelTree, Keeps, Places}
-use Rattle.dimacs_decide.proofs.{ClaimLemmas.{same_option}, CountLemmas.{count_all, one_fewer}}
-
-one_labelled : (labelled after : ℕ → Bool) (at : ℕ) → ((v : ℕ) → v ≢ at → after v ≡ labelled v) → (n : ℕ) → at < n → labelled at ≡ false → after at ≡ true → absent after n + 1 ≡ absent labelled n
-one_labelled labelled after at others n h old new = one_fewer (λ v. not (labelled v)) (λ v. not (after v)) at (λ v ne. ap not (others v ne)) n h (ap not old) (ap not new)
+use Rattle.dimacs_decide.proofs.{ClaimLemmas.{same_option}, MarkedLemmas.{alone, none_if_unmarked, one_more}}
 
 -- ---- only the source
 pub begun : (nodes : ℕ) (claim : ℕ → Option ℤ) (pred : ℕ → ℕ) (s : ℕ) (labelled : ℕ → Bool) → IsNode nodes s → claim s ≡ Some (pos 0) → IsBlock nodes (record { source = s; radius = None; labels = [] })
     → labelled s ≡ true → ((v : ℕ) → v ≢ s → labelled v ≡ false) → IsLabelTree nodes s claim pred (record { source = s; radius = None; labels = [] }) labelled
 begun nodes claim pred s labelled node at lawful here others = record {
   source = refl;
-  whole = refl;
-  lawful = lawful;
-  marked = λ v. elim (eqb_tells s v) [
-    | inl same ↦ rw same.0 (ap labelled (sym same.1) ∙ here)
-    | inr apart ↦ rw apart.0 (others v (λ e. apart.1 (sym e)))
-  ];
-  claimed = λ v d is. elim (eqb_tells s v) [
-    | inl same ↦ (let e : Some (pos 0) ≡ Some d = rw same.0 at is in ap claim (sym same.1) ∙ (at ∙ e))
-    | inr apart ↦ absurd (let e : None ≡ Some d = rw apart.0 at is in cc)
-  ];
+  block = alone nodes claim s labelled node at lawful here others;
   preds = All-nil _;
   order = each_after_nil _;
   leads = λ v is. elim (cases_eq v s) [
@@ -38,26 +26,10 @@ begun nodes claim pred s labelled node at lawful here others = record {
     | inl same ↦ subst (IsNode nodes) (sym same) node
     | inr apart ↦ absurd (let e : false ≡ true = sym (others v apart) ∙ is in cc)
   ];
-  count = omega (arith, count_all (λ v. true) (nodes + 1) (λ v h. refl), one_labelled (λ v. false) labelled s others (nodes + 1) (omega (arith, node.1)) refl here);
 }
 
 -- ---- one more node
-none_of : (o : Option ℤ) → is_some o ≡ false → o ≡ None
-none_of None none = refl
-none_of (Some d) none = absurd (cc)
-
 module _ (nodes s : ℕ) (claim : ℕ → Option ℤ) (pred : ℕ → ℕ) (b : BlockValue) (labelled : ℕ → Bool) (u : ℕ) (is : IsLabelTree nodes s claim pred b labelled) (new : labelled u ≡ false) where
-  pub unlabelled : label b u ≡ None
-  unlabelled = none_of (label b u) (sym (is.marked u) ∙ new)
-
-  pub few : nodes ≤ most_nodes → IsNode nodes u → length b.labels < most_count
-  few small node =
-      let one = one_labelled labelled (λ v. cond (v == u) true (labelled v)) u (λ v ne. elim (eqb_tells v u) [ inl same ↦ absurd (ne same.1) | inr apart ↦ rw apart.0 refl ]) (nodes + 1) (omega (arith, node.1)) new (elim (eqb_tells u u) [ inl same ↦ rw same.0 refl | inr apart ↦ absurd (apart.1 refl) ]) in
-      omega (arith, one, is.count, small)
-
-  pub pred_labelled : labelled (pred u) ≡ true → is_some (label b (pred u)) ≡ true
-  pred_labelled from = sym (is.marked (pred u)) ∙ from
-
   module _ (d : ℤ) (after : ℕ → Bool) (node : IsNode nodes u) (from : labelled (pred u) ≡ true) (next : IsNext s claim pred b.labels (record { dist = d; id = u; pred = pred u })) (named : claim u ≡ Some d)
       (lawful : IsBlock nodes (with_label b (record { dist = d; id = u; pred = pred u })))
       (adds : (v : ℕ) → label (with_label b (record { dist = d; id = u; pred = pred u })) v ≡ cond (u == v) (Some d) (label b v))
@@ -65,28 +37,13 @@ module _ (nodes s : ℕ) (claim : ℕ → Option ℤ) (pred : ℕ → ℕ) (b : 
     abbrev l : Label
     l = record { dist = d; id = u; pred = pred u }
 
-    on_node : (v : ℕ) → (u == v) ≡ true → label (with_label b l) v ≡ Some d
-    on_node v same = adds v ∙ ap (λ t. cond t (Some d) (label b v)) same
-
-    off_node : (v : ℕ) → (u == v) ≡ false → label (with_label b l) v ≡ label b v
-    off_node v apart = adds v ∙ ap (λ t. cond t (Some d) (label b v)) apart
-
     further : LeadsBack pred s u
     further = let (steps, leads) = is.leads (pred u) from in (suc steps, leads)
 
     pub grown : IsLabelTree nodes s claim pred (with_label b l) after
     grown = record {
       source = is.source;
-      whole = is.whole;
-      lawful = lawful;
-      marked = λ v. elim (eqb_tells u v) [
-        | inl same ↦ (ap after (sym same.1) ∙ here) ∙ sym (ap is_some (on_node v same.0))
-        | inr apart ↦ others v (λ e. apart.1 (sym e)) ∙ (is.marked v ∙ sym (ap is_some (off_node v apart.0)))
-      ];
-      claimed = λ v e at. elim (eqb_tells u v) [
-        | inl same ↦ ap claim (sym same.1) ∙ (named ∙ (sym (on_node v same.0) ∙ at))
-        | inr apart ↦ is.claimed v e (sym (off_node v apart.0) ∙ at)
-      ];
+      block = one_more b l adds nodes claim labelled after is.block new node named lawful here others;
       preds = All-push (λ (m : Label). m.pred ≡ pred m.id) b.labels l is.preds refl;
       order = each_after_push (IsNext s claim pred) b.labels l is.order next;
       leads = λ v h. elim (cases_eq v u) [
@@ -97,7 +54,6 @@ module _ (nodes s : ℕ) (claim : ℕ → Option ℤ) (pred : ℕ → ℕ) (b : 
         | inl same ↦ subst (IsNode nodes) (sym same) node
         | inr apart ↦ is.inside v (sym (others v apart) ∙ h)
       ];
-      count = omega (arith, is.count, one_labelled labelled after u others (nodes + 1) (omega (arith, node.1)) new here, length-append b.labels (l ∷ []));
     }
 
 -- labels stay if one is added
@@ -106,7 +62,7 @@ placed_keeps labelled after u placed v h = elim (cases_eq v u) [ inl same ↦ ap
 
 -- the source counts as labelled, with distance 0
 pub source_labelled : (nodes s : ℕ) (claim : ℕ → Option ℤ) (pred : ℕ → ℕ) (b : BlockValue) (labelled : ℕ → Bool) → IsLabelTree nodes s claim pred b labelled → (labelled s ≡ true) × (claim s ≡ Some (pos 0))
-source_labelled nodes s claim pred b labelled is = (is.marked s ∙ ap is_some own, is.claimed s (pos 0) own)
+source_labelled nodes s claim pred b labelled is = (is.block.marks s ∙ ap is_some own, is.block.claimed s (pos 0) own)
   where
     own : label b s ≡ Some (pos 0)
     own = elim (eqb_tells b.source s) [ inl same ↦ rw same.0 refl | inr apart ↦ absurd (apart.1 is.source) ]
@@ -122,12 +78,12 @@ module _ (nodes s : ℕ) (claim : ℕ → Option ℤ) (pred : ℕ → ℕ) (b : 
         v,
         record {
           due = (apart, some);
-          left = sym (among_labels v apart) ∙ none_of (label b v) (sym (is.marked v) ∙ not_labelled);
-          least = λ u less due. ap is_some (sym (among_labels u due.0)) ∙ (sym (is.marked u) ∙ earlier u less due.1);
+          left = sym (among_labels v apart) ∙ none_if_unmarked nodes claim b labelled is.block v not_labelled;
+          least = λ u less due. ap is_some (sym (among_labels u due.0)) ∙ (sym (is.block.marks u) ∙ earlier u less due.1);
         },
         leads,
       )
 
 -- ---- all labels
 pub all_agree : (nodes s : ℕ) (claim : ℕ → Option ℤ) (pred : ℕ → ℕ) (b : BlockValue) (labelled : ℕ → Bool) → IsLabelTree nodes s claim pred b labelled → AreLabelled claim labelled → (v : ℕ) → label b v ≡ claim v
-all_agree nodes s claim pred b labelled is all v = same_option (label b v) (claim v) (is.claimed v) (λ some. sym (is.marked v) ∙ all v some)
+all_agree nodes s claim pred b labelled is all v = same_option (label b v) (claim v) (is.block.claimed v) (λ some. sym (is.block.marks v) ∙ all v some)

@@ -1,19 +1,18 @@
 -- What heights and cycles show of a flow.
-use Rattle.std.proofs.Common.{◌≡◌, ◌≢◌, inl, inr, ℕ, ◌+◌, ◌<◌, ◌≤◌, ◌==◌, cond, if◌then◌else◌, Bool, true, false, List, length, Some, ℤ, pos, ◌<ℤ◌, refl, sym, ap, subst, ◌∙◌, arith, eq-eqb}
-use Rattle.std.proofs.{lemmas.Int.{ints}, lemmas.Bool.{cases_order, ne_eqb}, lemmas.Bool.Decides.{Decides-int_eq}}
+use Rattle.std.proofs.Common.{◌≡◌, ◌≢◌, inl, inr, ℕ, ◌+◌, ◌<◌, ◌≤◌, ◌==◌, cond, if◌then◌else◌, Bool, true, false, List, length, Some, ℤ, pos, refl, sym, ap, subst, ◌∙◌, arith, eq-eqb}
+use Rattle.std.proofs.{lemmas.Bool.{cases_order, ne_eqb}, lemmas.Bool.Decides.{Decides-int_eq}}
 use Rattle.std.proofs.lemmas.Slice.Zip.{AllZip-long}
 use Rattle.std.specs.{Prelude.{unwrap_or}, Ordering.{int_eq}, FinMap.{get, insert, remove}}
 use Rattle.dimacs_network.proofs.{Nodes.{get-empty, get-insert}, SkipLemmas.{skipped}}
 use Rattle.dimacs_lines.specs.Limits.{IsNode}
 use Rattle.dimacs_claims.specs.Potentials.{PotentialsValue, potential_of, with_potential, zero_potentials}
 use Rattle.dimacs_instance.specs.MinFlows.{MinValue, IsMin}
-use Rattle.dimacs_judging.specs.{Feasible.{FeasibleMin}, Flows.{cost, net}, Optimum.{Least}, Rows.{amount_at}}
+use Rattle.dimacs_judging.specs.{Feasible.{FeasibleMin}, Optimum.{Least}, Rows.{amount_at}}
 use Rattle.dimacs_judging.specs.Potentials.{IsSlackAt, Slack}
 use Rattle.dimacs_network.specs.{Arcs.{no_arc, arc_at}, Skips.{Skips}}
 use Rattle.dimacs_network.specs.declared.adjacency_lists.Side.TheVariants.{Tail, Head}
 use Rattle.dimacs_judging.proofs.{Duality.{slack_is_least}, Passing.{pair_at, pairs_from}}
-use Rattle.dimacs_decide.specs.{Bounds.{KeepsBounds}, declared.heights.HeightLabel.{HeightLabel}}
-use Rattle.dimacs_decide.specs.inside.Heights.{AreSettled, height_of}
+use Rattle.dimacs_decide.specs.{declared.heights.HeightLabel.{HeightLabel}, inside.Heights.{AreSettled, height_of}}
 use Rattle.dimacs_decide.proofs.{HeightLemmas.{settled_slack}, SideLemmas.{near_within}}
 
 -- ---- setting potentials
@@ -79,9 +78,3 @@ settled_tells i x labels p law feasible settled same =
     rw (tail, head) slack in
     let slack : Slack i.arcs x p = pairs_from (IsSlackAt p) i.arcs x no_arc (pos 0) (AllZip-long _ i.arcs x feasible.within) at in
     (slack_is_least i law.joined x p feasible slack, slack)
-
-pub less_tells : (i : MinValue) (x y : List ℤ) → FeasibleMin i x → KeepsBounds i.arcs y → ((v : ℕ) → net i.arcs y v ≡ net i.arcs x v) → cost i.arcs y <ℤ cost i.arcs x
-    → (¬ Least i x) × FeasibleMin i y × (cost i.arcs y <ℤ cost i.arcs x)
-less_tells i x y feasible within balances less =
-    let other : FeasibleMin i y = record { within = within; balanced = λ v node. balances v ∙ feasible.balanced v node } in
-    (λ best. let le = best.least y other in omega (arith, ints, le, less), other, less)

@@ -10,9 +10,6 @@ use Rattle.dimacs_judging.specs.LightestArcs.{AreCovering, Covers, arcs_in}
 use Rattle.dimacs_decide.specs.{Distances.{claim_row}, inside.FewLabels.{AreLightest}, inside.TightTrees.{IsTightTree}}
 
 -- ---- which arcs
-pub all_lightest : (arcs : List ArcView) → AreLightest arcs arcs
-all_lightest arcs = record { within = λ a has. has; cover = λ a has. (a, has, record { tail = refl; head = refl; cost = omega (arith, ints) }) }
-
 module _ (arcs : List ArcView) (order : List ℕ) (are : AreCovering arcs order) where
   at_place : (p : ℕ) → p < length order → arc_at (arcs_in arcs order) p ≡ arc_at arcs (get_or order p 0)
   at_place p inside = get_or-map (arc_at arcs) order p 0 no_arc inside
@@ -60,11 +57,7 @@ module _ (all least : List ArcView) (claim : ℕ → Option ℤ) (are : AreLight
 
   pub lightest_tree : (nodes : ℕ) (b : BlockValue) (reached : ℕ → Bool) → IsTightTree nodes least claim b reached → IsTightTree nodes all claim b reached
   lightest_tree nodes b reached is = record {
-    whole = is.whole;
-    lawful = is.lawful;
-    marked = is.marked;
-    claimed = is.claimed;
+    block = is.block;
     tight_arcs = All-weaker (HasTightArc least b) (HasTightArc all b) (λ l has. (has.0, has.1, record { arc = has.2.arc; present = are.within has.2.arc has.2.present; from = has.2.from; to = has.2.to; adds = has.2.adds })) b.labels is.tight_arcs;
     walks = λ v on. (let (walk, leads, tight) = is.walks v on in (walk, walks_still walk b.source v leads, tight));
-    count = is.count;
   }

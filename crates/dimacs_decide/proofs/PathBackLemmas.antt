@@ -3,9 +3,9 @@ use Rattle.std.proofs.Common.{◌≡◌, ◌≢◌, ◌⊎◌, inl, inr, ℕ, su
 use Rattle.std.proofs.{lemmas.Bool.{cases_Bool, cases_lt, ne_eqb}, lemmas.Bool.Decides.{eqb_tells}}
 use Rattle.std.proofs.{lemmas.List.{length-append}, lemmas.List.Elements.{All-cons, All-head, All-nil, All-tail}}
 use Rattle.dimacs_lines.specs.Limits.{IsNode}
-use Rattle.dimacs_decide.specs.{Predecessors.{LeadsBack, back}, inside.TightTrees.{absent}}
+use Rattle.dimacs_decide.specs.{Predecessors.{LeadsBack, back}, inside.MarkedBlocks.{absent}}
 use Rattle.dimacs_decide.specs.inside.LabelTrees.{AreOff, ComesFirst, EndsPath, IsPathBack, Leads, Places}
-use Rattle.dimacs_decide.proofs.CountLemmas.{count_all, count_some, one_fewer}
+use Rattle.dimacs_decide.proofs.{CountLemmas.{count_all, count_some, one_fewer}, MarkedLemmas.{none_of}}
 
 -- ---- steps
 back_next : (pred : ℕ → ℕ) (n v : ℕ) → back pred (suc n) v ≡ pred (back pred n v)
@@ -154,28 +154,11 @@ module _ (claim : ℕ → Option ℤ) (pred : ℕ → ℕ) where
         (λ i less. within (back pred i v) (path_some v path end is i (omega (arith, less, long))))
         (λ i less. path_off labelled v path end is off i (omega (arith, less, long)))
 
-none_of : (o : Option ℤ) → is_some o ≡ false → o ≡ None
-none_of None none = refl
-none_of (Some d) none = absurd (cc)
-
 -- without a distance, neither has the predecessor one
 pub none_within : (nodes : ℕ) (claim : ℕ → Option ℤ) (pred : ℕ → ℕ) → ((v : ℕ) → IsSome (claim v) → IsNode nodes v) → ((v : ℕ) → claim v ≡ None → pred v ≡ 0) → (u : ℕ) → claim u ≡ None → claim (pred u) ≡ None
 none_within nodes claim pred within preds u none = ap claim (preds u none) ∙ elim (cases_Bool (is_some (claim 0))) [
   | inl some ↦ absurd (omega (arith, (within 0 some).0))
   | inr off ↦ none_of (claim 0) off
-]
-
--- where a path stops
-pub stops_at : (nodes : ℕ) (claim : ℕ → Option ℤ) (labelled : ℕ → Bool) (long end : ℕ) → (IsSome (claim end) × (labelled end ≡ false) × (long ≤ nodes) → ⊥) → EndsPath nodes claim labelled long end
-stops_at nodes claim labelled long end stays = elim (cases_Bool (is_some (claim end))) [
-  | inr none ↦ inl (none_of (claim end) none)
-  | inl some ↦ elim (cases_Bool (labelled end)) [
-    | inl on ↦ inr (inl on)
-    | inr off ↦ elim (cases_lt nodes long) [
-      | inl longer ↦ inr (inr longer)
-      | inr short ↦ absurd (stays (some, off, short))
-    ]
-  ]
 ]
 
 all_but_last : {X : Type 0} (P : X → Type 0) (xs : List X) (x : X) → All P (xs ++ x ∷ []) → All P xs × P x

@@ -1,5 +1,5 @@
 -- Augmentation flow along a path whose ranks fall from its end to its root.
-use Rattle.std.proofs.Common.{◌≡◌, ◌≢◌, ℕ, suc, zero, ◌==◌, ◌<◌, ℤ, pos, ◌+ℤ◌, ◌-ℤ◌, ◌≤ℤ◌, ◌<ℤ◌, Bool, true, false, neg_ℤ, List, [], ◌∷◌, length, get_or, set, refl, sym, ap, subst, ◌∙◌, arith, w64, SFits}
+use Rattle.std.proofs.Common.{◌≡◌, ◌≢◌, ℕ, suc, zero, ◌==◌, ◌<◌, ℤ, pos, ◌+ℤ◌, ◌-ℤ◌, ◌≤ℤ◌, Bool, true, false, neg_ℤ, List, [], ◌∷◌, length, get_or, set, refl, sym, ap, subst, ◌∙◌, arith, w64, SFits}
 use Rattle.std.proofs.{lemmas.Int.{ints}, lemmas.List.{get_or-set_other, get_or-set_same}}
 use Rattle.std.proofs.lemmas.Slice.Zip.{AllZip-long}
 use Rattle.std.specs.List.{AllZip}
@@ -11,7 +11,7 @@ use Rattle.dimacs_judging.specs.{Flows.{sum_arcs, when, net}, Rows.{amount_at}}
 use Rattle.dimacs_judging.proofs.Passing.{pair_at}
 use Rattle.dimacs_decide.specs.{declared.search.Visit.{Visit}, Bounds.{KeepsBounds}, inside.Raising.{Pushed, IsRaising}}
 use Rattle.dimacs_decide.specs.inside.ResidualCapacities.{carried_after, residual_capacity_at}
-use Rattle.dimacs_decide.specs.inside.Residual.{IsReachedBy, rank_of, residual_capacity_of, parent_arc_of}
+use Rattle.dimacs_decide.specs.inside.Residual.{IsReachedBy, rank_of, parent_arc_of}
 
 -- ---- one amount changes
 pub sum_arcs-set : (f : ArcView → ℤ → ℤ) (arcs : List ArcView) (y : List ℤ) (k : ℕ) (z : ℤ) → k < length arcs → k < length y
@@ -48,13 +48,6 @@ pub within_at : (arcs : List ArcView) (y : List ℤ) (k : ℕ) (z : ℤ) → Kee
 within_at arcs y k z within h long = rw (get_or-set_same y k z (pos 0) long) at (pair_at _ arcs (set y k z) k no_arc (pos 0) within h)
 
 -- ---- the amount that was sent
-push_none : (arcs : List ArcView) (rank : ℕ → ℕ) (x : List ℤ) (sink : ℕ) (amount : ℤ) → KeepsBounds arcs x → Pushed arcs rank x x sink sink amount
-push_none arcs rank x sink amount within = record {
-  within = within;
-  balance = λ u. omega (arith, ints);
-  below = λ k h p q. refl;
-}
-
 -- along an arc whose other end is nearer to the root
 push : (side : Side) (arcs : List ArcView) (rank : ℕ → ℕ) (x y : List ℤ) (t k : ℕ) (amount : ℤ) → Pushed arcs rank x y t (other_end side (arc_at arcs k)) amount → k < length arcs
     → rank (end_of side (arc_at arcs k)) < rank (other_end side (arc_at arcs k)) → pos 0 ≤ℤ amount → amount ≤ℤ residual_capacity_at side (arc_at arcs k) (amount_at x k)
@@ -77,15 +70,6 @@ push Head arcs rank x y t k amount p h falls some residual_capacity =
       balance = λ u. omega (arith, ints, p.balance u, net-raise arcs y k (neg_ℤ amount) u h long, when-neg ((arc_at arcs k).tail == u) amount, when-neg ((arc_at arcs k).head == u) amount);
       below = λ j l s t. get_or-set_other y k j _ (pos 0) (λ e. let f : rank (arc_at arcs j).tail ≡ rank (arc_at arcs k).tail = ap (λ m. rank (arc_at arcs m).tail) e in omega (arith, f, s, falls)) ∙ p.below j l (omega (arith, s, falls)) (omega (arith, t, falls));
     }
-
-pub raising_none : (arcs : List ArcView) (x : List ℤ) (visits : ℕ → Visit) (to : ℕ) (amount : ℤ) → 0 < rank_of visits to → pos 0 <ℤ amount → amount ≤ℤ residual_capacity_of visits to → KeepsBounds arcs x
-    → IsRaising arcs x x visits to to amount
-raising_none arcs x visits to amount reached some residual_capacity within = record {
-  reached = reached;
-  positive = some;
-  residual_capacity = residual_capacity;
-  pushed = push_none arcs (rank_of visits) x to amount within;
-}
 
 -- ---- one step back on the path
 module _ (arcs : List ArcView) (x y : List ℤ) (visits : ℕ → Visit) (t at : ℕ) (amount : ℤ)

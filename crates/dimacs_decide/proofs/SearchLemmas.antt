@@ -2,13 +2,13 @@
 use Rattle.std.proofs.Common.{◌≡◌, ◌⊎◌, inl, inr, ℕ, suc, zero, ◌+◌, ◌-◌, ◌<◌, ◌≤◌, ◌==◌, List, [], ◌∷◌, ◌++◌, length, ℤ, pos, ◌≤ℤ◌, ◌<ℤ◌, refl, sym, ap, subst, ◌∙◌, arith}
 use Rattle.std.proofs.{lemmas.Int.{ints}, lemmas.Bool.{cases_eq, cases_order}, Math.Seq.{get_or-append_seam}}
 use Rattle.std.proofs.lemmas.List.{length-append, get_or_append_left}
-use Rattle.std.specs.Prelude.{slice_index, Some, None}
+use Rattle.std.specs.Prelude.{slice_index}
 use Rattle.dimacs_network.specs.{declared.network.ArcView.{ArcView}, Arcs.{arc_at}}
 use Rattle.dimacs_network.specs.{declared.adjacency_lists.Side.{Side}, AdjacencyLists.{end_of, other_end, IsLast}}
 use Rattle.dimacs_network.specs.declared.adjacency_lists.Side.TheVariants.{Tail, Head}
 use Rattle.dimacs_lines.specs.Limits.{IsNode}
 use Rattle.dimacs_decide.specs.{declared.search.Visit.{Visit}, inside.ResidualCapacities.{residual_capacity_on}}
-use Rattle.dimacs_decide.specs.inside.Residual.{unvisited, rank_of, residual_capacity_of, parent_arc_of, IsReachedBy, unreached, IsSideFollowed, IsDone, IsQueued, IsResidualSearch, IsNext, Becomes, Reaches, Grows, IsExplored}
+use Rattle.dimacs_decide.specs.inside.Residual.{unvisited, rank_of, residual_capacity_of, parent_arc_of, IsReachedBy, unreached, IsSideFollowed, IsDone, IsQueued, IsResidualSearch, IsNext, Becomes, Reaches, Grows}
 use Rattle.dimacs_decide.proofs.CountLemmas.{count_most, one_zero_fewer}
 
 -- ---- growing
@@ -239,28 +239,6 @@ search_next nodes arcs x imbalance visits queue at is enough tail head = record 
           | inr apart ↦ elim apart [ inl low ↦ absurd (omega (arith, low, behind)) | inr high ↦ inl (j, omega (arith, high), less, here) ]
         ]
   ];
-}
-
--- the whole queue is done
-pub search_over : (nodes : ℕ) (arcs : List ArcView) (x : List ℤ) (imbalance : ℕ → ℤ) (visits : ℕ → Visit) (queue : List ℕ) (at : ℕ) → IsResidualSearch nodes arcs x imbalance visits queue at → length queue ≤ at → IsExplored nodes arcs x imbalance visits None
-search_over nodes arcs x imbalance visits queue at is over = record {
-  tree = is.tree;
-  roots = is.roots;
-  residual_capacities = is.residual_capacities;
-  found_is = λ v h. elim (is.pending v h) [
-    | inr p ↦ p
-    | inl w ↦ let (j, behind, less, here) = w in absurd (omega (arith, behind, less, over))
-  ];
-}
-
--- the next node of the queue has a deficit
-pub search_found : (nodes : ℕ) (arcs : List ArcView) (x : List ℤ) (imbalance : ℕ → ℤ) (visits : ℕ → Visit) (queue : List ℕ) (at t : ℕ) → IsResidualSearch nodes arcs x imbalance visits queue at → at < length queue → slice_index queue at ≡ t → imbalance t <ℤ pos 0
-    → IsExplored nodes arcs x imbalance visits (Some t)
-search_found nodes arcs x imbalance visits queue at t is inside here lacks = record {
-  tree = is.tree;
-  roots = is.roots;
-  residual_capacities = is.residual_capacities;
-  found_is = (subst (λ u. 0 < rank_of visits u) here (is.queued at inside).1, lacks);
 }
 
 -- no node is reached

@@ -1,5 +1,5 @@
 -- The result of a search, and the flow after sending.
-use Rattle.std.proofs.Common.{◌≡◌, inl, inr, ℕ, suc, zero, ◌+◌, ◌<◌, ◌≤◌, ◌&&◌, Bool, true, false, not, nat_lt, List, length, All, ℤ, pos, ◌+ℤ◌, ◌-ℤ◌, ◌≤ℤ◌, ◌<ℤ◌, Some, refl, sym, subst, ◌∙◌, arith, eq-eqb}
+use Rattle.std.proofs.Common.{◌≡◌, inl, inr, ℕ, suc, zero, ◌+◌, ◌<◌, ◌≤◌, ◌&&◌, Bool, true, false, not, nat_lt, List, length, All, ℤ, pos, ◌-ℤ◌, ◌≤ℤ◌, ◌<ℤ◌, refl, sym, ◌∙◌, arith, eq-eqb}
 use Rattle.std.proofs.{lemmas.Int.{ints, by_lt_z}, lemmas.Bool.{cases_order, lt-ltb, ne_eqb, false≢true}}
 use Rattle.std.proofs.lemmas.Slice.Zip.{AllZip-long}
 use borrow.Author.Tests.{ltb-true}
@@ -11,10 +11,9 @@ use Rattle.dimacs_network.specs.{declared.network.ArcView.{ArcView}, Arcs.{Joins
 use Rattle.dimacs_network.specs.declared.adjacency_lists.Side.TheVariants.{Tail, Head}
 use Rattle.dimacs_judging.specs.{Cuts.{members}, Rows.{amount_at}}
 use Rattle.dimacs_judging.proofs.Passing.{pair_at, pairs_from}
-use Rattle.dimacs_decide.specs.{Bounds.{KeepsBounds}, declared.search.Visit.{Visit}, inside.Raising.{Shifts}}
-use Rattle.dimacs_decide.specs.inside.Residual.{HaveImbalance, IsDone, IsExplored, IsResidualTree, is_in, rank_of, residual_capacity_of}
-use Rattle.dimacs_decide.specs.inside.Augmentation.{IsSent, IsShut, IsShutAt}
-use Rattle.dimacs_decide.proofs.SideLemmas.{far_within, near_within}
+use Rattle.dimacs_decide.specs.{Bounds.{KeepsBounds}, declared.search.Visit.{Visit}}
+use Rattle.dimacs_decide.specs.{inside.Residual.{IsDone, is_in, rank_of}, inside.Augmentation.{IsShut, IsShutAt}}
+use Rattle.dimacs_decide.proofs.SideLemmas.{near_within}
 
 -- ---- a set that no residual arc leaves
 shut_arc : (b d : Bool) (z low cap : ℤ) → low ≤ℤ z → z ≤ℤ cap → (b ≡ true → pos 0 <ℤ (cap -ℤ z) → d ≡ true) → (d ≡ true → pos 0 <ℤ (z -ℤ low) → b ≡ true) → ((b && not d) ≡ true → z ≡ cap) × ((d && not b) ≡ true → z ≡ low)
@@ -48,32 +47,6 @@ module _ (nodes : ℕ) (arcs : List ArcView) (x : List ℤ) (imbalance : ℕ →
   }
 
 -- ---- the flow after sending
-pub reached_node : (nodes : ℕ) (arcs : List ArcView) (x : List ℤ) (imbalance : ℕ → ℤ) (visits : ℕ → Visit) → All (JoinsNodes nodes) arcs → IsResidualTree arcs x visits → HaveImbalance nodes imbalance visits → (v : ℕ) → 0 < rank_of visits v → IsNode nodes v
-reached_node nodes arcs x imbalance visits joined tree roots v some = elim (cases_order (rank_of visits v) 1) [
-  | inl same ↦ (roots v same).0
-  | inr apart ↦ elim apart [
-    | inl low ↦ absurd (omega (arith, low, some))
-    | inr high ↦ let by = tree v (omega (arith, high)) in subst (IsNode nodes) by.to (far_within by.side nodes arcs _ joined by.within)
-  ]
-]
-
-pub is_sent : (nodes : ℕ) (arcs : List ArcView) (x y : List ℤ) (imbalance : ℕ → ℤ) (visits : ℕ → Visit) (from to : ℕ) (amount : ℤ) → All (JoinsNodes nodes) arcs → IsExplored nodes arcs x imbalance visits (Some to)
-    → pos 0 <ℤ amount → (amount +ℤ imbalance to) ≤ℤ pos 0 → KeepsBounds arcs y → rank_of visits from ≡ 1 → amount ≤ℤ residual_capacity_of visits from → Shifts arcs x y from to amount → IsSent nodes arcs x y imbalance
-is_sent nodes arcs x y imbalance visits from to amount joined is some within_deficit within root residual_capacity shifts =
-    let (node, enough) = is.roots from root in
-    record {
-      from = from;
-      to = to;
-      amount = amount;
-      from_within = node;
-      to_within = reached_node nodes arcs x imbalance visits joined is.tree is.roots to is.found_is.0;
-      positive = some;
-      enough = omega (arith, ints, enough, residual_capacity);
-      within_deficit = within_deficit;
-      within = within;
-      shifts = shifts;
-    }
-
 -- ---- the nodes that were reached
 pub record IsCutBelow (visits : ℕ → Visit) (nodes id : ℕ) (cut : CutValue) : Type 0 where
   pub of : cut.nodes ≡ nodes

@@ -1,42 +1,29 @@
 -- The search over tight arcs.
-use Rattle.std.proofs.Common.{◌≡◌, ◌≢◌, inl, inr, ℕ, suc, zero, ◌+◌, ◌-◌, ◌<◌, ◌≤◌, ◌==◌, Bool, true, false, not, cond, List, [], ◌∷◌, ◌++◌, All, Contains, length, get_or, Option, Some, None, is_some, ℤ, pos, ◌+ℤ◌, refl, sym, ap, subst, ◌∙◌, arith}
+use Rattle.std.proofs.Common.{◌≡◌, ◌≢◌, inl, inr, ℕ, suc, zero, ◌+◌, ◌-◌, ◌<◌, ◌≤◌, ◌==◌, Bool, true, false, cond, List, [], ◌∷◌, ◌++◌, All, Contains, length, get_or, Option, Some, None, is_some, ℤ, pos, ◌+ℤ◌, refl, sym, ap, subst, ◌∙◌, arith}
 use Rattle.std.proofs.{lemmas.Bool.{cases_eq, cases_order}, lemmas.Bool.Decides.{eqb_tells}}
 use Rattle.std.proofs.lemmas.List.{length-append, get_or_append_left}
 use Rattle.std.proofs.lemmas.List.Elements.{All-nil, All-push, All-head, All-tail, All-weaker, All-contains, All-from_get_or}
-use Rattle.dimacs_lines.specs.Limits.{most_count, most_nodes, IsNode}
+use Rattle.dimacs_lines.specs.Limits.{IsNode}
 use Rattle.dimacs_network.specs.{declared.network.ArcView.{ArcView}, AdjacencyLists.{IsLast}, Arcs.{arc_at, no_arc}}
 use Rattle.dimacs_network.specs.declared.adjacency_lists.Side.TheVariants.{Tail}
 use Rattle.dimacs_claims.specs.declared.block.Label.{Label}
 use Rattle.dimacs_claims.specs.Labels.{BlockValue, IsBlock, distance_in, label, no_label, with_label}
 use Rattle.dimacs_judging.specs.{Labels.{HasTightArc}, Walks.{IsWalk}}
 use Rattle.dimacs_decide.specs.Distances.{IsTight, IsTightlyReached}
-use Rattle.dimacs_decide.specs.inside.TightTrees.{IsFollowed, IsTightTree, IsWholeTightTree, TreeGrows, absent, node_at}
-use Rattle.dimacs_decide.proofs.{ClaimLemmas.{walk_one}, CountLemmas.{count_all, one_fewer}}
-
--- ---- counting
-one_reached : (reached after : ℕ → Bool) (at : ℕ) → ((v : ℕ) → v ≢ at → after v ≡ reached v) → (n : ℕ) → at < n → reached at ≡ false → after at ≡ true → absent after n + 1 ≡ absent reached n
-one_reached reached after at others n h old new = one_fewer (λ v. not (reached v)) (λ v. not (after v)) at (λ v ne. ap not (others v ne)) n h (ap not old) (ap not new)
+use Rattle.dimacs_decide.specs.inside.TightTrees.{IsFollowed, IsTightTree, IsWholeTightTree, TreeGrows, node_at}
+use Rattle.dimacs_decide.proofs.ClaimLemmas.{walk_one}
+use Rattle.dimacs_decide.proofs.MarkedLemmas.{alone, label_if_marked, none_if_unmarked, off_node, one_more, some_of}
 
 -- ---- only the source
 pub begun : (nodes : ℕ) (arcs : List ArcView) (claim : ℕ → Option ℤ) (s : ℕ) (reached : ℕ → Bool) → IsNode nodes s → claim s ≡ Some (pos 0) → IsBlock nodes (record { source = s; radius = None; labels = [] })
     → reached s ≡ true → ((v : ℕ) → v ≢ s → reached v ≡ false) → IsTightTree nodes arcs claim (record { source = s; radius = None; labels = [] }) reached
 begun nodes arcs claim s reached node at lawful here others = record {
-  whole = refl;
-  lawful = lawful;
-  marked = λ v. elim (eqb_tells s v) [
-    | inl same ↦ rw same.0 (ap reached (sym same.1) ∙ here)
-    | inr apart ↦ rw apart.0 (others v (λ e. apart.1 (sym e)))
-  ];
-  claimed = λ v d is. elim (eqb_tells s v) [
-    | inl same ↦ (let e : Some (pos 0) ≡ Some d = rw same.0 at is in ap claim (sym same.1) ∙ (at ∙ e))
-    | inr apart ↦ absurd (let e : None ≡ Some d = rw apart.0 at is in cc)
-  ];
+  block = alone nodes claim s reached node at lawful here others;
   tight_arcs = All-nil _;
   walks = λ v is. elim (cases_eq v s) [
     | inl same ↦ ([], sym same, All-nil (IsTight claim))
     | inr apart ↦ absurd (let e : false ≡ true = sym (others v apart) ∙ is in cc)
   ];
-  count = omega (arith, count_all (λ v. true) (nodes + 1) (λ v h. refl), one_reached (λ v. false) reached s others (nodes + 1) (omega (arith, node.1)) refl here);
 }
 
 -- ---- growing
@@ -54,26 +41,7 @@ pub passed_still : (arcs : List ArcView) (claim : ℕ → Option ℤ) (reached a
 passed_still arcs claim reached after v more passed = All-weaker (λ (a : ArcView). a.tail ≡ v → IsTight claim a → reached a.head ≡ true) (λ (a : ArcView). a.tail ≡ v → IsTight claim a → after a.head ≡ true) (λ a is from tight. more _ (is from tight)) arcs passed
 
 -- ---- one more node
-some_of : (o : Option ℤ) → is_some o ≡ true → (d : ℤ) × (o ≡ Some d)
-some_of None some = absurd (cc)
-some_of (Some d) some = (d, refl)
-
-pub none_of : (o : Option ℤ) → is_some o ≡ false → o ≡ None
-none_of None none = refl
-none_of (Some d) none = absurd (cc)
-
 module _ (nodes : ℕ) (arcs : List ArcView) (claim : ℕ → Option ℤ) (b : BlockValue) (reached : ℕ → Bool) (a : ArcView) (is : IsTightTree nodes arcs claim b reached) (new : reached a.head ≡ false) where
-  pub unlabelled : label b a.head ≡ None
-  unlabelled = none_of (label b a.head) (sym (is.marked a.head) ∙ new)
-
-  pub few : nodes ≤ most_nodes → IsNode nodes a.head → length b.labels < most_count
-  few small node =
-      let one = one_reached reached (λ v. cond (v == a.head) true (reached v)) a.head (λ v ne. elim (eqb_tells v a.head) [ inl same ↦ absurd (ne same.1) | inr apart ↦ rw apart.0 refl ]) (nodes + 1) (omega (arith, node.1)) new (elim (eqb_tells a.head a.head) [ inl same ↦ rw same.0 refl | inr apart ↦ absurd (apart.1 refl) ]) in
-      omega (arith, one, is.count, small)
-
-  pub tail_labelled : reached a.tail ≡ true → is_some (label b a.tail) ≡ true
-  tail_labelled from = sym (is.marked a.tail) ∙ from
-
   module _ (d : ℤ) (after : ℕ → Bool) (has : Contains arcs a) (node : IsNode nodes a.head) (from : reached a.tail ≡ true) (tight : IsTight claim a) (named : claim a.head ≡ Some d)
       (lawful : IsBlock nodes (with_label b (record { dist = d; id = a.head; pred = a.tail })))
       (adds : (v : ℕ) → label (with_label b (record { dist = d; id = a.head; pred = a.tail })) v ≡ cond (a.head == v) (Some d) (label b v))
@@ -84,16 +52,10 @@ module _ (nodes : ℕ) (arcs : List ArcView) (claim : ℕ → Option ℤ) (b : B
     abbrev b' : BlockValue
     b' = with_label b l
 
-    on_head : (v : ℕ) → (a.head == v) ≡ true → label b' v ≡ Some d
-    on_head v same = adds v ∙ ap (λ t. cond t (Some d) (label b v)) same
-
-    off_head : (v : ℕ) → (a.head == v) ≡ false → label b' v ≡ label b v
-    off_head v apart = adds v ∙ ap (λ t. cond t (Some d) (label b v)) apart
-
     kept_label : (v : ℕ) (e : ℤ) → label b v ≡ Some e → label b' v ≡ Some e
     kept_label v e at = elim (eqb_tells a.head v) [
-      | inl same ↦ absurd (let f : Some e ≡ None = sym at ∙ (ap (label b) (sym same.1) ∙ unlabelled) in cc)
-      | inr apart ↦ off_head v apart.0 ∙ at
+      | inl same ↦ absurd (let f : Some e ≡ None = sym at ∙ (ap (label b) (sym same.1) ∙ none_if_unmarked nodes claim b reached is.block a.head new) in cc)
+      | inr apart ↦ off_node b l adds v apart.0 ∙ at
     ]
 
     kept_mark : (v : ℕ) → reached v ≡ true → after v ≡ true
@@ -105,8 +67,8 @@ module _ (nodes : ℕ) (arcs : List ArcView) (claim : ℕ → Option ℤ) (b : B
     newest : HasTightArc arcs b' l
     newest =
         let (base, tail, head) = tight in
-        let (t, labelled) = some_of (label b a.tail) (tail_labelled from) in
-        let both : Some t ≡ Some base = sym (is.claimed a.tail t labelled) ∙ tail in
+        let (t, labelled) = some_of (label b a.tail) (label_if_marked nodes claim b reached is.block a.tail from) in
+        let both : Some t ≡ Some base = sym (is.block.claimed a.tail t labelled) ∙ tail in
         let same : t ≡ base = cc in
         let ends : Some (base +ℤ a.cost) ≡ Some d = sym head ∙ named in
         let adds_up : base +ℤ a.cost ≡ d = cc in
@@ -119,22 +81,12 @@ module _ (nodes : ℕ) (arcs : List ArcView) (claim : ℕ → Option ℤ) (b : B
 
     pub grown : IsTightTree nodes arcs claim b' after
     grown = record {
-      whole = is.whole;
-      lawful = lawful;
-      marked = λ v. elim (eqb_tells a.head v) [
-        | inl same ↦ (ap after (sym same.1) ∙ here) ∙ sym (ap is_some (on_head v same.0))
-        | inr apart ↦ others v (λ e. apart.1 (sym e)) ∙ (is.marked v ∙ sym (ap is_some (off_head v apart.0)))
-      ];
-      claimed = λ v e at. elim (eqb_tells a.head v) [
-        | inl same ↦ ap claim (sym same.1) ∙ (named ∙ (sym (on_head v same.0) ∙ at))
-        | inr apart ↦ is.claimed v e (sym (off_head v apart.0) ∙ at)
-      ];
+      block = one_more b l adds nodes claim reached after is.block new node named lawful here others;
       tight_arcs = All-push (HasTightArc arcs b') b.labels l (All-weaker (HasTightArc arcs b) (HasTightArc arcs b') older b.labels is.tight_arcs) newest;
       walks = λ v h. elim (cases_eq v a.head) [
         | inl same ↦ subst (IsTightlyReached arcs b.source claim) (sym same) further
         | inr apart ↦ is.walks v (sym (others v apart) ∙ h)
       ];
-      count = omega (arith, is.count, one_reached reached after a.head others (nodes + 1) (omega (arith, node.1)) new here, length-append b.labels (l ∷ []));
     }
 
     place_kept : (j : ℕ) → j ≤ length b.labels → node_at b' j ≡ node_at b j
@@ -205,11 +157,11 @@ some_under false d o some = some
 
 -- the source and the nodes of all labels are reached
 pub node_reached : (nodes : ℕ) (arcs : List ArcView) (claim : ℕ → Option ℤ) (b : BlockValue) (reached : ℕ → Bool) → IsTightTree nodes arcs claim b reached → (j : ℕ) → j ≤ length b.labels → reached (node_at b j) ≡ true
-node_reached nodes arcs claim b reached is zero h = is.marked b.source ∙ own
+node_reached nodes arcs claim b reached is zero h = is.block.marks b.source ∙ own
   where
     own : is_some (label b b.source) ≡ true
     own = elim (eqb_tells b.source b.source) [ inl same ↦ rw same.0 refl | inr apart ↦ absurd (apart.1 refl) ]
-node_reached nodes arcs claim b reached is (suc k) h = is.marked _ ∙ some_under (b.source == (get_or b.labels k no_label).id) (pos 0) _ (named b.labels k (omega (arith, h)))
+node_reached nodes arcs claim b reached is (suc k) h = is.block.marks _ ∙ some_under (b.source == (get_or b.labels k no_label).id) (pos 0) _ (named b.labels k (omega (arith, h)))
   where
     named : (labels : List Label) (i : ℕ) → i < length labels → is_some (distance_in labels (get_or labels i no_label).id) ≡ true
     named [] i inside = absurd (omega (arith, inside))
@@ -233,7 +185,7 @@ passed_more arcs claim b reached b' reached' at short grows here before j h = el
 module _ (nodes : ℕ) (arcs : List ArcView) (claim : ℕ → Option ℤ) (b : BlockValue) (reached : ℕ → Bool) (at : ℕ) (is : IsTightTree nodes arcs claim b reached) (over : length b.labels < at) (passed : ArePassed arcs claim b reached at) where
   step : (u : ℕ) → reached u ≡ true → IsFollowed arcs claim reached u
   step u h =
-      let (d, at_u) = some_of (label b u) (sym (is.marked u) ∙ h) in
+      let (d, at_u) = some_of (label b u) (sym (is.block.marks u) ∙ h) in
       let (j, inside, same) = placed b u d at_u in
       subst (IsFollowed arcs claim reached) same (passed j (omega (arith, inside, over)))
 

@@ -10,8 +10,8 @@ use Rattle.dimacs_instance.specs.MinFlows.{HasBounds}
 use Rattle.dimacs_decide.specs.declared.heights.HeightLabel.{HeightLabel}
 use Rattle.dimacs_decide.specs.inside.Heights.{AreHeights, BelowBound, below_of, bound, height_of}
 use Rattle.dimacs_decide.specs.inside.Traces.{IsCycle, IsFollowing, IsTrace}
-use Rattle.dimacs_decide.proofs.CountLemmas.{all_zero, one_zero_fewer, some_zero}
-use Rattle.dimacs_decide.proofs.{SideLemmas.{far_within, near_within}, HeightLemmas.{arc_bounds, gain_most}}
+use Rattle.dimacs_decide.proofs.{CountLemmas.{all_zero, one_zero_fewer}, SideLemmas.{far_within, near_within}}
+use Rattle.dimacs_decide.proofs.HeightLemmas.{arc_bounds, gain_most}
 
 -- ---- the node below
 pub below_none : (arcs : List ArcView) (l : HeightLabel) → l.arc_number ≡ 0 → below_of arcs l ≡ 0
@@ -105,9 +105,6 @@ module _ (nodes : ℕ) (arcs : List ArcView) (x : List ℤ) (labels : ℕ → He
 
   length_is : length longer ≡ length path + 1
   length_is = length-append path (at ∷ [])
-
-  pub residual_capacity_left : places at ≡ 0 → length path + 1 ≤ nodes + 1
-  residual_capacity_left none = omega (arith, is.each, some_zero places at (nodes + 1) (omega (arith, is.inside)) none)
 
   steps_to : (j : ℕ) → begin ≤ j → j < length path → below_of arcs (labels (slice_index longer j)) ≡ slice_index longer (j + 1)
   steps_to j behind less = elim (cases_order (j + 1) (length path)) [

@@ -11,5 +11,6 @@ pub mod ResidualCapacities
 pub mod TightTails
 pub mod Imbalances
 pub mod LabelTrees
+pub mod MarkedBlocks
 pub mod TightTrees
 pub mod Traces

@@ -29,12 +29,7 @@ fn least_residual_capacity<N: Network>(network: &N, cycle: &[ResidualArc], flow:
     let mut least = i64::MAX;
     for j in 0..cycle.len() {
         let residual = cycle[j];
-        let arc = network.arc(residual.arc);
-        let residual_capacity = residual_capacity_from(
-            residual.side,
-            arc,
-            flow.amount(residual.arc as usize),
-        );
+        let residual_capacity = residual_capacity_from(network, flow, residual.side, residual.arc);
         least = lesser(least, residual_capacity);
     }
     least

@@ -83,7 +83,7 @@ fn search_one<N: Network>(
     ensures decides { DecidesBlock graph.now claimed.now.source (label claimed.now) result }
     ensures lists { OnOk result (IfSome lists.new (AreAdjacencyLists Tail graph.now.arcs)) }
 {
-    let claim = PlacedClaim::new(claimed, NodeTable::new(alloc, 0))?;
+    let claim = PlacedClaim::new(claimed, NodeTable::new(alloc, u32::MAX))?;
     search_block(alloc, graph, lists, claimed.source(), &claim)
 }
 

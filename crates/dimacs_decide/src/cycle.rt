@@ -66,9 +66,8 @@ fn leads_from<N: Network>(network: &N, flow: &Flow, from: u32, residual: Residua
     if residual.arc >= network.arcs() {
         return false;
     }
-    let arc = network.arc(residual.arc);
-    residual.side.end_of(arc) == from
-        && residual_capacity_from(residual.side, arc, flow.amount(residual.arc as usize)) > 0
+    residual.side.end_of(network.arc(residual.arc)) == from
+        && residual_capacity_from(network, flow, residual.side, residual.arc) > 0
 }
 
 /// The node to which a residual arc leads; 0 if its arc doesn't exist.

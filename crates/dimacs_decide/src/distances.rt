@@ -130,10 +130,13 @@ fn nodes_hold<N: Network, C: DistanceClaim>(
     requires tree { IsWholeTightTree (N.node_count network.now) (N.list network.now) (C.claimed claim.now) tree.now.block (value_of tree.now.reached) }
     ensures { TestsRow (reach_row (record { nodes = N.node_count network.now; arcs = N.list network.now }) tree.now.block.source (C.claimed claim.now)) result }
 {
-    for v in 1..network.nodes() + 1 {
+    let end = network.nodes() + 1;
+    let mut v = 1;
+    while v < end {
         if claim.of(v).is_some() && !tree.reaches(v) {
             return Err((Where::Node(v), Reason::NoTightArc));
         }
+        v = claim.next(v + 1, end);
     }
     Ok(())
 }

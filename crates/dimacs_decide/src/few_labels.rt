@@ -56,7 +56,7 @@ impl Tables {
         Ok(Some(Tables {
             lightest,
             lists,
-            places: NodeTable::new(alloc, 0),
+            places: NodeTable::new(alloc, u32::MAX),
             reached: NodeTable::new(alloc, false),
         }))
     }

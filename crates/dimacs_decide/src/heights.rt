@@ -75,10 +75,10 @@ fn lift<N: Network>(
     requires bounded { BelowBound 1073741824 (value_of labels.old) }
     ensures { IfOk result (λ lifted. Lifts (N.list network.now) flow.now side parent_arc (value_of labels.old) lifted (value_of labels.new)) }
 {
-    let arc = network.arc(parent_arc);
-    if residual_capacity_from(side, arc, flow.amount(parent_arc as usize)) <= 0 {
+    if residual_capacity_from(network, flow, side, parent_arc) <= 0 {
         return Ok(false);
     }
+    let arc = network.arc(parent_arc);
     let to = side.other_end(arc);
     let height = labels.get(side.end_of(arc)).height + gain(side, arc);
     if height <= labels.get(to).height {

@@ -61,4 +61,17 @@ impl<'a> DistanceClaim for PlacedClaim<'a> {
         }
         Some(label.dist)
     }
+
+    fn next(&self, from: u32, end: u32) -> u32 {
+        if (self.places.blank() as usize) < self.block.labels().len() {
+            return from;
+        }
+        let next = self.places.next(from, end);
+        let source = self.block.source();
+        if from <= source && source < next {
+            source
+        } else {
+            next
+        }
+    }
 }

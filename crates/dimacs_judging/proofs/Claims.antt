@@ -5,9 +5,8 @@ use Rattle.dimacs_network.specs.{declared.network.ArcView.{ArcView}, Arcs.{joins
 use Rattle.dimacs_claims.specs.declared.solution.Entry.{Entry}
 use Rattle.dimacs_records.specs.declared.reasons.Reason.{Reason}
 use Rattle.dimacs_records.specs.declared.reasons.Reason.TheVariants.{UnknownArc, ArcTwice}
-use Rattle.dimacs_judging.specs.{declared.verdict.Where.{Where}, declared.verdict.Where.TheVariants.{Solution}}
+use Rattle.dimacs_judging.specs.{declared.verdict.Where.TheVariants.{Solution}, Tests.{Clear}}
 use Rattle.dimacs_judging.specs.Claims.{is_between, claimed_of, claimed_flow, HasArc, Carries, EntryFails, entry_at, entry_row}
-use Rattle.dimacs_judging.specs.Tests.{Clear, FirstOfRow}
 use Rattle.dimacs_judging.proofs.Firsts.{OneWay}
 
 -- ---- the flow of entries
@@ -33,18 +32,11 @@ module _ (arcs : List ArcView) (entries : List Entry) (clear : Clear (entry_row 
   pub claims_carried : (x : List ℤ) → x ≡ claimed_flow arcs entries → Carries arcs entries x
   claims_carried x is = record { each_has_arc = has_arc; amounts = is }
 
-  pub clear_carries : Carries arcs entries (claimed_flow arcs entries)
-  clear_carries = claims_carried (claimed_flow arcs entries) refl
-
 -- ---- entries that carry a flow pass
 pub carries_clear : (arcs : List ArcView) (entries : List Entry) (x : List ℤ) → Carries arcs entries x → Clear (entry_row arcs entries)
 carries_clear arcs entries x carries k place reason f =
     let fewer = carries.each_has_arc k f.0 in
     elim f.2 [ inl u ↦ u.1 (omega (arith, fewer)) | inr t ↦ absurd (omega (arith, fewer, t.2)) ]
-
--- if some entry fails, the entries carry no flow
-pub none_carried : (arcs : List ArcView) (entries : List Entry) (place : Where) (reason : Reason) → FirstOfRow (entry_row arcs entries) place reason → (x : List ℤ) → ¬ Carries arcs entries x
-none_carried arcs entries place reason f x carries = carries_clear arcs entries x carries f.number place reason f.fails
 
 -- ---- an entry fails for only one reason
 one_entry : (arcs : List ArcView) (before : List Entry) (e : Entry) (r s : Reason) → EntryFails arcs before e r → EntryFails arcs before e s → r ≡ s

@@ -7,8 +7,8 @@ use Rattle.std.proofs.lemmas.List.{get_or_default, take-append-drop, take_all, t
 use Rattle.std.proofs.lemmas.List.Elements.{All-cons, All-nil, Contains-append_cases, Contains-get_or}
 use Rattle.std.specs.{Prelude.{◌==◌, ◌&&◌, if◌then◌else◌, nat_le, Result, Ok, Err}, Result.{result_and}}
 use Rattle.std.specs.Int.{from_bool}
-use Rattle.dimacs_network.specs.{declared.node_table.NodeTable.{NodeTable}, Tables.{blank_of, value_of}}
-use Rattle.dimacs_network.specs.{declared.network.ArcView.{ArcView}, Arcs.{arc_at, no_arc}}
+use Rattle.dimacs_network.specs.{declared.node_table.NodeTable.{NodeTable}, Tables.{blank_of}, Arcs.{arc_at, no_arc}}
+use Rattle.dimacs_network.specs.declared.network.ArcView.{ArcView}
 use Rattle.dimacs_records.specs.{declared.reasons.Reason.{Reason}, Ranges.{IsWide}}
 use Rattle.dimacs_claims.specs.declared.block.Label.{Label}
 use Rattle.dimacs_claims.specs.Labels.{BlockValue, IsBlock, IsFresh, distance_in, label, no_label}
@@ -18,7 +18,7 @@ use Rattle.dimacs_judging.specs.{declared.node_label.NodeLabel.{NodeLabel}, decl
 use Rattle.dimacs_judging.specs.{declared.verdict.Where.TheVariants.{Arc}, inside.CertificateTests.{distance_rows}}
 use Rattle.dimacs_judging.specs.{CertificateTests.{RelaxFails, relax_row, support_row}, Labels.{HasTightArc}}
 use Rattle.dimacs_judging.specs.{inside.Distances.{Improves, IsTight}, Tests.{Clear, ClearBelow, FirstOfRow, TestsRow}}
-use Rattle.dimacs_judging.specs.inside.NodeLabels.{AreUnlabelled, AreSupported, SupportIsSound, AreSupportedBelow, AreWide, DefaultsToNone, HasLabels, IsFirstTight, NodeEntry, IsTightFor, RelaxesArc, LabelsSupported, KeepsEntry, is_supported, supported_count}
+use Rattle.dimacs_judging.specs.inside.NodeLabels.{AreSupported, SupportIsSound, AreSupportedBelow, AreWide, DefaultsToNone, HasLabels, IsFirstTight, NodeEntry, IsTightFor, RelaxesArc, LabelsSupported, KeepsEntry, is_supported, supported_count}
 use Rattle.dimacs_judging.specs.inside.Tests.{TestsRows, NamesReason}
 use Rattle.dimacs_judging.proofs.RowLemmas.{relax_clear_more, relax_first}
 
@@ -57,9 +57,6 @@ pub label_wide : (nodes : ℕ) (b : BlockValue) (v : ℕ) → IsBlock nodes b �
 label_wide nodes b v is = label_at_wide nodes (b ∷ []) 0 v (All-cons (IsBlock nodes) b [] is (All-nil (IsBlock nodes)))
 
 -- ---- setting labels
-pub new_unlabelled : {D : Type 0} (value : D → Option ℤ) (node_labels : NodeTable (NodeLabel D)) (node_label : NodeLabel D) → ((v : ℕ) → value_of node_labels v ≡ node_label) → blank_of node_labels ≡ node_label → value node_label.dist ≡ None → AreUnlabelled value node_labels
-new_unlabelled value node_labels node_label values blank none = record { defaults = ap (λ m. value m.dist) blank ∙ none; all = λ v. ap (λ m. value m.dist) (values v) ∙ none }
-
 pub defaults_still : {D : Type 0} (value : D → Option ℤ) (old new : NodeTable (NodeLabel D)) → blank_of new ≡ blank_of old → DefaultsToNone value old → DefaultsToNone value new
 defaults_still value old new same blank = ap (λ m. value m.dist) same ∙ blank
 
@@ -182,9 +179,6 @@ tight_where a at true lacks leads_is lacks_is = (
 )
 tight_where a at false lacks leads_is lacks_is = (λ yes. absurd (let no : IsTrue false = yes in cc), λ tight. leads_is.1 (tight.base, tight.tail, tight.head))
 
-pub head_unlabelled : (a : ArcView) (at : ℕ → NodeEntry) → (at a.head).dist ≡ None → ¬ IsFirstTight a at
-head_unlabelled a at none tight = let e : None ≡ Some (tight.base +ℤ a.cost) = sym none ∙ tight.head in cc
-
 -- the result of a test, with its terms replaced by equal ones
 pub fault_between : (radius tail from head to : Option ℤ) (weight cost : ℤ) (fault : Option Reason) → tail ≡ from → head ≡ to → weight ≡ cost → NamesReason (RelaxFails radius tail head weight) fault → NamesReason (RelaxFails radius from to cost) fault
 fault_between radius tail from head to weight cost fault tail_is head_is weight_is outcome =
@@ -206,13 +200,6 @@ module _ (a : ArcView) (old : ℕ → NodeEntry) where
   pred_kept : (supported : Bool) (new : NodeEntry) → new.pred ≡ (old a.head).pred + (if supported then 2 ^ 31 else 0) → is_supported new ≡ false → new.pred ≡ (old a.head).pred
   pred_kept true new pred unsupported = absurd (let yes = supported_from new (omega (arith, pred)) in cc)
   pred_kept false new pred unsupported = omega (arith, pred)
-
-  pub relaxes_same : (¬ IsFirstTight a old) → RelaxesArc a old old
-  relaxes_same off = record {
-    others = λ v apart. refl;
-    head = record { dist = refl; pred = λ unsupported. refl };
-    supported = (λ m. inl m, λ e. elim e [ inl m ↦ m | inr tight ↦ absurd (off tight) ]);
-  }
 
   pub relaxes_put : (new : ℕ → NodeEntry) (supported : Bool) → ((v : ℕ) → v ≢ a.head → new v ≡ old v) → (new a.head).dist ≡ (old a.head).dist → (new a.head).pred ≡ (old a.head).pred + (if supported then 2 ^ 31 else 0) → (IsTrue supported ↔ IsFirstTight a old) → RelaxesArc a old new
   relaxes_put new supported others dist pred is = record {
@@ -262,12 +249,6 @@ count_all p xs all x has = by (p x) refl
     by false off = absurd (omega (arith, all, count_more p (λ y. true) xs (λ y on. refl) x has off refl, count_by-le-length (λ y. true) xs))
 
 -- ---- after relaxing an arc
-pub same_dists : (a : ArcView) (old new : ℕ → NodeEntry) → RelaxesArc a old new → (v : ℕ) → (new v).dist ≡ (old v).dist
-same_dists a old new relaxes v = elim (cases_eq v a.head) [
-  | inl same ↦ ap (λ w. (new w).dist) same ∙ (relaxes.head.dist ∙ ap (λ w. (old w).dist) (sym same))
-  | inr off ↦ ap (λ (k : NodeEntry). k.dist) (relaxes.others v off)
-]
-
 module _ (a : ArcView) (old new : ℕ → NodeEntry) (b : BlockValue) (relaxes : RelaxesArc a old new) where
   keeps_entry : (v : ℕ) → KeepsEntry (old v) (new v)
   keeps_entry v = elim (cases_eq v a.head) [
@@ -279,9 +260,6 @@ module _ (a : ArcView) (old new : ℕ → NodeEntry) (b : BlockValue) (relaxes :
 
   pub dist_same : (v : ℕ) → (new v).dist ≡ (old v).dist
   dist_same v = (keeps_entry v).dist
-
-  pub wide_after : AreWide old → AreWide new
-  wide_after wide v = subst (λ claimed. IfSome claimed IsWide) (sym (dist_same v)) (wide v)
 
   supported_still : (v : ℕ) → is_supported (old v) ≡ true → is_supported (new v) ≡ true
   supported_still v m = elim (cases_eq v a.head) [

@@ -1,17 +1,16 @@
 -- One pass over the arcs for a yes: one more arc.
-use Rattle.std.proofs.Common.{◌≡◌, inl, inr, refl, sym, ap, ◌∙◌, ℕ, Bool, true, false, not, ◌&&◌, ◌+◌, ◌*◌, ◌^◌, ◌<◌, ◌≤◌, List, [], ◌∷◌, ◌++◌, All, length, take, slice_get, Option, Some, ℤ, pos, ◌+ℤ◌, ◌-ℤ◌, ◌<ℤ◌, arith, ap₂}
+use Rattle.std.proofs.Common.{◌≡◌, inl, inr, refl, sym, ◌∙◌, ℕ, Bool, true, false, not, ◌&&◌, ◌+◌, ◌*◌, ◌^◌, ◌<◌, ◌≤◌, List, [], ◌∷◌, ◌++◌, All, length, take, slice_get, Option, Some, ℤ, pos, ◌+ℤ◌, ◌-ℤ◌, ◌<ℤ◌, arith, ap₂}
 use Rattle.std.proofs.{lemmas.Int.{ints}, lemmas.Bool.{cases_eq}, lemmas.Bool.Decides.{eqb_tells}}
 use Rattle.std.proofs.{lemmas.List.{take_all}, lemmas.List.Elements.{All-head, All-tail}}
 use Rattle.std.specs.List.{AllZip}
 use Rattle.dimacs_instance.specs.MaxFlows.{HasCapacityAlone}
 use Rattle.dimacs_lines.specs.Limits.{IsNode}
-use Rattle.dimacs_network.specs.{declared.network.ArcView.{ArcView}, Arcs.{JoinsNodes}, Skips.{Skips}}
-use Rattle.dimacs_network.proofs.SkipLemmas.{skipped}
+use Rattle.dimacs_network.specs.{declared.network.ArcView.{ArcView}, Arcs.{JoinsNodes}}
 use Rattle.dimacs_judging.specs.{declared.one_pass.NodeState.{NodeState}, Cuts.{IsTightAt}, Flows.{net, cost, when}}
 use Rattle.dimacs_judging.specs.FlowTests.{BoundFails, balance_row, bound_row, cost_row, feasible_rows}
 use Rattle.dimacs_judging.specs.{Potentials.{IsSlackAt, reduced_cost}, Rows.{flow_row}, inside.Ranges.{IsOfSize}}
 use Rattle.dimacs_judging.specs.Tests.{AllClear, Clear, ClearBelow}
-use Rattle.dimacs_judging.specs.inside.OnePass.{AddsArc, AddsAt, AreBlank, AreInitial, CostFitsOneMore, ReducedTest, SetsState, States, indicator, state_with}
+use Rattle.dimacs_judging.specs.inside.OnePass.{AddsArc, AddsAt, CostFitsOneMore, ReducedTest, SetsState, States, indicator, state_with}
 use Rattle.dimacs_judging.proofs.{Products.{product_small}, RowLemmas.{arc_clear_end, flow_clear_more}}
 use Rattle.dimacs_judging.proofs.StepLemmas.{cost_clear_more, cost_more, cost_step, net_more}
 
@@ -21,26 +20,12 @@ pub record HavePotentials (p : ℕ → ℤ) (n : ℕ) (states : States) : Type 0
   pub set : (v : ℕ) → v < n → 1 ≤ v → (states v).potential ≡ p v
   pub blank : (v : ℕ) → n ≤ v → states v ≡ state_with (pos 0)
 
-pub no_potentials : (p : ℕ → ℤ) (states : States) → AreBlank states → HavePotentials p 1 states
-no_potentials p states none = record {
-  balances = λ v. rw (none v) refl;
-  set = λ v below low. absurd (omega (arith, below, low));
-  blank = λ v from. none v;
-}
-
 pub potentials_more : (p : ℕ → ℤ) (n : ℕ) (old new : States) (z : ℤ) → HavePotentials p n old → SetsState n (state_with z) old new → z ≡ p n → HavePotentials p (n + 1) new
 potentials_more p n old new z have sets is = record {
   balances = λ v. elim (cases_eq v n) [ inl e ↦ rw (e, sets.set) refl | inr off ↦ rw (sets.others v off) (have.balances v) ];
   set = λ v below low. elim (cases_eq v n) [ inl e ↦ rw (e, sets.set) is | inr off ↦ rw (sets.others v off) (have.set v (omega (arith, below, off)) low) ];
   blank = λ v from. rw (sets.others v (λ e. absurd (omega (arith, from, e)))) (have.blank v (omega (arith, from)));
 }
-
-pub sets_blank : (n : ℕ) (states : States) (z : ℤ) → states n ≡ state_with (pos 0) → z ≡ pos 0 → SetsState n (state_with z) states states
-sets_blank n states z none zero = record { set = none ∙ ap state_with (sym zero); others = λ v off. refl }
-
-pub skipped_potentials : (p : ℕ → ℤ) (from end to : ℕ) (states : States) → Skips (λ v. p v ≡ pos 0) from end to → HavePotentials p from states → HavePotentials p to states
-skipped_potentials p from end to states is =
-    skipped _ (λ n. HavePotentials p n states) from end to is (λ v least below none have. potentials_more p v states states (pos 0) have (sets_blank v states (pos 0) (have.blank v (omega arith)) refl) (sym none))
 
 -- the node's state, with more of its balance
 pub adds_at : (node : ℕ) (x sum : ℤ) (state : NodeState) (old new : States) → state.potential ≡ (old node).potential → state.balance ≡ sum → sum ≡ (old node).balance +ℤ x → SetsState node state old new → AddsAt node x old new
@@ -85,17 +70,6 @@ module _ (nodes : ℕ) (arcs : List ArcView) (p : ℕ → ℤ) (fails : ReducedT
         cost_is = omega (arith, ints, takes.cost_is, added.cost_is, cost_more arcs x i a z here carries);
         cost_size = cost_size;
       }
-
-pub added_none : (nodes : ℕ) (arcs : List ArcView) (p : ℕ → ℤ) (fails : ReducedTest) (x : List ℤ) (states : States) (sum : ℤ) → AreInitial nodes p states sum → HaveAdded nodes arcs p fails x 0 states sum
-added_none nodes arcs p fails x states sum begun = record {
-  bounds = λ k below. absurd (omega (arith, below));
-  costs = λ k below. absurd (omega (arith, below));
-  slack = λ k below. absurd (omega (arith, below));
-  balances = λ v. omega (arith, ints, begun.balances v);
-  potentials = begun.potentials;
-  cost_is = omega (arith, ints, begun.none);
-  cost_size = omega (arith, ints, begun.none);
-}
 
 -- all arcs
 module _ (nodes : ℕ) (arcs : List ArcView) (p : ℕ → ℤ) (fails : ReducedTest) (x : List ℤ) (i : ℕ) (states : States) (sum : ℤ) (all : length arcs ≤ i) (long : length x ≡ length arcs) (added : HaveAdded nodes arcs p fails x i states sum) where

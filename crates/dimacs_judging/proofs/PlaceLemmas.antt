@@ -6,8 +6,7 @@ use Rattle.std.proofs.lemmas.List.Sums.{count_by-le-length, count_by_more_yes, c
 use Rattle.std.specs.Prelude.{is_some}
 use Rattle.dimacs_network.specs.{declared.network.ArcView.{ArcView}, Arcs.{joins, IsKthBetween, no_arc, arc_at}}
 use Rattle.dimacs_claims.specs.declared.solution.Entry.{Entry}
-use Rattle.dimacs_records.specs.declared.reasons.Reason.{Reason}
-use Rattle.dimacs_records.specs.declared.reasons.Reason.TheVariants.{UnknownArc, ArcTwice}
+use Rattle.dimacs_records.specs.{declared.reasons.Reason.{Reason}, declared.reasons.Reason.TheVariants.{ArcTwice}}
 use Rattle.dimacs_judging.proofs.{Claims.{claims_carried}, SupportLemmas.{ends_joined, counted_before, counted_in_all}}
 use Rattle.dimacs_judging.proofs.EntryLemmas.{joined_at, one_kth, between_ends, counted_more, counted_same, none_claimed, between_own, claimed_more, clear_more, first_still}
 use Rattle.dimacs_judging.specs.{Claims.{is_between, Carries, EntryFails}, declared.verdict.Where.{Where}}
@@ -53,9 +52,6 @@ module _ (arcs : List ArcView) (before : List Entry) (e : Entry) where
   found_among k i found =
       let more = counted_in_all (joins e.tail e.head) arcs i (arc_at arcs i) (slice_get-get_or arcs i no_arc found.0) (joined_at arcs e.tail e.head k i found) in
       omega (arith, more, found.2)
-
-  pub unknown_fails : IsKthBetween arcs e.tail e.head 0 None → EntryFails arcs before e UnknownArc
-  unknown_fails none = inl (refl, λ known. absurd (omega (arith, none, known)))
 
   twice_fails : (first : ℕ) → IsKthBetween arcs e.tail e.head 0 (Some first) → IsKthBetween arcs e.tail e.head (count_by (is_between e.tail e.head) before) None → EntryFails arcs before e ArcTwice
   twice_fails first found none = let some = found_among 0 first found in inr (refl, omega (arith, some), none)

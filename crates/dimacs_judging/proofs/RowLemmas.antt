@@ -1,5 +1,5 @@
 -- Rows of tests, test by test.
-use Rattle.std.proofs.Common.{◌≡◌, true, false, ℕ, ◌+◌, ◌<◌, ◌≤◌, List, length, get_or, slice_get, Some, None, Option, Result, Ok, Err, IsSome, subst, sym, ◌∙◌, ℤ, pos, refl, arith, below_more}
+use Rattle.std.proofs.Common.{◌≡◌, ℕ, ◌+◌, ◌<◌, ◌≤◌, List, length, get_or, slice_get, Some, Option, Result, Ok, Err, IsSome, sym, ◌∙◌, ℤ, pos, refl, arith, below_more}
 use Rattle.std.proofs.lemmas.Option.{get_or_from_slice_get, slice_get_within}
 use Rattle.dimacs_network.specs.{declared.network.ArcView.{ArcView}, Arcs.{no_arc, arc_at}, Skips.{Skips}}
 use Rattle.dimacs_network.proofs.SkipLemmas.{skipped}
@@ -60,9 +60,6 @@ pub node_first : (nodes : ℕ) (fails : ℕ → Reason → Type 0) (v : ℕ) (re
 node_first nodes fails v reason low high below at = record { number = v; fails = ((low, high), refl, at); earlier = below }
 
 -- ---- weights
-pub weights_free : (arcs : List ArcView) (b : BlockValue) → b.radius ≡ None → Clear (weight_row arcs b)
-weights_free arcs b none k place reason f = let some : false ≡ true = subst IsSome none f.0 in absurd (cc)
-
 pub weights_all : (arcs : List ArcView) (b : BlockValue) → Clear (negative_row arcs) → Clear (weight_row arcs b)
 weights_all arcs b clear k place reason f = clear k place reason f.1
 

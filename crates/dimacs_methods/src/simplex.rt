@@ -36,8 +36,8 @@ pub(crate) fn block_size(arcs: u32) -> u32 {
 }
 
 /// While the tree has more than an eighth of its artificial arcs, one leaves it late if the work so far is more than this
-/// for each arc and node, and two blocks for each one that left. Then cost scaling is mostly faster.
-const FREE_WORK: u64 = 15;
+/// for each arc and node, and one and a half blocks for each one that left. Then cost scaling is mostly faster.
+const FREE_WORK: u64 = 5;
 
 #[derive(Drop)]
 pub(crate) struct Simplex<V: Number> {
@@ -187,7 +187,7 @@ impl<V: Number> Simplex<V> {
         self.joined = self.joined.wrapping_add(1);
         let nodes = self.tree.root();
         let is_joining = self.joined.saturating_add(2) < nodes - nodes / 8;
-        let blocks = u64::from(self.joined).wrapping_mul(2);
+        let blocks = u64::from(self.joined).wrapping_mul(3) / 2;
         let joining = u64::from(self.block).wrapping_mul(blocks);
         let in_time = self.size.wrapping_mul(FREE_WORK).wrapping_add(joining);
         self.is_late = is_joining && self.work > in_time;

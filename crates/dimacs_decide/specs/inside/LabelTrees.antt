@@ -1,8 +1,8 @@
 -- Inside: labels of nodes that lead back to the source, and the path back from one more.
-use Rattle.std.specs.Prelude.{ℕ, ◌≡◌, ◌≢◌, ◌<◌, ◌≤◌, ◌+◌, ◌⊎◌, Bool, true, false, List, [], ◌∷◌, All, length, Option, Some, None, IsSome, is_some, ℤ}
+use Rattle.std.specs.Prelude.{ℕ, ◌≡◌, ◌≢◌, ◌<◌, ◌≤◌, ◌⊎◌, Bool, true, false, List, [], ◌∷◌, All, length, Option, None, IsSome, ℤ}
 use Rattle.dimacs_lines.specs.Limits.{most_nodes, IsNode}
-use Rattle.dimacs_claims.specs.{declared.block.Label.{Label}, Labels.{BlockValue, EachAfter, IsBlock, label}}
-use Rattle.dimacs_decide.specs.{Predecessors.{IsNext, LeadsBack}, inside.TightTrees.{absent}}
+use Rattle.dimacs_claims.specs.{declared.block.Label.{Label}, Labels.{BlockValue, EachAfter, label}}
+use Rattle.dimacs_decide.specs.{Predecessors.{IsNext, LeadsBack}, inside.MarkedBlocks.{IsMarkedBlock}}
 
 -- distances of nodes, and predecessors of no others
 pub record IsProposed (nodes : ℕ) (claim : ℕ → Option ℤ) (pred : ℕ → ℕ) : Type 0 where
@@ -13,15 +13,11 @@ pub record IsProposed (nodes : ℕ) (claim : ℕ → Option ℤ) (pred : ℕ →
 -- the labels of nodes that lead back to the source, each with the distance and the predecessor of its node
 pub record IsLabelTree (nodes s : ℕ) (claim : ℕ → Option ℤ) (pred : ℕ → ℕ) (b : BlockValue) (labelled : ℕ → Bool) : Type 0 where
   pub source : b.source ≡ s
-  pub whole : b.radius ≡ None
-  pub lawful : IsBlock nodes b
-  pub marked : (v : ℕ) → labelled v ≡ is_some (label b v)
-  pub claimed : (v : ℕ) (d : ℤ) → label b v ≡ Some d → claim v ≡ Some d
+  pub block : IsMarkedBlock nodes claim b labelled
   pub preds : All (λ (l : Label). l.pred ≡ pred l.id) b.labels
   pub leads : (v : ℕ) → labelled v ≡ true → LeadsBack pred s v
   pub inside : (v : ℕ) → labelled v ≡ true → IsNode nodes v
   pub order : EachAfter (IsNext s claim pred) b.labels
-  pub count : absent labelled (nodes + 1) + length b.labels ≡ nodes
 
 -- no label is lost
 abbrev pub Keeps : (ℕ → Bool) → (ℕ → Bool) → Type 0

@@ -1,29 +1,21 @@
 -- Inside: what a search over tight arcs has reached.
-use Rattle.std.specs.Prelude.{ℕ, zero, suc, ◌≡◌, ◌≤◌, ◌+◌, Bool, true, not, List, All, length, get_or, Option, Some, None, IsSome, is_some, ℤ}
+use Rattle.std.specs.Prelude.{ℕ, zero, suc, ◌≡◌, ◌≤◌, Bool, true, List, All, length, get_or, Option, IsSome, ℤ}
 use Rattle.dimacs_lines.specs.Limits.{IsNode}
 use Rattle.dimacs_network.specs.declared.network.ArcView.{ArcView}
-use Rattle.dimacs_claims.specs.Labels.{BlockValue, IsBlock, label, no_label}
+use Rattle.dimacs_claims.specs.Labels.{BlockValue, no_label}
 use Rattle.dimacs_judging.specs.Labels.{HasTightArc}
-use Rattle.dimacs_decide.specs.{Distances.{IsTight, IsTightlyReached}, inside.Counting.{count_below}}
+use Rattle.dimacs_decide.specs.{Distances.{IsTight, IsTightlyReached}, inside.MarkedBlocks.{IsMarkedBlock}}
 
 -- the node at a place of a block: first the source, then the nodes of the labels
 abbrev pub node_at : BlockValue → ℕ → ℕ
 node_at b zero = b.source
 node_at b (suc k) = (get_or b.labels k no_label).id
 
--- how many of the nodes below n weren't reached
-abbrev pub absent : (ℕ → Bool) → ℕ → ℕ
-absent reached n = count_below (λ v. not (reached v)) n
-
 -- the labels of nodes reached over tight arcs; each has the claim of its node
 pub record IsTightTree (nodes : ℕ) (arcs : List ArcView) (claim : ℕ → Option ℤ) (b : BlockValue) (reached : ℕ → Bool) : Type 0 where
-  pub whole : b.radius ≡ None
-  pub lawful : IsBlock nodes b
-  pub marked : (v : ℕ) → reached v ≡ is_some (label b v)
-  pub claimed : (v : ℕ) (d : ℤ) → label b v ≡ Some d → claim v ≡ Some d
+  pub block : IsMarkedBlock nodes claim b reached
   pub tight_arcs : All (HasTightArc arcs b) b.labels
   pub walks : (v : ℕ) → reached v ≡ true → IsTightlyReached arcs b.source claim v
-  pub count : absent reached (nodes + 1) + length b.labels ≡ nodes
 
 -- each tight arc from v leads to a node that was reached
 abbrev pub IsFollowed : List ArcView → (ℕ → Option ℤ) → (ℕ → Bool) → ℕ → Type 0

@@ -1,57 +1,14 @@
-use Rattle.std.proofs.Common.{rules, ◌≡◌, ◌∙◌, pos, arith, ap, sym, subst, refl, w64, SFits, ◌+◌, ◌+ℤ◌}
+use Rattle.std.proofs.Common.{rules, ◌≡◌, ◌∙◌, arith, ap, sym, subst, refl, SFits, ◌+◌, ◌+ℤ◌}
 use Rattle.std.proofs.{lemmas.Int.{ints, to_z-of_z}, lemmas.Option.{get_or_from_slice_get}}
-use Rattle.std.proofs.lemmas.Slice.Zip.{AllZip-long}
 use Rattle.std.specs.Int.{w128}
-use Rattle.dimacs_network.specs.{declared.network.ArcView.{ArcView}, AdjacencyLists.{end_of, other_end}}
-use Rattle.dimacs_network.specs.{Arcs.{arc_at, no_arc}, Tables.{value_of}}
+use Rattle.dimacs_network.specs.{AdjacencyLists.{end_of, other_end}, Arcs.{arc_at, no_arc}, Tables.{value_of}}
 use Rattle.dimacs_instance.specs.MinFlows.{HasBounds}
-use Rattle.dimacs_judging.specs.Rows.{amount_at}
-use Rattle.dimacs_judging.proofs.Passing.{pair_at}
 use Rattle.dimacs_decide.specs.{declared.heights.HeightLabel.{HeightLabel}, inside.Heights.{gain_at, height_of}}
-use Rattle.dimacs_decide.specs.inside.ResidualCapacities.{residual_capacity_at}
 use Rattle.dimacs_decide.proofs.HeightLemmas.{arc_bounds, gain_least, gain_most}
 use Rattle.dimacs_decide.proofs.heights.lift.Goals as goal
 
-pub amount-requires : goal.amount-requires
-amount-requires g c = omega (arith, c.requires.parent_arc, AllZip-long _ _ _ c.requires.within)
-
-pub residual_capacity_from-requires-clause-not_negative : goal.residual_capacity_from-requires-clause-not_negative
-residual_capacity_from-requires-clause-not_negative g c =
-    let arcs = g.N.Network.list c.args.network.now in
-    let is : arc_at arcs c.args.parent_arc ≡ c.arc-arc.result = get_or_from_slice_get arcs c.args.parent_arc c.arc-arc.result no_arc c.arc-arc.ensures in
-    let low = ap (λ (a : ArcView). a.low) is in
-    omega (arith, ints, low, (arc_bounds arcs c.args.parent_arc c.requires.bounds c.requires.parent_arc).0)
-
-pub residual_capacity_from-requires-clause-low : goal.residual_capacity_from-requires-clause-low
-residual_capacity_from-requires-clause-low g c =
-    let arcs = g.N.Network.list c.args.network.now in
-    let is : arc_at arcs c.args.parent_arc ≡ c.arc-arc.result = get_or_from_slice_get arcs c.args.parent_arc c.arc-arc.result no_arc c.arc-arc.ensures in
-    let low = ap (λ (a : ArcView). a.low) is in
-    let carries : amount_at c.args.flow.now c.args.parent_arc ≡ c.amount.result = get_or_from_slice_get c.args.flow.now c.args.parent_arc c.amount.result (pos 0) c.amount.ensures in
-    let fits : SFits w64 c.amount.result = search rules in
-    let bounds = pair_at _ arcs c.args.flow.now c.args.parent_arc no_arc (pos 0) c.requires.within c.requires.parent_arc in
-    rw (to_z-of_z w64 c.amount.result fits) (omega (arith, ints, bounds.0, carries, low))
-
-pub residual_capacity_from-requires-clause-high : goal.residual_capacity_from-requires-clause-high
-residual_capacity_from-requires-clause-high g c =
-    let arcs = g.N.Network.list c.args.network.now in
-    let is : arc_at arcs c.args.parent_arc ≡ c.arc-arc.result = get_or_from_slice_get arcs c.args.parent_arc c.arc-arc.result no_arc c.arc-arc.ensures in
-    let cap = ap (λ (a : ArcView). a.cap) is in
-    let carries : amount_at c.args.flow.now c.args.parent_arc ≡ c.amount.result = get_or_from_slice_get c.args.flow.now c.args.parent_arc c.amount.result (pos 0) c.amount.ensures in
-    let fits : SFits w64 c.amount.result = search rules in
-    let bounds = pair_at _ arcs c.args.flow.now c.args.parent_arc no_arc (pos 0) c.requires.within c.requires.parent_arc in
-    rw (to_z-of_z w64 c.amount.result fits) (omega (arith, ints, bounds.1, carries, cap))
-
 pub returns-then-residual_capacity_from-le0 : goal.returns-then-residual_capacity_from-le0
-returns-then-residual_capacity_from-le0 g c =
-    let arcs = g.N.Network.list c.args.network.now in
-    let is : arc_at arcs c.args.parent_arc ≡ c.arc-arc.result = get_or_from_slice_get arcs c.args.parent_arc c.arc-arc.result no_arc c.arc-arc.ensures in
-    let carries : amount_at c.args.flow.now c.args.parent_arc ≡ c.amount.result = get_or_from_slice_get c.args.flow.now c.args.parent_arc c.amount.result (pos 0) c.amount.ensures in
-    let fits : SFits w64 c.amount.result = search rules in
-    let outcome : c.residual_capacity_from.result ≡ residual_capacity_at c.args.side c.arc-arc.result c.amount.result = rw (to_z-of_z w64 c.amount.result fits) at c.residual_capacity_from.ensures in
-    let residual_capacity_is : c.residual_capacity_from.result ≡ residual_capacity_at c.args.side (arc_at arcs c.args.parent_arc) (amount_at c.args.flow.now c.args.parent_arc) = rw (is, carries) outcome in
-    let none = c.if-residual_capacity_from-le0.true in
-    (λ v. refl, λ residual_capacity. absurd (omega (arith, ints, residual_capacity, residual_capacity_is, none)))
+returns-then-residual_capacity_from-le0 g c = (λ v. refl, λ residual_capacity. absurd (omega (arith, ints, residual_capacity, c.residual_capacity_from.ensures, c.if-residual_capacity_from-le0.true)))
 
 pub overflow_add-height : goal.overflow_add-height
 overflow_add-height g c =
@@ -87,11 +44,6 @@ returns g c =
     let k = c.args.parent_arc in
     let is : arc_at arcs k ≡ c.arc-arc.result = get_or_from_slice_get arcs k c.arc-arc.result no_arc c.arc-arc.ensures in
     let has : HasBounds c.arc-arc.result = subst HasBounds is (arc_bounds arcs k c.requires.bounds c.requires.parent_arc) in
-    let carries : amount_at c.args.flow.now k ≡ c.amount.result = get_or_from_slice_get c.args.flow.now k c.amount.result (pos 0) c.amount.ensures in
-    let fits : SFits w64 c.amount.result = search rules in
-    let outcome : c.residual_capacity_from.result ≡ residual_capacity_at c.args.side c.arc-arc.result c.amount.result = rw (to_z-of_z w64 c.amount.result fits) at c.residual_capacity_from.ensures in
-    let residual_capacity_is : c.residual_capacity_from.result ≡ residual_capacity_at c.args.side (arc_at arcs k) (amount_at c.args.flow.now k) = rw (is, carries) outcome in
-    let some = c.if-residual_capacity_from-le0.false in
     let near : c.end_of.result ≡ end_of c.args.side (arc_at arcs k) = c.end_of.ensures ∙ ap (end_of c.args.side) (sym is) in
     let far : c.other_end-to.result ≡ other_end c.args.side (arc_at arcs k) = c.other_end-to.ensures ∙ ap (other_end c.args.side) (sym is) in
     let gain : c.gain.result ≡ gain_at c.args.side (arc_at arcs k) = c.gain.ensures ∙ ap (gain_at c.args.side) (sym is) in
@@ -104,7 +56,7 @@ returns g c =
     let set : value_of c.set.new.self (other_end c.args.side (arc_at arcs k)) ≡ record { height = c.get.result.height +ℤ c.gain.result; arc_number = k + 1; side = c.args.side } = rw (far, to_z-of_z w128 c.get.result.height fits_height, to_z-of_z w128 c.gain.result fits_gain, to_z-of_z w128 (c.get.result.height +ℤ c.gain.result) fits_sum) at c.in_ok-set.ensures.set in
     let sum = ap (λ (l : HeightLabel). l.height) set in
     record {
-      residual_capacity = omega (arith, ints, some, residual_capacity_is);
+      residual_capacity = omega (arith, ints, c.if-residual_capacity_from-le0.false, c.residual_capacity_from.ensures);
       rises = omega (arith, ints, more, from, to, gain);
       height = omega (arith, ints, sum, from, gain);
       arc_number = ap (λ (l : HeightLabel). l.arc_number) set;

@@ -1,7 +1,7 @@
-use Rattle.std.proofs.Common.{◌≡◌, ◌<◌, ◌+◌, ◌-◌, ◌∙◌, ℕ, ℤ, Option, Some, SFits, ap, arith, length, get_or, pos, rules, subst}
-use Rattle.std.proofs.lemmas.Int.{ints, to_z-of_z}
+use Rattle.std.proofs.Common.{◌≡◌, ◌<◌, ◌+◌, ◌-◌, ◌∙◌, ℕ, ℤ, Option, Some, SFits, ap, arith, length, get_or, rules, subst}
+use Rattle.std.proofs.lemmas.Int.{to_z-of_z}
 use Rattle.std.specs.Int.{w128}
-use Rattle.dimacs_claims.specs.Labels.{label, no_label}
+use Rattle.dimacs_claims.specs.Labels.{no_label}
 use Rattle.dimacs_judging.specs.Distances.{Fits}
 use Rattle.dimacs_network.specs.DenseTables.{value_at}
 use Rattle.dimacs_decide.proofs.BlockClaimLemmas.{AreFrom, below_end, from_end, from_one_more, labels_wide, with_source}
