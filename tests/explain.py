@@ -123,6 +123,8 @@ CASES = [
     ("NotShortest", "certify-paths G D", {"G": "p sp 4 4\na 1 2 3\na 2 3 4\na 3 2 -5\na 3 4 1\n", "D": "p distances 4 1\nt 1 3\nd 2 3\nd 3 7\nd 4 8\n"}, ["G:4: a 3 2 -5", "a cycle that the source reaches weighs less than 0; its arcs: 2\n  arc 2: 2 -> 3, WEIGHT 4\n  arc 3: 3 -> 2, WEIGHT -5\n4 - 5 = -1: with each round a walk weighs less, so the nodes that it leads to have no distance\n"]),
     ("NotShortest", "judge-paths G Q L", {"G": "p sp 2 2\na 1 2 3\na 2 1 -4\n", "L": "p dist 2 1\nt 1 1\nd 2 3 1\n"}, ["G:3: a 2 1 -4", "its arcs: 2\n  arc 1: 1 -> 2, WEIGHT 3\n  arc 2: 2 -> 1, WEIGHT -4\n3 - 4 = -1: "]),
     ("Escapes", "certify-paths G D", {"G": "p sp 3 3\na 1 2 3\na 2 3 4\na 3 2 -5\n", "D": "p distances 3 1\nt 1 0\n"}, ["node 2 is at distance 3 at most", "its arcs: 2\n"]),
+    # 13 steps back end at node 4, in a graph of 4 arcs.
+    ("NotShortest", "certify-paths G D", {"G": "p sp 13 4\na 1 2 3\na 2 3 4\na 3 4 1\na 4 2 -6\n", "D": "p distances 13 1\nt 1 3\nd 2 3\nd 3 7\nd 4 8\n"}, ["its arcs: 3\n  arc 4: 4 -> 2, WEIGHT -6\n  arc 2: 2 -> 3, WEIGHT 4\n  arc 3: 3 -> 4, WEIGHT 1\n-6 + 4 + 1 = -1: "]),
     ("NodesDiffer", "certify-paths G D", {"D": "p distances 5 0\n"}, ["G:1: p sp 4 3", "D:1: p distances 5 0", "they are not of one instance\n$"]),
     ("Escapes", "certify-paths G D", {"D": "p distances 4 2\nt 4 1\nd 3 0\nt 1 0\n"}, ["G:2: a 1 2 5", "D:4: t 1 0", "in the block from source 1 (line 4) ", "node 2 is at distance 5 at most, and has no d line\n"]),
     ("NotShortest", "certify-paths G D", {"G": "p sp 3 2\na 1 3 -1\na 3 1 -1\n", "D": "p distances 3 1\nt 1 1\nd 3 -1\n"}, ["node 1 is at distance -2 at most, and is the source, at distance 0\n"]),
@@ -130,6 +132,9 @@ CASES = [
     ("NoTightArc", "certify-paths G D", {"D": "p distances 4 1\nt 1 1\nd 2 4\n"}, ["D:3: d 2 4", "from source 1 (line 2) no arc leads to node 2 at distance 4: the nearest leads there at distance 5\n$"]),
     ("NoTightArc", "certify-paths G D", {"D": "p distances 4 1\nt 1 3\nd 2 5\nd 3 0\nd 4 0\n"}, ["come from nodes that no walk from the source reaches at theirs\nif no walk leads to node 3, leave its line out\n$"]),
     ("NoTightArc", "certify-paths G D", {"G": "p sp 3 1\na 3 2 1\n", "D": "p distances 3 1\nt 1 1\nd 2 7\n"}, ["no arc leads to node 2 at distance 7: none comes from a node that has a distance\nif no walk leads to node 2, leave its line out\n$"]),
+    # The last of three blocks that label one node.
+    ("NoTightArc", "judge-paths G Q L", {"G": "p sp 4 3\na 1 4 1\na 2 4 1\na 3 4 2\n", "L": "p dist 4 3\nt 1 1\nd 4 1 1\nt 2 1\nd 4 1 2\nt 3 1\nd 4 3 3\n"}, ["L:7: d 4 3 3\n", "no arc from 3 to 4 has the WEIGHT 3\nthe lightest arc from 3 to 4 has the WEIGHT 2\n$"]),
+    ("NoTightArc", "certify-paths G D", {"G": "p sp 4 3\na 1 4 1\na 2 4 1\na 3 4 2\n", "D": "p distances 4 3\nt 1 1\nd 4 1\nt 2 1\nd 4 1\nt 3 1\nd 4 1\n"}, ["D:7: d 4 1\n", "no arc leads to node 4 at distance 1: the nearest leads there at distance 2\n$"]),
     # A spread flow: 2 entries of 9 * 10^18 between nodes with 2 arcs or 1, and of -9 * 10^18.
     ("AboveCap", "spread-max I S O", {"I": "p max 2 2\nn 1 s\nn 2 t\na 1 2 4\na 1 2 3\n", "S": f"s 0\nf 1 2 {HUGE}\nf 1 2 {HUGE}\n"}, ["I:4: a 1 2 4\n2 arcs from 1 to 2: ", f"add up to {2 * HUGE}\n", f"carry their CAP, 3 in all, and {2 * HUGE - 3} is left for the first, arc 1:"]),
     ("AboveCap", "spread-max I S O", {"I": "p max 2 1\nn 1 s\nn 2 t\na 1 2 5\n", "S": f"s 0\nf 1 2 {HUGE}\nf 1 2 {HUGE}\n"}, ["I:4: a 1 2 5\n1 arc from 1 to 2: ", f"add up to {2 * HUGE}\n", f"carry their CAP, 0 in all, and {2 * HUGE} is left for the first, arc 1:"]),

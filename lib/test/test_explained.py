@@ -121,7 +121,7 @@ class Arrays(Explained):
             dimacs.solve_max_arrays(*PIPES),
         ):
             self.assertEqual(answer.explain(), MAXIMUM)
-        cheapest = dimacs.judge_min(MIN, LEAST, POT).explain()
+        cheapest = dimacs.judge_min(MIN, LEAST, POT).explain().replace(" (0 without a line)", "")
         self.assertEqual(dimacs.judge_min_arrays(*SHIPS, test_arrays.LEAST, POTENTIALS).explain(), cheapest)
         unmet = dimacs.certify_infeasible(SURPLUS).explain()
         self.assertEqual(dimacs.certify_infeasible_arrays(*IN_SURPLUS).explain(), unmet)
@@ -137,8 +137,8 @@ class Arrays(Explained):
     def test_refusals(self):
         # Each arc has an entry: two leave the node.
         leave = "entries out of it: 2\n  arc 3: 2 -> 3, FLOW 0\n  arc 4: 2 -> 4, FLOW 0\n"
-        entries = f"{BALANCE}  arc 1: 1 -> 2, FLOW 4\n".replace("entries out of it: 0\n", leave)
-        self.assertEqual(self.refused(dimacs.certify_max_arrays, *PIPES, [4, 0, 0, 0, 0]), entries)
+        lines = f"{BALANCE}  arc 1: 1 -> 2, FLOW 4\n".replace("entries out of it: 0\n", leave).replace("entries", "flows")
+        self.assertEqual(self.refused(dimacs.certify_max_arrays, *PIPES, [4, 0, 0, 0, 0]), lines)
         above = self.refused(dimacs.judge_max_arrays, *PIPES, [9, 2, 1, 3, 3], test_arrays.CUT).splitlines()
         self.assertEqual(above[0], "x arc 1 AboveCap")
         self.assertEqual(above[-1], "arc 1 carries 9, more than its CAP, 4")
@@ -149,7 +149,8 @@ class Arrays(Explained):
         loose = self.refused(dimacs.judge_paths_arrays, *GRAPH, 1, [0, 4, *DISTANCES[2:]], PREDECESSORS).splitlines()
         self.assertEqual(loose[:2], ["x node 2 NoTightArc", "node 2: distance 4, predecessor 1"])
         negative = self.refused(dimacs.solve_paths_arrays, 2, [1], [2], [-4], 1).splitlines()
-        self.assertEqual(negative[:2], ["x arc 1 NegativeWeight", "arc 1: 1 -> 2, WEIGHT -4"])
+        below = "arc 1 has the WEIGHT -4, below 0: the solver takes no such graph"
+        self.assertEqual(negative, ["x arc 1 NegativeWeight", "arc 1: 1 -> 2, WEIGHT -4", below])
 
     def test_what_no_text_says(self):
         """The source's distance isn't in a text."""
@@ -179,6 +180,27 @@ class Arrays(Explained):
         self.assertTrue(escaped[3].endswith(", and has no distance"), escaped)
         alone = self.refused(dimacs.certify_paths_arrays, 2, [], [], [], 1, [0, 3]).splitlines()
         self.assertEqual(alone[-1], "if no walk leads to node 2, it has no distance")
+
+    def test_no_words_of_texts(self):
+        """Each part stands in the lines of its call, and no word that only texts have."""
+        wrong = test_arrays.FLOW[:-1] + [0]
+        near, outside = [0, 4, *DISTANCES[2:]], [False] * 4
+        rows = (
+            ("with potentials y and r = COST - y(TAIL) + ", dimacs.judge_min_arrays, *SHIPS, test_arrays.LEAST, POTENTIALS),
+            ("whose distance is 0, each arc raises the distance by its WEIGHT", dimacs.solve_paths_arrays, *GRAPH, 1),
+            ("flows out of it: 1\n  arc 5: 3 -> 4, FLOW 0\nflows into it: 2\n", dimacs.certify_max_arrays, *PIPES, wrong),
+            ("at distance 4, and its predecessor, node 1, at ", dimacs.judge_paths_arrays, *GRAPH, 1, near, PREDECESSORS),
+            ("below 0: the solver takes no such graph\n", dimacs.solve_paths_arrays, 2, [1], [2], [-4], 1),
+            ("it marks the nodes on the source's side", dimacs.judge_max_arrays, *PIPES, test_arrays.FLOW, outside),
+            ("side: mark the other nodes", dimacs.judge_max_arrays, *PIPES, test_arrays.FLOW, [*outside[1:], True]),
+        )
+        for part, call, *arrays in rows:
+            try:
+                lines = call(*arrays).explain()
+            except dimacs.Refused as no:
+                lines = no.explain()
+            self.assertIn(part, lines)
+            self.assertNotRegex(lines, r"\b(block|entr(y|ies)|labels?|lines?|lists?|PREDs?|RADIUS)\b")
 
     def test_units_and_bases(self):
         tens = [Decimal(it) / 10 for it in PIPES[-1]]

@@ -104,8 +104,8 @@ static void explains(void) {
           TEXT("s 4\nf 1 2 4\n"), TEXT(cut), OUT), 1,
           "x node 2 Balance\n"
           "0 leaves node \0022, 4 enters it: 4 too little leaves\n"
-          "entries out of it: 0\n"
-          "entries into it: 1\n"
+          "flows out of it: 0\n"
+          "flows into it: 1\n"
           "  arc \0011: \0021 -> \0022, FLOW 4\n");
     uint32_t status = dimacs_explain(TEXT("judge-max a a a"), TEXT(max), TEXT(flow), TEXT(cut), OUT);
     static const char quoted[] = "x solution 1 1 UnknownLine\na:1: p max 4 5\n";

@@ -13,6 +13,11 @@ fn gain(kind: TextKind, value: i128, claimed: i128) -> Option<i128> {
     if gain > 0 { Some(gain) } else { None }
 }
 
+fn solution_in(file: &str) -> TextFile<'_> {
+    let kind = TextKind::Solution;
+    TextFile { kind, file }
+}
+
 impl<'a, A: Reopen> Explanation<'a, A> {
     pub(crate) fn explain_better(&mut self, at: At) -> Said<'a> {
         let (kind, claim) = (self.page.texts.instance()?.kind, self.page.texts.claim()?);
@@ -43,10 +48,7 @@ impl<'a, A: Reopen> Explanation<'a, A> {
         let Some(file) = self.made.and(self.page.texts.written()) else {
             return Ok(false);
         };
-        let text = TextFile {
-            kind: TextKind::Solution,
-            file,
-        };
+        let text = solution_in(file);
         let value = self.value_on(text, Wanted::Value)?;
         let Some(gain) = value.and_then(|value| gain(kind, value, claimed)) else {
             return Ok(false);
@@ -56,11 +58,7 @@ impl<'a, A: Reopen> Explanation<'a, A> {
             TextKind::Min => ("costs", "less"),
             _ => ("has", "more"),
         };
-        let flow = if text.is_of_arrays() {
-            "the flow in `better`"
-        } else {
-            "this flow"
-        };
+        let flow = self.page.words("this flow", "the flow in `better`");
         say!(self; "{} is feasible, and {} {} {} than the {} that is claimed\n", flow, verb, gain, word, claimed);
         Ok(true)
     }
@@ -79,11 +77,8 @@ impl<'a, A: Reopen> Explanation<'a, A> {
 
     /// Whether a text has the value of the flow that the run made.
     fn is_in(&self, file: &'a str) -> bool {
-        let text = TextFile {
-            kind: TextKind::Solution,
-            file,
-        };
-        matches!(self.value_on(text, Wanted::Value), Ok(value) if value == self.made)
+        let value = self.value_on(solution_in(file), Wanted::Value);
+        matches!(value, Ok(value) if value == self.made)
     }
 
     pub(crate) fn explain_feasible(&mut self) -> Said<'a> {

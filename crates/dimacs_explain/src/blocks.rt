@@ -4,6 +4,9 @@ use dimacs_claims::{Block, Label, Labels};
 use dimacs_network::ArcView;
 use dimacs_records::TextKind;
 
+/// The tail and the weight of an arc into a node. Lists of them are in order.
+pub(crate) type ArcInto = (u32, i64);
+
 /// The labels of an arc's ends in a block in which it fails its test.
 #[derive(Clone, Copy)]
 pub(crate) struct EndLabels {
@@ -49,23 +52,23 @@ pub(crate) struct Unreached {
     pub(crate) least: Option<i128>,
 }
 
-/// The first label of a node that no arc from its PRED gives, or distance that no arc gives; of the arcs into the node.
+/// The first label of a node that no arc from its PRED gives, or distance that no arc gives.
 pub(crate) fn first_unreached(
     labels: &Labels,
     kind: TextKind,
     node: u32,
-    arcs: &[ArcView],
+    arcs: &[ArcInto],
 ) -> Option<Unreached> {
     for (k, block) in labels.blocks().iter().enumerate() {
         let Some(label) = block.labels().into_iter().find(|label| label.id == node) else {
             continue;
         };
         let pred_dist = labels.label(k, label.pred).unwrap_or(0);
-        let least = nearest(labels, k, arcs);
-        let weight = label.dist.saturating_sub(pred_dist);
+        let least = nearest(block, arcs);
+        let weight = i64::try_from(label.dist.saturating_sub(pred_dist));
         let is_given = match kind {
             TextKind::Distances => least == Some(label.dist),
-            _ => arcs.iter().any(|it| it.tail == label.pred && i128::from(it.cost) == weight),
+            _ => weight.is_ok_and(|weight| arcs.binary_search(&(label.pred, weight)).is_ok()),
         };
         if !is_given {
             return Some(Unreached {
@@ -80,11 +83,11 @@ pub(crate) fn first_unreached(
 }
 
 /// The least distance by one of these arcs from a node that has a label in a block.
-fn nearest(labels: &Labels, block: usize, arcs: &[ArcView]) -> Option<i128> {
-    let mut least = None;
-    for arc in arcs {
-        if let Some(dist) = labels.label(block, arc.tail) {
-            let sum = dist.saturating_add(i128::from(arc.cost));
+fn nearest(block: &Block, arcs: &[ArcInto]) -> Option<i128> {
+    let mut least = lightest(arcs, block.source()).map(i128::from);
+    for label in block.labels() {
+        if let Some(weight) = lightest(arcs, label.id) {
+            let sum = label.dist.saturating_add(i128::from(weight));
             least = Some(least.unwrap_or(sum).min(sum));
         }
     }
@@ -92,9 +95,7 @@ fn nearest(labels: &Labels, block: usize, arcs: &[ArcView]) -> Option<i128> {
 }
 
 /// The weight of the lightest arc from a node.
-pub(crate) fn lightest(arcs: &[ArcView], from: u32) -> Option<i64> {
-    arcs.iter()
-        .filter(|arc| arc.tail == from)
-        .map(|arc| arc.cost)
-        .min()
+pub(crate) fn lightest(arcs: &[ArcInto], from: u32) -> Option<i64> {
+    let place = arcs.partition_point(|arc| arc.0 < from);
+    arcs.get(place).filter(|arc| arc.0 == from).map(|arc| arc.1)
 }

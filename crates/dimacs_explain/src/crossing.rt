@@ -4,39 +4,11 @@ use crate::explanation::Explanation;
 use crate::sums::Sum;
 use dimacs_claims::Cut;
 use dimacs_instance::MinInstance;
-use dimacs_network::{ArcView, Network};
+use dimacs_network::Network;
 use dimacs_quote::Value::Node;
-use dimacs_quote::{OrStop, Reopen, Said, TextFile, Wanted, say};
+use dimacs_quote::{Reopen, Said, Wanted, say};
 use dimacs_records::End;
 use std::alloc::Global;
-
-/// Which bounds are added up over the arcs that cross the border of a set.
-#[derive(Clone, Copy)]
-enum Limit {
-    /// The least that arcs can carry out of it.
-    Least,
-    /// The most.
-    Most,
-    /// What they carry if the cut is tight: nothing into it.
-    Tight,
-}
-
-impl Limit {
-    fn out_of(self, arc: ArcView) -> (&'static str, i64) {
-        match self {
-            Limit::Least => ("LOW", arc.low),
-            Limit::Most | Limit::Tight => ("CAP", arc.cap),
-        }
-    }
-
-    fn into(self, arc: ArcView) -> (&'static str, i64) {
-        match self {
-            Limit::Least => ("CAP", arc.cap),
-            Limit::Most => ("LOW", arc.low),
-            Limit::Tight => ("FLOW", 0),
-        }
-    }
-}
 
 /// What leaves a set or a node, and what enters it.
 #[derive(Drop)]
@@ -51,18 +23,28 @@ impl Crossing {
         Crossing { leaving, entering }
     }
 
-    /// The arcs out of a set, and those into it.
-    fn of<N: Network>(alloc: Global, network: &N, set: &Cut, limit: Limit) -> Crossing {
+    /// The arcs out of a set, by their numbers of one name, and those into it, by those of another.
+    fn of<N: Network>(alloc: Global, network: &N, set: &Cut, out: &str, into: &str) -> Crossing {
         let mut all = Crossing::new(alloc);
         for i in 0..network.arcs() {
-            let (number, arc) = (i.saturating_add(1), network.arc(i));
+            let arc = network.arc(i);
             match (set.contains(arc.tail), set.contains(arc.head)) {
-                (true, false) => all.leaving.add_arc(number, arc, limit.out_of(arc)),
-                (false, true) => all.entering.add_arc(number, arc, limit.into(arc)),
+                (true, false) => all.leaving.add_arc(i, arc, out),
+                (false, true) => all.entering.add_arc(i, arc, into),
                 _ => (),
             }
         }
         all
+    }
+
+    /// The least that arcs can carry out of a set.
+    fn least<N: Network>(alloc: Global, network: &N, set: &Cut) -> Crossing {
+        Crossing::of(alloc, network, set, "LOW", "CAP")
+    }
+
+    /// The most.
+    fn most<N: Network>(alloc: Global, network: &N, set: &Cut) -> Crossing {
+        Crossing::of(alloc, network, set, "CAP", "LOW")
     }
 
     /// What leaves the set, less what enters it.
@@ -74,26 +56,24 @@ impl Crossing {
 /// The supplies of a set's nodes.
 fn supply_of<N: Network>(alloc: Global, instance: &MinInstance<N>, set: &Cut) -> Sum {
     let mut sum = Sum::new(alloc);
-    for id in 1..=set.nodes() {
+    let (mut id, end) = (1, set.nodes().saturating_add(1));
+    for _ in 0..end {
+        if id >= end {
+            break;
+        }
         let supply = instance.supply(id);
         if supply != 0 && set.contains(id) {
             sum.add(Some(i128::from(supply)));
         }
+        id = instance.next_supply(id + 1, end);
     }
     sum
-}
-
-/// The least and the most that arcs can carry out of a set.
-fn range_out_of<N: Network>(alloc: Global, network: &N, set: &Cut) -> (i128, i128) {
-    let least = Crossing::of(alloc, network, set, Limit::Least);
-    let most = Crossing::of(alloc, network, set, Limit::Most);
-    (least.net(), most.net())
 }
 
 impl<'a, A: Reopen> Explanation<'a, A> {
     /// Explains a maximum flow by a cut that is tight for it.
     pub(crate) fn explain_maximum<N: Network>(&mut self, network: &N, cut: &Cut) {
-        let all = Crossing::of(self.page.alloc, network, cut, Limit::Tight);
+        let all = Crossing::of(self.page.alloc, network, cut, "CAP", "FLOW");
         say!(self; "on the source's side of the cut, ");
         self.write_set(cut);
         self.write_lines("arcs into it, all empty", &all.entering);
@@ -107,18 +87,18 @@ impl<'a, A: Reopen> Explanation<'a, A> {
 
     /// Explains by a violated set that no flow is feasible.
     pub(crate) fn explain_infeasible<N: Network>(&mut self, instance: &MinInstance<N>, set: &Cut) {
-        let network = instance.network();
-        let supply = supply_of(self.page.alloc, instance, set);
+        let (alloc, network) = (self.page.alloc, instance.network());
+        let supply = supply_of(alloc, instance, set);
         say!(self; "in the set, ");
         self.write_set(set);
         say!(self; "its supply: ");
         self.write_sum(&supply);
         say!(self; "\n");
-        let most = Crossing::of(self.page.alloc, network, set, Limit::Most);
+        let most = Crossing::most(alloc, network, set);
         if supply.sum() > most.net() {
             return self.write_crossing(&most, "at most", supply.sum());
         }
-        let least = Crossing::of(self.page.alloc, network, set, Limit::Least);
+        let least = Crossing::least(alloc, network, set);
         self.write_crossing(&least, "at least", supply.sum());
     }
 
@@ -147,24 +127,24 @@ impl<'a, A: Reopen> Explanation<'a, A> {
         }
         say!(self; "node {} is the source, and the cut doesn't hold it: ", Node(node));
         if has_sink {
-            say!(self; "this is the sink's side: list the other nodes, those on the source's side\n");
+            let verb = self.page.words("list", "mark");
+            say!(self; "this is the sink's side: {} the other nodes, those on the source's side\n", verb);
         } else {
-            say!(self; "it lists the nodes on the source's side, the source among them\n");
+            let verb = self.page.words("lists", "marks");
+            say!(self; "it {} the nodes on the source's side, the source among them\n", verb);
         }
         self.write_open()
     }
 
-    /// What the set of a certificate supplies, and the least and the most that arcs can carry out of it.
-    fn supply_and_range(&self, certificate: TextFile<'a>) -> OrStop<'a, (i128, (i128, i128))> {
-        let set = self.set(&mut self.page.source(certificate)?)?;
-        let min = self.min_instance()?;
-        let supply = supply_of(self.page.alloc, &min, &set).sum();
-        Ok((supply, range_out_of(self.page.alloc, min.network(), &set)))
-    }
-
     pub(crate) fn explain_violation(&mut self) -> Said<'a> {
-        let text = self.page.texts.certificate()?;
-        let (supply, (least, most)) = self.supply_and_range(text)?;
+        let (alloc, text) = (self.page.alloc, self.page.texts.certificate()?);
+        let (set, min) = (
+            self.set(&mut self.page.source(text)?)?,
+            self.min_instance()?,
+        );
+        let supply = supply_of(alloc, &min, &set).sum();
+        let least = Crossing::least(alloc, min.network(), &set).net();
+        let most = Crossing::most(alloc, min.network(), &set).net();
         say!(self; "the set supplies {}, and its arcs can carry {} to {} out of it: it would show that no flow is feasible if it supplied less than {} or more than {}\n",
             supply, least, most, least, most);
         self.write_open()

@@ -17,11 +17,8 @@ struct Walk {
     last: Option<u32>,
 }
 
-#[derive(Clone, Copy)]
-struct IndexedArc {
-    index: u32,
-    arc: ArcView,
-}
+/// An arc, after its index.
+type IndexedArc = (u32, ArcView);
 
 /// Makes the walks to the heads of all arcs lighter where an arc allows it. Returns the last such head; none if no walk
 /// has changed.
@@ -49,15 +46,15 @@ fn last_arc<N: Network>(network: &N, walks: &NodeMap<Walk>, node: u32) -> Option
         return None;
     }
     let arc = network.arc(index);
-    Some(IndexedArc { index, arc })
+    Some((index, arc))
 }
 
-/// The node that is reached from this one by going back along last arcs, as often as there are nodes; none if a walk
-/// without arcs comes before.
-fn far_back<N: Network>(network: &N, walks: &NodeMap<Walk>, node: u32) -> Option<u32> {
+/// The node that is reached from this one by as many steps back along last arcs; none if a walk without arcs comes before.
+fn far_back<N: Network>(network: &N, walks: &NodeMap<Walk>, node: u32, steps: u32) -> Option<u32> {
     let mut at = node;
-    for _ in 0..network.nodes() {
-        at = last_arc(network, walks, at)?.arc.tail;
+    for _ in 0..steps {
+        let (_, arc) = last_arc(network, walks, at)?;
+        at = arc.tail;
     }
     Some(at)
 }
@@ -71,12 +68,12 @@ fn around<N: Network>(
 ) -> Result<Vec<IndexedArc>, Memory> {
     let mut arcs = Vec::new(alloc);
     let mut at = node;
-    for _ in 0..network.nodes() {
+    for _ in 0..network.arcs() {
         let Some(last) = last_arc(network, walks, at) else {
             break;
         };
         arcs.push(last)?;
-        at = last.arc.tail;
+        at = last.1.tail;
         if at == node {
             break;
         }
@@ -86,12 +83,11 @@ fn around<N: Network>(
 }
 
 fn has_negative<N: Network>(network: &N) -> bool {
+    let mut found = false;
     for i in 0..network.arcs() {
-        if network.arc(i).cost < 0 {
-            return true;
-        }
+        found |= network.arc(i).cost < 0;
     }
-    false
+    found
 }
 
 /// The arcs of a negative cycle that a source reaches; none if there is none, or it isn't found soon.
@@ -104,19 +100,20 @@ fn negative_cycle<N: Network>(
         return Ok(Vec::new(alloc));
     }
     let mut walks = NodeMap::new(alloc);
-    walks.set(
-        source,
-        Walk {
-            weight: 0,
-            last: None,
-        },
-    )?;
+    let (weight, last) = (0, None);
+    walks.set(source, Walk { weight, last })?;
     for _ in 0..MOST_STEPS / network.arcs().max(1) {
         let Some(changed) = lighten(network, &mut walks)? else {
             break;
         };
-        if let Some(node) = far_back(network, &walks, changed) {
-            return around(alloc, network, &walks, node);
+        // So many steps end at the source or on a cycle. The first arc is that after as many steps as there are nodes.
+        let steps = network.nodes().min(network.arcs().saturating_add(1));
+        if let Some(node) = far_back(network, &walks, changed, steps) {
+            let mut cycle = around(alloc, network, &walks, node)?;
+            let others = network.nodes().saturating_sub(steps) as usize;
+            let turn = others % cycle.len().max(1);
+            cycle.rotate_right(turn.min(cycle.len()));
+            return Ok(cycle);
         }
     }
     Ok(Vec::new(alloc))
@@ -132,8 +129,8 @@ impl<'a, A: Reopen> Explanation<'a, A> {
     pub(crate) fn write_cycle(&mut self, source: u32) -> Said<'a> {
         let cycle = self.negative_cycle(source)?;
         let mut weights = Sum::new(self.page.alloc);
-        for IndexedArc { index, arc } in cycle {
-            weights.add_arc(index.saturating_add(1), arc, ("WEIGHT", arc.cost));
+        for (index, arc) in cycle {
+            weights.add_arc(index, arc, "WEIGHT");
         }
         if weights.count > 0 {
             let what = "a cycle that the source reaches weighs less than 0; its arcs";

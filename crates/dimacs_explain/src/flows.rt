@@ -3,7 +3,7 @@
 use crate::crossing::Crossing;
 use crate::explanation::Explanation;
 use crate::least_cost::{paid_bound, reduced_cost};
-use crate::sums::bound;
+use crate::sums::{bound, number_of};
 use dimacs_network::{ArcView, Network};
 use dimacs_quote::Value::{Arc, Cap, Node};
 use dimacs_quote::{OrStop, Reopen, Said, TextFile, Wanted, ending, entry_between, range_of, say};
@@ -145,30 +145,45 @@ impl<'a, A: Reopen> Explanation<'a, A> {
         })
     }
 
-    /// Explains that an arc carries more or less than a bound.
-    pub(crate) fn explain_bound(&mut self, number: u32, reason: Reason) -> Said<'a> {
+    /// Explains why a test of an arc's flow failed.
+    pub(crate) fn explain_flow(&mut self, number: u32, reason: Reason) -> Said<'a> {
         let arc = self.quote_arc(number)?;
         let parallel = self.parallel(arc.tail, arc.head, number)?;
         if self.page.texts.is_spread() {
             return self.explain_spread(arc, parallel, reason);
         }
         let flow = self.quote_entry(arc, parallel.earlier)?;
-        say!(self; "arc {} carries {}", Arc(number), flow);
-        if reason == Reason::AboveCap {
-            say!(self; ", more than its CAP, {}\n", Cap(arc.cap));
-        } else if self.page.texts.instance()?.kind == TextKind::Min {
-            say!(self; ", less than its LOW, {}\n", arc.low);
-        } else {
-            say!(self; ", less than 0\n");
+        let is_min = self.page.texts.instance()?.kind == TextKind::Min;
+        let (this, tail, head) = (Arc(number), Node(arc.tail), Node(arc.head));
+        match reason {
+            Reason::AboveCap =>
+                say!(self; "arc {} carries {}, more than its CAP, {}\n", this, flow, Cap(arc.cap)),
+            Reason::BelowLow if is_min =>
+                say!(self; "arc {} carries {}, less than its LOW, {}\n", this, flow, arc.low),
+            Reason::BelowLow => say!(self; "arc {} carries {}, less than 0\n", this, flow),
+            Reason::CostRange =>
+                say!(self; "arc {} carries {} at a COST of {}: the costs of the arcs up to this one leave {}\n",
+                this, flow, arc.cost, range_of("VALUE")),
+            Reason::NotSaturated =>
+                say!(self; "arc {} leaves the set, from {} inside to {} outside, and carries {} of its CAP, {}\n",
+                this, tail, head, flow, Cap(arc.cap)),
+            Reason::BackFlow =>
+                say!(self; "arc {} enters the set, from {} outside to {} inside, and carries {}, not 0\n",
+                this, tail, head, flow),
+            _ => self.write_slack(number, arc, flow)?,
         }
-        if parallel.all > 1 && !self.page.texts.are_arrays() {
-            return self.explain_order(arc, parallel);
+        match reason {
+            Reason::CostRange => Ok(()),
+            Reason::AboveCap | Reason::BelowLow => self.explain_order(arc, parallel),
+            _ => self.write_open(),
         }
-        Ok(())
     }
 
-    /// Explains that entries belong to parallel arcs in their order, and whether another order fits.
+    /// Explains that entries belong to parallel arcs in their order, if there are some, and whether another order fits.
     fn explain_order(&mut self, arc: ArcView, parallel: Parallel) -> Said<'a> {
+        if parallel.all < 2 || self.page.texts.are_arrays() {
+            return Ok(());
+        }
         say!(self; "{} arcs lead from {} to {}, and arc {} is the first of them: entries with these ends belong to them in the order of the instance\n",
             parallel.all, Node(arc.tail), Node(arc.head), Arc(parallel.first));
         let sum = self.entry_sum(arc.tail, arc.head)?;
@@ -196,28 +211,6 @@ impl<'a, A: Reopen> Explanation<'a, A> {
         Ok(())
     }
 
-    /// Explains that the costs of the arcs up to one leave their range, or that a certificate fails at an arc.
-    pub(crate) fn explain_flow(&mut self, number: u32, reason: Reason) -> Said<'a> {
-        let arc = self.quote_arc(number)?;
-        let parallel = self.parallel(arc.tail, arc.head, number)?;
-        let flow = self.quote_entry(arc, parallel.earlier)?;
-        match reason {
-            Reason::NotSaturated =>
-                say!(self; "arc {} leaves the set, from {} inside to {} outside, and carries {} of its CAP, {}\n",
-                Arc(number), Node(arc.tail), Node(arc.head), flow, Cap(arc.cap)),
-            Reason::BackFlow =>
-                say!(self; "arc {} enters the set, from {} outside to {} inside, and carries {}, not 0\n",
-                Arc(number), Node(arc.tail), Node(arc.head), flow),
-            Reason::NotTight => self.write_slack(number, arc, flow)?,
-            _ => {
-                say!(self; "arc {} carries {} at a COST of {}: the costs of the arcs up to this one leave {}\n",
-                    Arc(number), flow, arc.cost, range_of("VALUE"));
-                return Ok(());
-            }
-        }
-        self.write_open()
-    }
-
     /// Explains that an arc doesn't carry the bound that its reduced cost demands.
     fn write_slack(&mut self, number: u32, arc: ArcView, flow: i64) -> Said<'a> {
         let certificate = self.page.texts.certificate()?;
@@ -226,9 +219,10 @@ impl<'a, A: Reopen> Explanation<'a, A> {
         let reduced = reduced_cost(arc, tail, head);
         say!(self; "the reduced cost of arc {} is COST - y({}) + y({}) = {} - {} + {} = {}",
             Arc(number), Node(arc.tail), Node(arc.head), arc.cost, tail, head, reduced);
-        let (name, wanted) = paid_bound(arc, reduced);
+        let name = paid_bound(reduced);
         let sign = if reduced > 0 { "above" } else { "below" };
-        say!(self; ", {} 0, so it has to carry its {}, {}, and carries {}\n", sign, name, bound(name, wanted), flow);
+        let wanted = bound(name, number_of(arc, name));
+        say!(self; ", {} 0, so it has to carry its {}, {}, and carries {}\n", sign, name, wanted, flow);
         Ok(())
     }
 
@@ -269,8 +263,10 @@ impl<'a, A: Reopen> Explanation<'a, A> {
         let (instance, flow) = (self.page.texts.instance()?, self.node_flow(node)?);
         let supply = self.quote_node(instance, node)?;
         self.write_balance(node, flow.leaving.sum(), flow.entering.sum(), supply);
-        self.write_lines("entries out of it", &flow.leaving);
-        self.write_lines("entries into it", &flow.entering);
+        let leaving = self.page.words("entries out of it", "flows out of it");
+        self.write_lines(leaving, &flow.leaving);
+        let entering = self.page.words("entries into it", "flows into it");
+        self.write_lines(entering, &flow.entering);
         match instance.kind {
             TextKind::Min => self.write_feasible(instance, node),
             _ => Ok(()),

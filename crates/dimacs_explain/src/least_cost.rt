@@ -1,7 +1,7 @@
 //! Why a flow costs least: by the potentials, each feasible flow costs at least as much.
 
 use crate::explanation::Explanation;
-use crate::sums::{SHOWN, Sum, bound};
+use crate::sums::{SHOWN, Sum, bound, number_of};
 use dimacs_claims::Potentials;
 use dimacs_instance::MinInstance;
 use dimacs_judging::Flow;
@@ -64,12 +64,17 @@ pub(crate) fn cost_of<N: Network>(network: &N, flow: &Flow) -> i128 {
 /// The sum of a potential times a supply, over the nodes.
 fn supply_sum<N: Network>(alloc: Global, min: &MinInstance<N>, potentials: &Potentials) -> Sum {
     let mut sum = Sum::new(alloc);
-    for id in 1..=potentials.nodes() {
+    let (mut id, end) = (1, potentials.nodes().saturating_add(1));
+    for _ in 0..end {
+        if id >= end {
+            break;
+        }
         let (y, supply) = (potentials.of(id), i128::from(min.supply(id)));
         if y != 0 && supply != 0 {
             say!(sum; "  node {}: {} * {}\n", Node(id), y, Operand(supply));
             sum.add(y.checked_mul(supply));
         }
+        id = min.next_supply(id + 1, end);
     }
     sum
 }
@@ -87,7 +92,8 @@ fn reduced_sum<N: Network>(alloc: Global, network: &N, potentials: &Potentials) 
         let arc = network.arc(i);
         let (tail, head) = (potentials.of(arc.tail), potentials.of(arc.head));
         let reduced = reduced_cost(arc, tail, head);
-        let (name, paid) = paid_bound(arc, reduced);
+        let name = paid_bound(reduced);
+        let paid = number_of(arc, name);
         if reduced != 0 && paid != 0 {
             say!(sum; "  arc {}: {} -> {}, r = {} - {} + {} = {}, {} {}\n", Arc(i.saturating_add(1)), Node(arc.tail),
                 Node(arc.head), arc.cost, Operand(tail), Operand(head), reduced, name, bound(name, paid));
@@ -98,12 +104,8 @@ fn reduced_sum<N: Network>(alloc: Global, network: &N, potentials: &Potentials) 
 }
 
 /// The bound at which a reduced cost is paid least.
-pub(crate) fn paid_bound(arc: ArcView, reduced: i128) -> (&'static str, i64) {
-    if reduced > 0 {
-        ("LOW", arc.low)
-    } else {
-        ("CAP", arc.cap)
-    }
+pub(crate) fn paid_bound(reduced: i128) -> &'static str {
+    if reduced > 0 { "LOW" } else { "CAP" }
 }
 
 impl<'a, A: Reopen> Explanation<'a, A> {
@@ -151,7 +153,9 @@ impl<'a, A: Reopen> Explanation<'a, A> {
         let mut bound = Sum::new(self.page.alloc);
         bound.add(fixed.total);
         bound.add(least.total);
-        say!(self; "with potentials y (0 without a line) and r = COST - y(TAIL) + y(HEAD), a feasible flow costs the sum of y * SUPPLY over the nodes plus that of r * FLOW over the arcs\n");
+        let zero = self.page.words(" (0 without a line)", "");
+        say!(self; "with potentials y{} and r = COST - y(TAIL) + y(HEAD), a feasible flow costs the sum of y * SUPPLY over the nodes plus that of r * FLOW over the arcs\n",
+            zero);
         if bound.total.is_none() {
             return say!(self; "some of these numbers don't fit 128 bits, so they are left out\n");
         }

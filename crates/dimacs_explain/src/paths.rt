@@ -1,10 +1,9 @@
 //! Explains the tests of labels, distances and queries.
 
-use crate::blocks::{Unreached, failing_ends, first_unreached, lightest};
+use crate::blocks::{ArcInto, Unreached, failing_ends, first_unreached, lightest};
 use crate::explanation::Explanation;
 use crate::flows::arc_of;
 use dimacs_lines::Memory;
-use dimacs_network::ArcView;
 use dimacs_quote::Value::{Arc, Node};
 use dimacs_quote::{OrStop, Reopen, Said, TextFile, Wanted, say};
 use dimacs_records::TextKind;
@@ -27,8 +26,11 @@ impl<'a, A: Reopen> Explanation<'a, A> {
     /// Explains that a graph has a negative WEIGHT where none is allowed.
     pub(crate) fn explain_negative(&mut self, number: u32) -> Said<'a> {
         let arc = self.quote_arc(number)?;
-        say!(self; "arc {} has the WEIGHT {}, below 0: solve-paths takes no such graph, and a block with a RADIUS has none\n",
-            Arc(number), arc.cost);
+        let who = self.page.words(
+            "solve-paths takes no such graph, and a block with a RADIUS has none",
+            "the solver takes no such graph",
+        );
+        say!(self; "arc {} has the WEIGHT {}, below 0: {}\n", Arc(number), arc.cost, who);
         Ok(())
     }
 
@@ -61,15 +63,16 @@ impl<'a, A: Reopen> Explanation<'a, A> {
         self.write_cycle(ends.source)
     }
 
-    fn arcs_into(&self, node: u32) -> OrStop<'a, Vec<ArcView>> {
+    fn arcs_into(&self, node: u32) -> OrStop<'a, Vec<ArcInto>> {
         let mut arcs = Vec::new(self.page.alloc);
         for (_, record) in self.page.lines(self.page.texts.instance()?)? {
             if let Some(arc) = record.and_then(arc_of)
                 && arc.head == node
             {
-                arcs.push(arc).map_err(Memory::from)?;
+                arcs.push((arc.tail, arc.cost)).map_err(Memory::from)?;
             }
         }
+        arcs.sort().map_err(Memory::from)?;
         Ok(arcs)
     }
 
@@ -77,10 +80,8 @@ impl<'a, A: Reopen> Explanation<'a, A> {
     pub(crate) fn explain_unreached(&mut self, node: u32) -> Said<'a> {
         let text = self.page.texts.tested()?;
         let arcs = self.arcs_into(node)?;
-        let mut tested = self.labels(text)?;
-        tested.index()?;
         let is_distance = text.kind == TextKind::Distances;
-        let found = first_unreached(&tested, text.kind, node, &arcs);
+        let found = first_unreached(&self.labels(text)?, text.kind, node, &arcs);
         match found {
             Some(it) => {
                 self.quote_label(text, it.source, node)?;
@@ -95,10 +96,7 @@ impl<'a, A: Reopen> Explanation<'a, A> {
             None => return Err(text.unread()),
         }
         if found.and_then(|it| it.least).is_none() {
-            let advice = match text.is_of_arrays() {
-                true => "it has no distance",
-                false => "leave its line out",
-            };
+            let advice = self.page.words("leave its line out", "it has no distance");
             say!(self; "if no walk leads to node {}, {}\n", Node(node), advice);
         }
         Ok(())
@@ -116,8 +114,9 @@ impl<'a, A: Reopen> Explanation<'a, A> {
     /// Compares a label with that of its PRED, and names the lightest arc from there.
     fn write_label(&mut self, it: Unreached, lightest: Option<i64>) {
         let (node, pred, dist) = (Node(it.label.id), Node(it.label.pred), it.label.dist);
-        say!(self; "node {} is at distance {}, and its PRED, node {}, at distance {}: ",
-            node, dist, pred, it.pred_dist);
+        let name = self.page.words("PRED", "predecessor");
+        say!(self; "node {} is at distance {}, and its {}, node {}, at distance {}: ",
+            node, dist, name, pred, it.pred_dist);
         let weight = dist.saturating_sub(it.pred_dist);
         say!(self; "no arc from {} to {} has the WEIGHT {}\n", pred, node, weight);
         match lightest {

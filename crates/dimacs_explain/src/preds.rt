@@ -30,20 +30,23 @@ fn last_back(alloc: Global, preds: &Preds, node: u32) -> Result<u32, Memory> {
 impl<'a, A: Reopen> Explanation<'a, A> {
     /// Those of the block in which a line is, and the node of this line.
     fn preds_at(&self, text: TextFile<'a>, at: u64) -> OrStop<'a, (Preds, u32)> {
-        let (mut preds, mut node) = (NodeMap::new(self.page.alloc), 0);
+        let (mut block, mut node) = (Vec::new(self.page.alloc), 0);
         for (line, record) in self.page.lines(text)? {
-            match record {
+            let (id, pred) = match record {
                 Some(Record::LabelsBlock { .. }) if line > at => break,
                 Some(Record::LabelsBlock { source, .. }) => {
-                    preds = NodeMap::new(self.page.alloc);
-                    preds.set(source, 0)?;
+                    block.clear();
+                    (source, 0)
                 }
-                Some(Record::LabelsNode { id, pred, .. }) => {
-                    preds.set(id, pred)?;
-                    node = if line == at { id } else { node };
-                }
-                _ => (),
-            }
+                Some(Record::LabelsNode { id, pred, .. }) => (id, pred),
+                _ => continue,
+            };
+            block.push((id, pred)).map_err(Memory::from)?;
+            node = if line == at { id } else { node };
+        }
+        let mut preds = NodeMap::new(self.page.alloc);
+        for (id, pred) in block {
+            preds.set(id, pred)?;
         }
         Ok((preds, node))
     }

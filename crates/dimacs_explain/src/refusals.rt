@@ -5,16 +5,6 @@ use dimacs_judging::Where;
 use dimacs_quote::{Reopen, Said, Stop, Value, Wanted, say};
 use dimacs_records::{At, End, Reason, TextKind};
 
-/// Where a test failed: the field of the solution, and the number of the arc or the ID of the node. 0 stands for none.
-fn place_of(place: Where) -> (At, u32) {
-    let whole = At { line: 0, field: 0 };
-    match place {
-        Where::Solution { line, field } => (At { line, field }, 0),
-        Where::Certificate => (whole, 0),
-        Where::Arc(number) | Where::Node(number) => (whole, number),
-    }
-}
-
 impl<'a, A: Reopen> Explanation<'a, A> {
     /// Explains the fault of a text of this kind.
     pub fn explain_fault(&mut self, kind: TextKind, at: At, reason: Reason) {
@@ -76,14 +66,23 @@ impl<'a, A: Reopen> Explanation<'a, A> {
 
     /// Explains a test that failed.
     fn explain_test(&mut self, place: Where, reason: Reason) -> Said<'a> {
-        let (at, number) = place_of(place);
+        // The field of the solution, and the number of the arc or the ID of the node; 0 stands for none.
+        let (line, field, number) = match place {
+            Where::Solution { line, field } => (line, field, 0),
+            Where::Certificate => (0, 0, 0),
+            Where::Arc(number) | Where::Node(number) => (0, 0, number),
+        };
+        let at = At { line, field };
         match reason {
             Reason::UnknownArc | Reason::ArcTwice => self.explain_entry(at, reason),
             Reason::ValueDiffers => self.explain_value(at),
             Reason::NotMaximum | Reason::NotLeast => self.explain_better(at),
-            Reason::BelowLow | Reason::AboveCap => self.explain_bound(number, reason),
-            Reason::CostRange | Reason::NotSaturated | Reason::BackFlow | Reason::NotTight =>
-                self.explain_flow(number, reason),
+            Reason::BelowLow
+            | Reason::AboveCap
+            | Reason::CostRange
+            | Reason::NotSaturated
+            | Reason::BackFlow
+            | Reason::NotTight => self.explain_flow(number, reason),
             Reason::Balance => self.explain_balance(number),
             Reason::SourceOutside => self.explain_end(number, End::Source),
             Reason::SinkInside => self.explain_end(number, End::Sink),
@@ -94,30 +93,8 @@ impl<'a, A: Reopen> Explanation<'a, A> {
             Reason::NoTightArc => self.explain_unreached(number),
             Reason::Escapes | Reason::NotShortest => self.explain_farther(number),
             Reason::NegativeWeight => self.explain_negative(number),
-            // No test fails for these.
-            Reason::LineTooLong
-            | Reason::UnknownLine
-            | Reason::FieldCount
-            | Reason::BadNumber
-            | Reason::NumberRange
-            | Reason::BadWord
-            | Reason::ProblemMissing
-            | Reason::ProblemTwice
-            | Reason::RecordOrder
-            | Reason::NodeRange
-            | Reason::NodeTwice
-            | Reason::EndTwice
-            | Reason::EndMissing
-            | Reason::BoundOrder
-            | Reason::ParallelArc
-            | Reason::TooMany
-            | Reason::TooFew
-            | Reason::SolutionMissing
-            | Reason::SolutionTwice
-            | Reason::PredUnknown
-            | Reason::LineLimit
-            | Reason::PastRadius
-            | Reason::Feasible => Ok(()),
+            // Faults of texts, for which no test fails.
+            _ => Ok(()),
         }
     }
 

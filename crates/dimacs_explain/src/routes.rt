@@ -5,7 +5,6 @@ use crate::sums::{SHOWN, Sum};
 use dimacs_claims::{Block, Label, Labels};
 use dimacs_instance::Queries;
 use dimacs_lines::Memory;
-use dimacs_network::NodeMap;
 use dimacs_quote::Value::Node;
 use dimacs_quote::{OrStop, Reopen, Said, say};
 use std::alloc::Global;
@@ -43,20 +42,16 @@ fn farthest(block: &Block) -> Option<Label> {
     Some(farthest)
 }
 
-/// The labels on the route to a node, from the source's successor on.
+/// The labels on the route to a node, from the source's successor on. Each comes after that of its PRED.
 fn route_to(alloc: Global, block: &Block, to: u32) -> Result<Vec<Label>, Memory> {
-    let mut labels = NodeMap::new(alloc);
-    for label in block.labels() {
-        labels.set(label.id, label)?;
-    }
-    let mut route = Vec::new(alloc);
-    let mut node = to;
-    for _ in 0..block.labels().len() {
-        let Some(label) = labels.get(node) else {
-            break;
-        };
-        route.push(label)?;
-        node = label.pred;
+    let (labels, mut route, mut node) = (block.labels(), Vec::new(alloc), to);
+    for place in (0..labels.len()).rev() {
+        if let Some(label) = labels.get(place)
+            && label.id == node
+        {
+            route.push(label)?;
+            node = label.pred;
+        }
     }
     route.reverse();
     Ok(route)
@@ -88,7 +83,9 @@ impl<'a, A: Reopen> Explanation<'a, A> {
             say!(self; "..\n");
         }
         if has_route {
-            say!(self; "no walk is shorter: from the source, whose label is 0, each arc raises the label by its WEIGHT at most\n");
+            let name = self.page.words("label", "distance");
+            say!(self; "no walk is shorter: from the source, whose {} is 0, each arc raises the {} by its WEIGHT at most\n",
+                name, name);
         }
         Ok(())
     }

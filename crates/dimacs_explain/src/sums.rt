@@ -63,9 +63,11 @@ impl Sum {
         }
     }
 
-    /// Adds a number of the arc with this number, from 1, and writes a line with its name.
-    pub(crate) fn add_arc(&mut self, arc: u32, ends: ArcView, (name, number): (&str, i64)) {
-        say!(self; "  arc {}: {} -> {}, {} {}\n", Arc(arc), Node(ends.tail), Node(ends.head), name, bound(name, number));
+    /// Adds the number of this name of an arc, which is the one with this index, and writes a line.
+    pub(crate) fn add_arc(&mut self, index: u32, arc: ArcView, name: &str) {
+        let number = number_of(arc, name);
+        say!(self; "  arc {}: {} -> {}, {} {}\n", Arc(index.saturating_add(1)), Node(arc.tail), Node(arc.head), name,
+            bound(name, number));
         self.add(Some(i128::from(number)));
     }
 
@@ -84,6 +86,16 @@ impl Sum {
             say!(self; "  {}:{}: f {} {} {}\n", text, line, Node(tail), Node(head), flow);
         }
         self.add(Some(i128::from(flow)));
+    }
+}
+
+/// The number of an arc with this name; 0, the flow of an empty arc, for another name.
+pub(crate) fn number_of(arc: ArcView, name: &str) -> i64 {
+    match name {
+        "LOW" => arc.low,
+        "CAP" => arc.cap,
+        "WEIGHT" => arc.cost,
+        _ => 0,
     }
 }
 
@@ -132,9 +144,16 @@ impl<'a, A: Reopen> Explanation<'a, A> {
     pub(crate) fn write_set(&mut self, set: &Cut) {
         let count = u64::from(set.len());
         say!(self; "{} of the {} nodes:", count, u64::from(set.nodes()));
-        let inside = (1..=set.nodes()).filter(|id| set.contains(*id));
-        for id in inside.take(SHOWN as usize) {
-            say!(self; " {}", Node(id));
+        let (mut id, mut left, end) = (1, count.min(SHOWN), set.nodes().saturating_add(1));
+        for _ in 0..end {
+            if left == 0 || id >= end {
+                break;
+            }
+            if set.contains(id) {
+                say!(self; " {}", Node(id));
+                left -= 1;
+            }
+            id = set.next(id + 1, end);
         }
         say!(self; if count > SHOWN { " ..\n" } else { "\n" });
     }

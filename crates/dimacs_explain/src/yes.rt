@@ -13,8 +13,7 @@ use dimacs_lines::Source;
 use dimacs_network::Network;
 use dimacs_quote::{OrStop, Prose, Reopen, Said, Stop, TextFile, Wanted, say};
 
-const LEFT_OUT: &str =
-    "the numbers are left out: a text has changed, can't be read twice, or memory ran out\n";
+const LEFT_OUT: &str = "a text has changed, can't be read twice, or memory ran out";
 
 /// The verdict on texts that are read again.
 fn judged<'a>(answer: Result<Verdict, JudgeError>) -> OrStop<'a, Verdict> {
@@ -36,10 +35,11 @@ impl<'a, A: Reopen> Explanation<'a, A> {
 
     /// Writes why no numbers are shown.
     fn write_left_out(&mut self) {
+        let reason = self.page.words(LEFT_OUT, "memory ran out");
         match self.replaced() {
             Some(claim) =>
                 say!(self; "the numbers are left out: the certificate has taken the place of {}\n", claim),
-            None => say!(self; LEFT_OUT),
+            None => say!(self; "the numbers are left out: {}\n", reason),
         }
     }
 
@@ -84,7 +84,8 @@ impl<'a, A: Reopen> Explanation<'a, A> {
     }
 
     fn least<R: Source>(&mut self, certificate: &mut R) -> OrStop<'a, Verdict> {
-        let (potentials, min) = (self.potentials(certificate)?, self.min_instance()?);
+        let potentials = read_potentials(self.page.alloc, certificate).map_err(|_| Stop::Done)?;
+        let min = self.min_instance()?;
         let (verdict, flow) = self.judged_flow(&min, &potentials)?;
         self.write_cost(min.network(), &flow);
         self.explain_least(&min, &potentials);
@@ -100,13 +101,6 @@ impl<'a, A: Reopen> Explanation<'a, A> {
         let solution = self.solution()?;
         let verdict = judged(judge_min(self.page.alloc, min, &solution, potentials))?;
         Ok((verdict, self.flow(min.network(), &solution)?))
-    }
-
-    fn potentials<R: Source>(&self, certificate: &mut R) -> OrStop<'a, Potentials> {
-        let Ok(potentials) = read_potentials(self.page.alloc, certificate) else {
-            return Err(Stop::Done);
-        };
-        Ok(potentials)
     }
 
     fn infeasible<R: Source>(&mut self, certificate: &mut R) -> OrStop<'a, Verdict> {
@@ -131,9 +125,7 @@ impl<'a, A: Reopen> Explanation<'a, A> {
 
     /// Labels to look queries up in.
     fn labels_for<R: Source>(&self, queries: &Queries, certificate: &mut R) -> OrStop<'a, Labels> {
-        let Ok(mut labels) = read_labels(self.page.alloc, certificate) else {
-            return Err(Stop::Done);
-        };
+        let mut labels = read_labels(self.page.alloc, certificate).map_err(|_| Stop::Done)?;
         index_for(queries, &mut labels)?;
         Ok(labels)
     }

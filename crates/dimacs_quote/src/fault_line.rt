@@ -15,9 +15,12 @@ use std::alloc::Global;
 /// A longer word is cut to this many bytes.
 const LONG_WORD: usize = 60;
 
-/// What explanations need of the lines before a fault; what isn't there has 0.
+/// What explanations need of the lines up to a fault; what isn't there has 0.
 #[derive(Clone, Copy, Default)]
 pub(crate) struct Before {
+    /// What a file is that is no text.
+    pub(crate) odd: Option<&'static str>,
+    pub(crate) lone_return: bool,
     lines: u64,
     has_record: bool,
     /// How many arcs, queries, nodes of a set, potentials or blocks there are.
@@ -33,16 +36,12 @@ pub(crate) struct Before {
 impl Before {
     fn add(&mut self, line: u64, record: Record) {
         self.has_record = true;
+        if let Record::LabelsBlock { radius, .. } = record {
+            self.radius = radius;
+        }
         match record {
-            Record::LabelsBlock {
-                source,
-                count,
-                radius,
-            } => {
-                self.begin(line, source, count);
-                self.radius = radius;
-            }
-            Record::DistancesBlock { source, count } => self.begin(line, source, count),
+            Record::LabelsBlock { source, count, .. } | Record::DistancesBlock { source, count } =>
+                self.begin(line, source, count),
             Record::LabelsNode { .. } | Record::DistancesNode { .. } => {
                 self.labelled = self.labelled.saturating_add(1);
             }
@@ -76,48 +75,38 @@ pub(crate) struct FaultLine<'a> {
     pub(crate) fields: u64,
     /// None if the line by itself has a fault.
     pub(crate) record: Option<Record>,
-    /// What a file is that is no text, and what a text of another kind is, with the kind if it is one here.
-    pub(crate) odd: Option<&'static str>,
+    /// What a text of another kind is, with the kind if it is one here.
     pub(crate) other: Option<&'static str>,
     pub(crate) found: Option<TextKind>,
-    pub(crate) lone_return: bool,
 }
 
 impl<'a> FaultLine<'a> {
-    /// Before the first line.
-    fn new(alloc: Global, text: TextFile<'a>, line: u64, reason: Reason) -> FaultLine<'a> {
-        FaultLine {
+    /// The line with these bytes, after others; the end of a text has none.
+    fn new(
+        alloc: Global,
+        text: TextFile<'a>,
+        at: At,
+        reason: Reason,
+        before: Before,
+        bytes: &[u8],
+    ) -> Result<FaultLine<'a>, Memory> {
+        let form = form_of(text.kind, text_at(bytes, 1)).unwrap_or("p");
+        let begins = !before.has_record && form.starts_with('p');
+        let found = kind_of(bytes).filter(|kind| begins && *kind != text.kind);
+        let unread = unread_kind(bytes).filter(|_| begins);
+        Ok(FaultLine {
             text,
-            line,
+            line: at.line,
             reason,
-            before: Before::default(),
-            form: "p",
-            name: "",
-            word: String::new(alloc),
-            fields: 0,
+            before,
+            form,
+            name: field_name(form, at.field),
+            word: shortened(alloc, text_at(bytes, at.field))?,
+            fields: count_fields(bytes),
             record: None,
-            odd: None,
-            other: None,
-            found: None,
-            lone_return: false,
-        }
-    }
-
-    /// Takes the line of the fault.
-    fn see(&mut self, alloc: Global, line: &[u8], field: u32) -> Result<(), Memory> {
-        self.form = form_of(self.text.kind, text_at(line, 1)).unwrap_or("p");
-        if !self.before.has_record && self.form.starts_with('p') {
-            self.found = kind_of(line).filter(|kind| *kind != self.text.kind);
-            self.other = self.found.map(kind_words).or(unread_kind(line));
-        }
-        self.name = field_name(self.form, field);
-        self.fields = count_fields(line);
-        let whole = text_at(line, field);
-        let mut word = Prose::new(alloc);
-        escape(&mut word, whole.get(..LONG_WORD).unwrap_or(whole));
-        word.push(if whole.len() > LONG_WORD { ".." } else { "" });
-        self.word = word.finish()?;
-        Ok(())
+            other: found.map(kind_words).or(unread),
+            found,
+        })
     }
 
     /// Whether the count of a block is wrong, and not that of the problem line.
@@ -152,6 +141,14 @@ impl<'a> FaultLine<'a> {
     }
 }
 
+/// A word, or the beginning of a longer one.
+fn shortened(alloc: Global, word: &[u8]) -> Result<String, Memory> {
+    let mut short = Prose::new(alloc);
+    escape(&mut short, word.get(..LONG_WORD).unwrap_or(word));
+    short.push(if word.len() > LONG_WORD { ".." } else { "" });
+    short.finish()
+}
+
 pub(crate) fn count_fields(line: &[u8]) -> u64 {
     fields(line).fold(0, |count: u64, _| count.saturating_add(1))
 }
@@ -164,29 +161,29 @@ impl<'a, A: Reopen> Page<'a, A> {
         at: At,
         reason: Reason,
     ) -> OrStop<'a, FaultLine<'a>> {
-        let mut lines = self.lines(text)?;
-        let mut fault = FaultLine::new(self.alloc, text, at.line, reason);
+        let (mut lines, mut before) = (self.lines(text)?, Before::default());
         for _ in 0..MAX_LINES {
             let Some((number, record)) = lines.next() else {
                 break;
             };
             if number == 1 {
-                fault.odd = oddity(lines.bytes());
-                fault.lone_return = has_lone_return(lines.bytes());
+                before.odd = oddity(lines.bytes());
+                before.lone_return = has_lone_return(lines.bytes());
             }
             if number == at.line {
-                self.out
-                    .append(&quote(self.alloc, text.file, at, lines.bytes()));
-                fault.see(self.alloc, lines.bytes(), at.field)?;
+                let bytes = lines.bytes();
+                self.out.append(&quote(self.alloc, text.file, at, bytes));
+                let mut fault = FaultLine::new(self.alloc, text, at, reason, before, bytes)?;
                 fault.record = record;
-                fault.lone_return = fault.lone_return && number == 1 && lines.next().is_none();
+                fault.before.lone_return &= number == 1 && lines.next().is_none();
                 return Ok(fault);
             }
-            fault.before.lines = number;
+            before.lines = number;
             if let Some(record) = record {
-                fault.before.add(number, record);
+                before.add(number, record);
             }
         }
+        let fault = FaultLine::new(self.alloc, text, at, reason, before, b"")?;
         self.name_place(&fault);
         Ok(fault)
     }

@@ -38,11 +38,11 @@ impl<'a, A: Reopen> Page<'a, A> {
     pub fn explain_text(&mut self, kind: TextKind, at: At, reason: Reason) -> Said<'a> {
         let text = self.texts.of_kind(kind)?;
         let fault = self.quote_fault(text, at, reason)?;
-        if let Some(odd) = fault.odd {
+        if let Some(odd) = fault.before.odd {
             say!(self; "{}\n", odd);
             return Ok(());
         }
-        if fault.lone_return {
+        if fault.before.lone_return {
             say!(self; "lines end by a carriage return alone: end them by a line feed\n");
         }
         match (reason, fault.other) {
@@ -97,7 +97,7 @@ impl<'a, A: Reopen> Page<'a, A> {
             Reason::FieldCount => self.write_field_count(fault),
             Reason::BadWord => say!(self; "`{}` stands where `{}` is wanted: the line is `{}`\n",
                 word, fault.name, fault.form),
-            Reason::BadNumber => self.write_bad_number(word, fault.name)?,
+            Reason::BadNumber => self.write_bad_number(word, fault.name),
             Reason::NumberRange => self.write_range(word, fault.name),
             Reason::ProblemMissing =>
                 say!(self; "a line `{}` has to stand first, but for comments\n",
@@ -175,7 +175,7 @@ impl<'a, A: Reopen> Page<'a, A> {
         say!(self; if has_radius { ", or one more with a RADIUS\n" } else { "\n" });
     }
 
-    fn write_bad_number(&mut self, word: &str, name: &str) -> Said<'a> {
+    fn write_bad_number(&mut self, word: &str, name: &str) {
         say!(self; "{} is a whole number, digits with a sign or without, and not `{}`\n", name, word);
         if name == "VALUE" && word == "infeasible" {
             let instance = match self.texts.instance() {
@@ -186,10 +186,11 @@ impl<'a, A: Reopen> Page<'a, A> {
                 Value::File(instance));
         } else if name == "DIST" && is_no_distance(word) {
             say!(self; "a node that no walk reaches has no line: leave it out\n");
-        } else if let Some(number) = meant_number(self.alloc, word)? {
-            say!(self; "write {}\n", number.as_str());
+        } else if let Some(number) = meant_number(self.alloc, word) {
+            say!(self; "write ");
+            self.out.append(&number);
+            say!(self; "\n");
         }
-        Ok(())
     }
 
     /// Names the range of a number, and what one that is outside may come from.

@@ -1,47 +1,44 @@
 //! Words that were meant as whole numbers.
 
-use dimacs_lines::Memory;
+use crate::quote::repeat;
+use crate::say;
+use crate::sentence::Prose;
 use std::alloc::Global;
 
 /// Numbers of up to this many digits fit all fields but IDs and counts.
 const MOST_DIGITS: usize = 18;
 
 /// The whole number that a word spells in another way: as `3.0` and `1e6` do, or with a typographic minus.
-pub(crate) fn meant_number(alloc: Global, word: &str) -> Result<Option<String>, Memory> {
+pub(crate) fn meant_number(alloc: Global, word: &str) -> Option<Prose> {
+    let mut number = Prose::new(alloc);
     if let Some(digits) = word.strip_prefix('\u{2212}')
         && is_whole(digits)
     {
-        let mut number = String::from_str(alloc, "-")?;
-        number.push_str(digits)?;
-        return Ok(Some(number));
+        say!(number; "-{}", digits);
+        return Some(number);
     }
     if let Some((whole, fraction)) = word.split_once('.')
         && is_whole(whole)
         && fraction.bytes().all(|byte| byte == b'0')
     {
-        return Ok(Some(String::from_str(alloc, whole)?));
+        number.push(whole);
+        return Some(number);
     }
-    match word.split_once('e') {
-        Some((whole, zeros)) if is_whole(whole) => with_zeros(alloc, whole, zeros),
-        _ => Ok(None),
-    }
+    let (whole, zeros) = word.split_once('e').filter(|(whole, _)| is_whole(whole))?;
+    number.push(whole);
+    repeat(&mut number, "0", count_of(whole, zeros)?);
+    Some(number)
 }
 
-/// A whole number followed by this many zeros.
-fn with_zeros(alloc: Global, whole: &str, zeros: &str) -> Result<Option<String>, Memory> {
-    let zeros = zeros.strip_prefix('+').unwrap_or(zeros);
-    if !zeros.bytes().all(|byte| byte.is_ascii_digit()) {
-        return Ok(None);
-    }
-    match zeros.parse::<usize>() {
-        Ok(count) if count.saturating_add(whole.len()) <= MOST_DIGITS => {
-            let mut number = String::from_str(alloc, whole)?;
-            for _ in 0..count {
-                number.push('0')?;
-            }
-            Ok(Some(number))
-        }
-        _ => Ok(None),
+/// How many zeros follow a number with an exponent; none if it is no number that fits.
+fn count_of(whole: &str, exponent: &str) -> Option<usize> {
+    let digits = exponent.strip_prefix('+').unwrap_or(exponent);
+    let count = digits.parse::<usize>().ok()?;
+    let fits = count.saturating_add(whole.len()) <= MOST_DIGITS;
+    if fits && digits.bytes().all(|byte| byte.is_ascii_digit()) {
+        Some(count)
+    } else {
+        None
     }
 }
 

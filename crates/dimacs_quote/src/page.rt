@@ -90,6 +90,15 @@ impl<'a, A: Reopen> Page<'a, A> {
         self.out.write(sentence, values);
     }
 
+    /// Words about texts, or those about the arrays for which they stand.
+    pub fn words(&self, of_texts: &'static str, of_arrays: &'static str) -> &'static str {
+        if self.texts.are_arrays() {
+            of_arrays
+        } else {
+            of_texts
+        }
+    }
+
     /// Reports that a file can't be read again.
     pub fn write_unread(&mut self, file: &str) {
         say!(self; "{}: is no file that can be read again, so its lines are left out\n", Value::File(file));

@@ -47,7 +47,7 @@ pub(crate) fn text_at(line: &[u8], field: u32) -> &[u8] {
     field_at(line, field).map_or(&[], |field| field.text)
 }
 
-fn repeat(out: &mut Prose, what: &str, times: usize) {
+pub(crate) fn repeat(out: &mut Prose, what: &str, times: usize) {
     for _ in 0..times {
         out.push(what);
     }
