@@ -91,8 +91,8 @@ impl<'a> Files for SystemFiles<'a> {
     fn open(&mut self, name: &str) -> Result<ReadFile, RunError> {
         let is_kept = self.kept.is_some() && !is_regular(self.rt, name);
         match File::open(self.rt, name) {
-            Ok(file) if is_kept => Ok(ReadFile::that_is_kept(file, self.rt.alloc())),
-            Ok(file) => Ok(ReadFile::new(file)),
+            Ok(file) if is_kept => Ok(ReadFile::new(file, Some(Vec::new(self.rt.alloc())))),
+            Ok(file) => Ok(ReadFile::new(file, None)),
             Err(error) => Err(self.refuse(error)),
         }
     }

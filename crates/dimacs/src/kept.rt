@@ -18,24 +18,12 @@ pub struct ReadFile {
 }
 
 impl ReadFile {
-    /// A file whose bytes aren't kept.
-    pub fn new(file: File) -> ReadFile
+    /// A file, and no bytes so far if they are kept. They are kept unless they are too many.
+    pub fn new(file: File, bytes: Option<Vec<u8>>) -> ReadFile
         ensures { result.file.faults ≡ 0 }
     {
-        ReadFile {
-            file: FileSource::new(file),
-            bytes: None,
-        }
-    }
-
-    /// A file whose bytes are kept, unless they are too many.
-    pub fn that_is_kept(file: File, alloc: Global) -> ReadFile
-        ensures { result.file.faults ≡ 0 }
-    {
-        ReadFile {
-            file: FileSource::new(file),
-            bytes: Some(Vec::new(alloc)),
-        }
+        let file = FileSource::new(file);
+        ReadFile { file, bytes }
     }
 
     /// How many reads failed so far, modulo 2^64.

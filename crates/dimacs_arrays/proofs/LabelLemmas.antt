@@ -133,7 +133,7 @@ module _ (nodes s : ℕ) (claim : ℕ → Option ℤ) (pred : ℕ → ℕ) where
   }
 
   pub spelled : (b : BlockValue) (labelled : ℕ → Bool) → Clear (pred_row nodes s claim pred) → IsLabelTree nodes s claim pred b labelled → AreLabelled claim labelled → AreLabelsBy nodes s claim pred (record { nodes = nodes; blocks = b ∷ [] })
-  spelled b labelled clear is all = spelled_by b clear is.lawful is.source is.whole (all_agree nodes s claim pred b labelled is all) is.preds
+  spelled b labelled clear is all = spelled_by b clear is.block.lawful is.source is.block.whole (all_agree nodes s claim pred b labelled is all) is.preds
 
   pub in_order : (b : BlockValue) → EachAfter (IsNext s claim pred) b.labels → AreInOrder s claim pred (record { nodes = nodes; blocks = b ∷ [] })
   in_order b order = All-cons (λ c. EachAfter (IsNext s claim pred) c.labels) b [] order (All-nil _)

@@ -12,7 +12,8 @@ use Rattle.dimacs_decide.specs.Predecessors.{NeedsPredecessor, IsNext, LeadsBack
 use Rattle.dimacs_decide.specs.inside.LabelTrees.{AreLabelled, AreLabelledBelow, IsLabelTree, Keeps}
 use Rattle.dimacs_arrays.specs.Paths.{AreInOrder, AreLabelsBy, IsPred, pred_row}
 use Rattle.dimacs_arrays.proofs.LabelLemmas.{in_order, spelled}
-use Rattle.dimacs_decide.proofs.LabelTreeLemmas.{begun, few, grown, next_label, pred_labelled, source_labelled, unlabelled}
+use Rattle.dimacs_decide.proofs.LabelTreeLemmas.{begun, grown, next_label, source_labelled}
+use Rattle.dimacs_decide.proofs.MarkedLemmas.{few, label_if_marked, none_if_unmarked}
 
 -- ---- one more step back
 back_more : (pred : ℕ → ℕ) (n v : ℕ) → back pred (suc n) v ≡ pred (back pred n v)
@@ -83,16 +84,16 @@ module _ (nodes s : ℕ) (claim : ℕ → Option ℤ) (pred : ℕ → ℕ) (smal
         next = next_label nodes s claim pred b labelled is root l below root_some not_labelled leads
 
         none : label b u ≡ None
-        none = unlabelled nodes s claim pred b labelled u is new
+        none = none_if_unmarked nodes claim b labelled is.block u new
 
         adds : (v : ℕ) → label (with_label b l) v ≡ cond (u == v) (Some d) (label b v)
         adds v = label-with_label b l none v
 
         near : IsWithinRadius b.radius d
-        near = subst (λ radius. IsWithinRadius radius d) (sym is.whole) tt
+        near = subst (λ radius. IsWithinRadius radius d) (sym is.block.whole) tt
 
         lawful : IsBlock nodes (with_label b l)
-        lawful = block_push nodes b l is.lawful (record { id = node; dist = are.wide u d named; pred = is.inside (pred u) from }) (few nodes s claim pred b labelled u is new small node) (ap is_some none) (pred_labelled nodes s claim pred b labelled u is new from) near
+        lawful = block_push nodes b l is.block.lawful (record { id = node; dist = are.wide u d named; pred = is.inside (pred u) from }) (few nodes claim b labelled is.block u new small node) (ap is_some none) (label_if_marked nodes claim b labelled is.block (pred u) from) near
 
         keeps : Keeps labelled after
         keeps v h = elim (cases_eq v u) [ inl same ↦ ap after same ∙ here | inr apart ↦ others v apart ∙ h ]

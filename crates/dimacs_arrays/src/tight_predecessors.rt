@@ -29,13 +29,8 @@ pub(crate) fn tight_predecessors<N: Network>(
     if !length_and_source_hold(network.nodes(), source, distances) {
         return Ok(None);
     }
-    let Some(predecessors) = tails_of_tight_arcs(
-        alloc,
-        network,
-        &DistancesByNode { distances },
-        None,
-    )?
-    else {
+    let claim = DistancesByNode { distances };
+    let Some(predecessors) = tails_of_tight_arcs(alloc, network, &claim, None)? else {
         return Ok(None);
     };
     if all_have_predecessors(source, distances, &predecessors) {
@@ -64,12 +59,8 @@ pub(crate) fn are_tight_predecessors<N: Network>(
     {
         return Ok(false);
     }
-    match tails_of_tight_arcs(
-        alloc,
-        network,
-        &DistancesByNode { distances },
-        Some(predecessors),
-    )? {
+    let claim = DistancesByNode { distances };
+    match tails_of_tight_arcs(alloc, network, &claim, Some(predecessors))? {
         Some(tails) => Ok(&tails[..] == predecessors),
         None => Ok(false),
     }

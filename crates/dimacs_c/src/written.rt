@@ -8,13 +8,13 @@ use crate::answer::hand_printed;
 use crate::lines::put_error;
 use dimacs_arrays::ArrayError;
 use dimacs_lines::{DeviceFault, MemorySink, Sink};
-use dimacs_records::Text;
+use dimacs_records::Writable;
 use std::alloc::Global;
 
 const DONE: u32 = 0;
 
 /// Copies the text of an answer, or the line of an error, and returns the status.
-pub(crate) fn hand_text<T: Text>(
+pub(crate) fn hand_text<T: Writable>(
     alloc: Global,
     answer: &Result<T, ArrayError>,
     out: &mut [u8],
@@ -27,7 +27,7 @@ pub(crate) fn hand_text<T: Text>(
     hand_printed(status, text.bytes(), out, needed)
 }
 
-fn put_text<T: Text, K: Sink>(
+fn put_text<T: Writable, K: Sink>(
     sink: &mut K,
     answer: &Result<T, ArrayError>,
 ) -> Result<u32, DeviceFault>

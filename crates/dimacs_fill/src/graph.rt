@@ -5,13 +5,13 @@ ghost use Rattle.dimacs_records.specs.Readings.{CountsRead};
 ghost use Rattle.dimacs_fill.specs.GraphFilled.{ReadsGraphInto};
 
 use crate::arc_reading::ArcReading;
-use dimacs_instance::GraphSummaryReading;
+use dimacs_instance::GraphNodesReading;
 use dimacs_lines::Source;
 use dimacs_records::{ReadError, TextKind, end_text, read_records};
 use std::alloc::Global;
 
 /// The numbers of nodes and arcs.
-#[derive(Clone, Copy, Debug, PartialEq, Eq)]
+#[derive(Clone, Copy, Debug, Default, PartialEq, Eq)]
 pub struct GraphSizes {
     pub nodes: u32,
     pub arcs: u32,
@@ -30,7 +30,7 @@ pub fn read_graph_into<S: Source>(
         → ReadsGraphInto bytes (tails.old, tails.new) (heads.old, heads.new) (weights.old, weights.new) result }
     ensures faults { CountsRead result (S.faults text.old) (S.faults text.new) }
 {
-    let mut counted = GraphSummaryReading::new(alloc);
+    let mut counted = GraphNodesReading::new(alloc);
     let mut reading = ArcReading {
         counted: &mut counted,
         at: 0,

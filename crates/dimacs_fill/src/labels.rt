@@ -10,7 +10,7 @@ use dimacs_lines::Source;
 use std::alloc::Global;
 
 /// The number of nodes, and the radius of a block.
-#[derive(Clone, Copy, Debug, PartialEq, Eq)]
+#[derive(Clone, Copy, Debug, Default, PartialEq, Eq)]
 pub struct LabelSizes {
     pub nodes: u32,
     /// `i64::MAX` if there is none.

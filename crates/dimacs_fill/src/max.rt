@@ -5,13 +5,13 @@ ghost use Rattle.dimacs_records.specs.Readings.{CountsRead};
 ghost use Rattle.dimacs_fill.specs.MaxFilled.{ReadsMaxInto};
 
 use crate::arc_reading::ArcReading;
-use dimacs_instance::MaxSummaryReading;
+use dimacs_instance::MaxNodesReading;
 use dimacs_lines::Source;
 use dimacs_records::{ReadError, TextKind, end_text, read_records};
 use std::alloc::Global;
 
 /// The numbers of a maximum flow instance, without its arcs.
-#[derive(Clone, Copy, Debug, PartialEq, Eq)]
+#[derive(Clone, Copy, Debug, Default, PartialEq, Eq)]
 pub struct MaxSizes {
     pub nodes: u32,
     pub source: u32,
@@ -32,7 +32,7 @@ pub fn read_max_into<S: Source>(
         → ReadsMaxInto bytes (tails.old, tails.new) (heads.old, heads.new) (caps.old, caps.new) result }
     ensures faults { CountsRead result (S.faults text.old) (S.faults text.new) }
 {
-    let mut counted = MaxSummaryReading::new(alloc);
+    let mut counted = MaxNodesReading::new(alloc);
     let mut reading = ArcReading {
         counted: &mut counted,
         at: 0,

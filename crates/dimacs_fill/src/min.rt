@@ -15,7 +15,7 @@ use dimacs_records::{ReadError, TextKind, end_text, read_records};
 use std::alloc::Global;
 
 /// The numbers of nodes and arcs.
-#[derive(Clone, Copy, Debug, PartialEq, Eq)]
+#[derive(Clone, Copy, Debug, Default, PartialEq, Eq)]
 pub struct MinSizes {
     pub nodes: u32,
     pub arcs: u32,

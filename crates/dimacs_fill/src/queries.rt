@@ -12,7 +12,7 @@ use dimacs_records::ReadError;
 use std::alloc::Global;
 
 /// Whether queries ask for pairs, and how many there are.
-#[derive(Clone, Copy, Debug, PartialEq, Eq)]
+#[derive(Clone, Copy, Debug, Default, PartialEq, Eq)]
 pub struct QuerySizes {
     pub pairs: bool,
     pub count: usize,

@@ -1,21 +1,21 @@
 -- How a run ends that reads files, and creates one for the text that comes of them.
-use Rattle.std.proofs.Common.{ℕ, ◌≡◌, ◌≢◌, ◌++◌, ◌∙◌, List, [], ◌∷◌, Option, None, Some, Result, Ok, Err, refl, sym, ap, append-nil, arith, drop, flat_map, inl, inr, map}
+use Rattle.std.proofs.Common.{ℕ, ◌≡◌, ◌≢◌, ◌++◌, ◌∙◌, List, [], ◌∷◌, Option, None, Some, Result, Ok, Err, refl, sym, ap, append-nil, drop, flat_map, inl, inr, map}
 use Rattle.std.proofs.lemmas.Grind.{flat_map-append}
 use Rattle.std.specs.Result.{IsErrAnd}
 use Rattle.dimacs_lines.specs.Devices.{Written}
 use Rattle.dimacs_runs.specs.{declared.failure.CommandError.{CommandError}, declared.failure.Failure.{Failure}}
 use Rattle.dimacs_runs.specs.{declared.status.RunError.{RunError}, declared.status.Status.{Status}}
 use Rattle.dimacs_runs.specs.{declared.status.RunError.TheVariants.{Device, Memory}, declared.outcome.Outcome.{Outcome}}
-use Rattle.dimacs_runs.specs.{declared.outcome.OutputText.{OutputText}, Judgings.{CountsDevices, OneMore}}
+use Rattle.dimacs_runs.specs.{declared.outcome.OutputText.{OutputText}, Judgings.{CountsDevices}, Outputs.{ReportsAll}}
 use Rattle.dimacs_runs.specs.declared.outcome.OutputText.TheVariants.{Cut, Labels, Nothing, Potentials, Solution}
-use Rattle.dimacs_runs.specs.{Commands.{Contents, Making, MakesOfFiles, files_for, seen_by}, Outputs.{ReportsAll}}
+use Rattle.dimacs_runs.specs.Commands.{Contents, Making, MakesOfFiles, files_for, seen_by}
 use Rattle.dimacs_runs.specs.Files.{Created, FileEvent, FilesSeen, NotCreated, NotOpened, Opened, Read, ReadFile, Sees, WrittenFile, closed_written, failures}
 use Rattle.dimacs_runs.specs.{inside.Commands.{FailsWith, IsFirstOf, named}, inside.Reports.{report_lines}}
 use Rattle.dimacs_runs.specs.inside.Making.{AnswersFiles, IsWritten, WritesOutcome, WritesReport}
-use Rattle.dimacs_runs.specs.inside.Outcomes.{EndsWriting, IfEnds, faults_by, text_bytes, nowhere, unclaimed_texts}
+use Rattle.dimacs_runs.specs.inside.Outcomes.{EndsWriting, IfEnds, text_bytes, nowhere, unclaimed_texts}
 use Rattle.dimacs_runs.proofs.FileLemmas.{all_after, all_before, closings, one_first, sees_then, sees_two, names_failure, why_nothing}
 use Rattle.dimacs_runs.proofs.PlanLemmas.{is_error, opened_none, reports_all_named, sees_nothing}
-use Rattle.dimacs_runs.proofs.WritingLemmas.{unclaimed_written}
+use Rattle.dimacs_runs.proofs.WritingLemmas.{counts_both, counts_reported, counts_without, one_more_with, unclaimed_written}
 
 -- ---- possible outcomes of what was written
 reports_all_from : {E : Type 0} (a b : Status → List (List ℕ) → Type 0) (result : Result Status E) (old new : List (Option (List ℕ))) → ((s : Status) (o : List (List ℕ)) → a s o → b s o)
@@ -25,16 +25,10 @@ reports_all_from a b (Err error) old new to (inl same) = inl same
 reports_all_from a b (Err error) old new to (inr reports) = inr (reports.0, reports.1, to reports.0 reports.1 reports.2, reports.3)
 
 -- ---- the output, after the files that were read
-one_more_with : (n : ℕ) (old new : List ℕ) → OneMore old new → OneMore (old ++ n ∷ []) (new ++ n ∷ [])
-one_more_with n [] new never = absurd never
-one_more_with n (faults ∷ old) [] never = absurd never
-one_more_with n (faults ∷ old) (counted ∷ new) (inl more) = inl (more.0, rw more.1 refl)
-one_more_with n (faults ∷ old) (counted ∷ new) (inr more) = inr (more.0, one_more_with n old new more.1)
-
 counts_with : {X : Type 0} (ended : Result X RunError) (n : ℕ) (old new : List ℕ) → CountsDevices ended old new → CountsDevices ended (old ++ n ∷ []) (new ++ n ∷ [])
 counts_with (Ok x) n old new counts = rw counts refl
 counts_with (Err Memory) n old new counts = rw counts refl
-counts_with (Err Device) n old new counts = one_more_with n old new counts
+counts_with (Err Device) n old new counts = one_more_with (n ∷ []) old new counts
 
 -- ---- files were read, and something was made of their texts
 module _ {opened : List (List ℕ)} {holds : Contents} {makes : Making} {result : Result Outcome CommandError} {a : FilesSeen} where
@@ -158,18 +152,6 @@ no_files [] = refl
 no_files ([] ∷ out) = refl
 no_files ((x ∷ text) ∷ out) = refl
 
--- ---- the devices that can fail
-without_first : (ended : Result Status RunError) (old new : List ℕ) → CountsDevices ended (0 ∷ old) (0 ∷ new) → CountsDevices ended old new
-without_first (Ok status) old new counts = cc
-without_first (Err Memory) old new counts = cc
-without_first (Err Device) old new (inl more) = absurd (omega (arith, more.0))
-without_first (Err Device) old new (inr more) = more.1
-
-counts_of : (p : Outcome) (ended : Result Status RunError) (old new : List Written) → EndsWriting (Ok p) ended old new → CountsDevices ended (faults_by old) (faults_by new)
-counts_of p (Ok status) old new ends = ends.2
-counts_of p (Err Device) old new ends = ends.2
-counts_of p (Err Memory) old new ends = absurd cc
-
 never_memory : (p : Outcome) (ended : Result Status RunError) (old new : List Written) → EndsWriting (Ok p) ended old new → ended ≢ Err Memory
 never_memory p (Ok status) old new ends is = absurd cc
 never_memory p (Err Device) old new ends is = absurd cc
@@ -179,8 +161,7 @@ never_memory p (Err Memory) old new ends is = let never : Memory ≡ Device = en
 -- only the report
 pub report_alone : {result : Result Status CommandError} {old new : Written} (p : Outcome) (ended : Result Status RunError) → result ≡ named ended None → EndsWriting (Ok p) ended (nowhere ∷ nowhere ∷ old ∷ []) (nowhere ∷ nowhere ∷ new ∷ []) → WritesReport p result old new
 report_alone {result} {old} {new} p ended is ends =
-    let counts = without_first ended (0 ∷ old.faults ∷ []) (0 ∷ new.faults ∷ []) (counts_of p ended _ _ ends) in
-    let fails = names_failure old.faults new.faults [] ended None refl (without_first ended (old.faults ∷ []) (new.faults ∷ []) counts) in
+    let fails = names_failure old.faults new.faults [] ended None refl (counts_reported (Ok p) ended [] [] old new refl refl ends) in
     rw is record {
       reports = reports_all_named (IsWritten p) ended None _ _ (unclaimed_written (IsWritten p) (Ok p) ended (nowhere ∷ old ∷ []) (nowhere ∷ new ∷ []) (refl, refl) ends);
       failure = sym fails.0;
@@ -223,7 +204,7 @@ module _ {empty : Option (List ℕ)} {result : Result Status CommandError} {old 
   writes_text {new} {name} {c} {d} seen ended failure has_text created closed is first ends =
       let file : WrittenFile = record { name = name; seen = seen } in
       let fresh : Written = record { accepted = empty; faults = 0 } in
-      let counts = without_first ended (0 ∷ old.faults ∷ []) (seen.faults ∷ new.faults ∷ []) (counts_of p ended _ _ ends) in
+      let counts = counts_without ended [] [] (0 ∷ old.faults ∷ []) (seen.faults ∷ new.faults ∷ []) refl (counts_both (Ok p) ended [] [] _ _ refl ends) in
       let one = one_first failure (closed_written name seen) first in
       let fails = names_failure old.faults new.faults (inr file ∷ []) ended failure one counts in
       rw is record {

@@ -1,16 +1,16 @@
 -- How a run over the files of a plan ends.
-use Rattle.std.proofs.Common.{ℕ, ◌≡◌, ◌≢◌, ◌++◌, ◌∙◌, ◌⊎◌, List, [], ◌∷◌, Option, None, Some, Result, Ok, Err, refl, sym, ap, append_assoc, append-nil, arith, flat_map, inl, inr, map}
+use Rattle.std.proofs.Common.{ℕ, ◌≡◌, ◌≢◌, ◌++◌, ◌∙◌, ◌⊎◌, List, [], ◌∷◌, Option, None, Some, Result, Ok, Err, refl, sym, ap, append_assoc, append-nil, flat_map, inl, inr, map}
 use Rattle.std.proofs.{lemmas.Grind.{flat_map-append}, lemmas.Result.{err_from_is_err_and}}
-use Rattle.std.specs.Result.{IsErrAnd}
+use Rattle.std.specs.{Prelude.{IsErr}, Result.{IsErrAnd}}
 use Rattle.dimacs_lines.specs.Devices.{Written}
 use Rattle.dimacs_runs.specs.{declared.failure.CommandError.{CommandError}, declared.failure.Failure.{Failure}}
 use Rattle.dimacs_runs.specs.{declared.jobs.JudgeKind.{JudgeKind}, declared.jobs.SolveJob.{SolveJob}, Runs.{Reports}}
 use Rattle.dimacs_runs.specs.{declared.status.RunError.{RunError}, declared.status.Status.{Status}}
 use Rattle.dimacs_runs.specs.{declared.status.RunError.TheVariants.{Device, Memory}, Judged.{IsClaim, Judged}}
+use Rattle.dimacs_runs.specs.{declared.outcome.Outcome.{Outcome}, Judgings.{CountsDevices}, Solved.{AreQueries, Solved}}
 use Rattle.dimacs_runs.specs.Commands.{Contents, Plan, RunsFiles, Reporting, ReportsJudged, WritesSolved, accepted_before, accepted_after, closed_empty, seen_by}
 use Rattle.dimacs_runs.specs.Files.{Created, FileEvent, FilesSeen, NotCreated, NotOpened, Opened, Read, ReadFile, Sees, WrittenFile, Wrote, after_events, failures}
-use Rattle.dimacs_runs.specs.{Judgings.{CountsDevices, OneMore}, Outputs.{MayWrite, ReportsAll}}
-use Rattle.dimacs_runs.specs.{Solved.{AreQueries, Solved}, inside.Commands.{FailsWith, IsFirstOf, named}}
+use Rattle.dimacs_runs.specs.{Outputs.{MayWrite, ReportsAll}, inside.Commands.{FailsWith, IsFirstOf, named}}
 use Rattle.dimacs_runs.proofs.FileLemmas.{AnyRead, Closed, all_after, all_before, closings, sees_then, names_failure, why_nothing}
 use Rattle.dimacs_runs.specs.declared.jobs.JudgeKind.TheVariants as judges
 use Rattle.dimacs_runs.specs.declared.jobs.SolveJob.TheVariants as solves
@@ -125,37 +125,17 @@ pub reports_all_named : (writes : Status → List (List ℕ) → Type 0) (ended 
 reports_all_named writes (Err Device) (Some it) old new reports = reports
 reports_all_named writes ended failure old new reports = reports
 
--- ---- devices that fail, or never do
+-- ---- texts that could not be read
 pub one_of : {A : Type 0} → A ⊎ ⊥ → A
 one_of (inl it) = it
 one_of (inr never) = absurd never
 
-pub one_of_two : {A B : Type 0} → A ⊎ (B ⊎ ⊥) → A ⊎ B
-one_of_two (inl it) = inl it
-one_of_two (inr rest) = inr (one_of rest)
-
-pub one_of_three : {A B C : Type 0} → A ⊎ (B ⊎ (C ⊎ ⊥)) → A ⊎ (B ⊎ C)
-one_of_three (inl it) = inl it
-one_of_three (inr rest) = inr (one_of_two rest)
-
-same_without : (p counted : ℕ) (old new : List ℕ) → counted ∷ 0 ∷ new ≡ p ∷ 0 ∷ old → counted ∷ new ≡ p ∷ old
-same_without p counted old new is = let first : counted ≡ p = cc in let rest : new ≡ old = cc in rw (first, rest) refl
-
-one_without : (p counted : ℕ) (old new : List ℕ) → OneMore (p ∷ 0 ∷ old) (counted ∷ 0 ∷ new) → OneMore (p ∷ old) (counted ∷ new)
-one_without p counted old new (inl (more, same)) = let rest : new ≡ old = cc in inl (more, rest)
-one_without p counted old new (inr (same, inl (more, rest))) = absurd (omega (arith, more))
-one_without p counted old new (inr (same, inr (none, more))) = inr (same, more)
-
-pub without_second : (ended : Result Status RunError) (p counted : ℕ) (old new : List ℕ) → CountsDevices ended (p ∷ 0 ∷ old) (counted ∷ 0 ∷ new) → CountsDevices ended (p ∷ old) (counted ∷ new)
-without_second (Ok status) p counted old new counts = same_without p counted old new counts
-without_second (Err Memory) p counted old new counts = same_without p counted old new counts
-without_second (Err Device) p counted old new counts = one_without p counted old new counts
-
-pub without_third : (ended : Result Status RunError) (p q counted again : ℕ) (old new : List ℕ) → CountsDevices ended (p ∷ q ∷ 0 ∷ old) (counted ∷ again ∷ 0 ∷ new) → CountsDevices ended (p ∷ q ∷ old) (counted ∷ again ∷ new)
-without_third (Ok status) p q counted again old new is = let first : counted ≡ p = cc in let rest : again ∷ 0 ∷ new ≡ q ∷ 0 ∷ old = cc in rw (first, same_without q again old new rest) refl
-without_third (Err Memory) p q counted again old new is = let first : counted ≡ p = cc in let rest : again ∷ 0 ∷ new ≡ q ∷ 0 ∷ old = cc in rw (first, same_without q again old new rest) refl
-without_third (Err Device) p q counted again old new (inl (more, same)) = inl (more, same_without q again old new same)
-without_third (Err Device) p q counted again old new (inr (same, more)) = inr (same, one_without q again old new more)
+-- a text could not be read, so there is no outcome
+pub no_outcome : (outcome : Result Outcome RunError) (read : List ReadFile) → CountsDevices outcome (map (λ (file : ReadFile). 0) read) (map (λ (file : ReadFile). file.faults) read) → AnyRead (map inl read) → IsErr outcome
+no_outcome (Err error) read counts any = refl
+no_outcome (Ok o) [] counts never = absurd never
+no_outcome (Ok o) (file ∷ read) counts (inl some) = let none : file.faults ≡ 0 = cc in absurd (some none)
+no_outcome (Ok o) (file ∷ read) counts (inr rest) = let others : map (λ (file : ReadFile). file.faults) read ≡ map (λ (file : ReadFile). 0) read = cc in no_outcome (Ok o) read others rest
 
 -- ---- what each kind of run reports
 pub judged_reports : (kind : JudgeKind) (a b c : List ℕ) (result : Result Status CommandError) (old new : Option (List ℕ)) → Reports (Judged kind a b c) result old new → ReportsJudged kind (a ∷ b ∷ c ∷ []) result (old ∷ []) (new ∷ [])

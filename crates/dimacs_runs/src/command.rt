@@ -12,7 +12,7 @@ use crate::runs_that_make::{ClaimJob, certify_files, make_of_claim};
 use crate::runs_that_read::{judge_files, print_file};
 use crate::runs_that_write::solve_files;
 use crate::status::{NO_RUN, RunError, Status, exit_status};
-use crate::text::TextForm;
+use crate::text::TextForm::{Canonical, Summary};
 use dimacs_lines::Sink;
 use std::alloc::Global;
 
@@ -77,18 +77,8 @@ pub(crate) fn run_and_keep<'a, F: Files, K: Sink>(
         (seen_by (F.seen files.new) (K.seen output.new)) }
 {
     match job {
-        Job::Convert(kind, name) => {
-            print_file(alloc, TextForm::Canonical, kind, name, files, output, kept)
-        }
-        Job::Show(kind, name) => print_file(
-            alloc,
-            TextForm::Summary,
-            kind,
-            name,
-            files,
-            output,
-            kept,
-        ),
+        Job::Convert(kind, name) => print_file(alloc, Canonical, kind, name, files, output, kept),
+        Job::Show(kind, name) => print_file(alloc, Summary, kind, name, files, output, kept),
         Job::Judge(kind, names) => judge_files(alloc, kind, names, files, output, kept),
         Job::Certify(kind, names) => certify_files(alloc, kind, names, files, output, kept),
         Job::Spread(kind, names) => {

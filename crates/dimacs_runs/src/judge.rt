@@ -17,7 +17,7 @@ use crate::jobs::JudgeKind;
 use crate::outcome::{Outcome, write_outcome};
 use crate::report::Report;
 use crate::status::{RunError, Status};
-use crate::texts_in_turn::{read, read_placed, read_three, read_two};
+use crate::texts_in_turn::{read, read_placed, read_two};
 use dimacs_claims::{Cut, Labels, Potentials};
 use dimacs_instance::{Graph, MaxInstance, MinInstance, Queries};
 use dimacs_judging::{
@@ -56,42 +56,33 @@ pub fn run_judge<P: Source, Q: Source, R: Source, K: Sink>(
         → Q.coming claim.old ≡ Some b → Fault claimed (lines b) l f r → certificate.new ≡ certificate.old }
     ensures unclaimed { kind ≡ judges.Infeasible → claim.new ≡ claim.old }
 {
-    judge_and_keep(alloc, kind, instance, claim, certificate, sink, &mut None)
+    let outcome = judge_texts(alloc, kind, instance, claim, certificate);
+    write_outcome(outcome, &mut Discard, &mut Discard, sink, &mut None)
 }
 
-/// The same, and keeps the outcome.
-pub(crate) fn judge_and_keep<P: Source, Q: Source, R: Source, K: Sink>(
+/// Judges a claim, and returns what `run_judge` prints.
+pub(crate) fn judge_texts<P: Source, Q: Source, R: Source>(
     alloc: Global,
     kind: JudgeKind,
     instance: &mut P,
     claim: &mut Q,
     certificate: &mut R,
-    sink: &mut K,
-    kept: &mut Option<Outcome>,
-) -> Result<Status, RunError>
+) -> Result<Outcome, RunError>
     ensures reports { (a b c : List ℕ) → P.coming instance.old ≡ Some a → IsClaim kind (Q.coming claim.old) b
-        → R.coming certificate.old ≡ Some c
-        → Reports (Judged kind a b c) result (K.seen sink.old).accepted (K.seen sink.new).accepted }
-    ensures faults { CountsDevices result
-        (P.faults instance.old ∷ Q.faults claim.old ∷ R.faults certificate.old ∷ (K.seen sink.old).faults ∷ [])
-        (P.faults instance.new ∷ Q.faults claim.new ∷ R.faults certificate.new ∷ (K.seen sink.new).faults ∷ []) }
-    ensures nothing_written { (P.faults instance.new ≢ P.faults instance.old)
-        ⊎ (Q.faults claim.new ≢ Q.faults claim.old) ⊎ (R.faults certificate.new ≢ R.faults certificate.old)
-        → K.seen sink.new ≡ K.seen sink.old }
-    ensures memory { result ≡ Err Memory → K.seen sink.new ≡ K.seen sink.old }
-    ensures stops_at_instance { (a : List ℕ) (l f : ℕ) (r : Reason) → P.coming instance.old ≡ Some a
-        → Fault (instance_kind kind) (lines a) l f r → (claim.new ≡ claim.old) × (certificate.new ≡ certificate.old) }
-    ensures stops_at_claim { (claimed : TextKind) (b : List ℕ) (l f : ℕ) (r : Reason) → claim_kind kind ≡ Some claimed
-        → Q.coming claim.old ≡ Some b → Fault claimed (lines b) l f r → certificate.new ≡ certificate.old }
+        → R.coming certificate.old ≡ Some c → MayReport (Judged kind a b c) result }
+    ensures faults { CountsDevices result (P.faults instance.old ∷ Q.faults claim.old ∷ R.faults certificate.old ∷ [])
+        (P.faults instance.new ∷ Q.faults claim.new ∷ R.faults certificate.new ∷ []) }
+    ensures stops_at_instance { HasFault (instance_kind kind) (P.coming instance.old) → (claim.new ≡ claim.old) × (certificate.new ≡ certificate.old) }
+    ensures stops_at_claim { (claimed : TextKind) → claim_kind kind ≡ Some claimed → HasFault claimed (Q.coming claim.old)
+        → certificate.new ≡ certificate.old }
     ensures unclaimed { kind ≡ judges.Infeasible → claim.new ≡ claim.old }
 {
-    let answer = match kind {
+    outcome_of(match kind {
         JudgeKind::Max => report_max(alloc, instance, claim, certificate),
         JudgeKind::Min => report_min(alloc, instance, claim, certificate),
         JudgeKind::Infeasible => report_infeasible(alloc, instance, certificate),
         JudgeKind::Paths => report_paths(alloc, instance, claim, certificate),
-    };
-    write_outcome(outcome_of(answer), &mut Discard, &mut Discard, sink, kept)
+    })
 }
 
 /// The outcome of a judge's answer.
@@ -171,9 +162,8 @@ fn report_paths<P: Source, Q: Source, R: Source>(
     ensures stops_at_instance { HasFault kinds.Graph (P.coming graph.old) → (queries.new ≡ queries.old) × (labels.new ≡ labels.old) }
     ensures stops_at_claim { HasFault kinds.Queries (Q.coming queries.old) → labels.new ≡ labels.old }
 {
-    let (graph, queries, mut labels): (Graph<PlainArcs<WeightArc>>, _, _) = read_three(
-        alloc, graph, queries, labels,
-    )?;
+    let graph: Graph<PlainArcs<WeightArc>> = read(alloc, graph)?;
+    let (queries, mut labels) = read_two(alloc, queries, labels)?;
     index_for(&queries, &mut labels)?;
     judge_outcome(judge_paths(alloc, &graph, &queries, &labels))
 }

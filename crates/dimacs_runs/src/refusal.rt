@@ -29,14 +29,12 @@ pub fn put_refusal<K: Sink>(
 ) -> Result<(), DeviceFault>
     ensures { Puts result (K.seen sink.old) (refusal_line text.now place.line place.field reason) (K.seen sink.new) }
 {
+    let line = Part::Wide(i128::from(place.line));
+    let field = Part::Number(i64::from(place.field));
+    let reason = Part::Word(reason.name().as_bytes());
     put_line(
         sink,
         b"x",
-        &[
-            Part::Word(text.as_bytes()),
-            Part::Wide(i128::from(place.line)),
-            Part::Number(i64::from(place.field)),
-            Part::Word(reason.name().as_bytes()),
-        ],
+        &[Part::Word(text.as_bytes()), line, field, reason],
     )
 }

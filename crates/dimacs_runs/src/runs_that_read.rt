@@ -5,12 +5,13 @@ ghost use Rattle.dimacs_runs.specs.declared.jobs.JudgeKind.TheVariants as judges
 ghost use Rattle.dimacs_runs.specs.{Commands.{RunsFiles, ReportsJudged, ReportsOne, reads, seen_by}, Jobs.{file_count}};
 ghost use Rattle.dimacs_runs.specs.Runs.{Prints};
 
+use crate::discard::Discard;
 use crate::failure::{CommandError, name_failure};
 use crate::files::Files;
 use crate::jobs::JudgeKind;
-use crate::judge::judge_and_keep;
+use crate::judge::judge_texts;
 use crate::open_files::{close_read, open};
-use crate::outcome::Outcome;
+use crate::outcome::{Outcome, write_outcome};
 use crate::status::Status;
 use crate::text::{TextForm, run_text};
 use dimacs_lines::{MemorySource, Sink};
@@ -90,15 +91,14 @@ fn judge_claim<'a, F: Files, K: Sink>(
     let mut instance = open(files, instance)?;
     let mut claim = open(files, claim)?;
     let mut certificate = open(files, certificate)?;
-    let ended = judge_and_keep(
+    let outcome = judge_texts(
         alloc,
         kind,
         &mut instance.device,
         &mut claim.device,
         &mut certificate.device,
-        output,
-        kept,
     );
+    let ended = write_outcome(outcome, &mut Discard, &mut Discard, output, kept);
     let failure = close_read(files, instance)
         .or(close_read(files, claim))
         .or(close_read(files, certificate));
@@ -120,15 +120,14 @@ fn judge_set<'a, F: Files, K: Sink>(
 {
     let mut instance = open(files, instance)?;
     let mut set = open(files, set)?;
-    let ended = judge_and_keep(
+    let outcome = judge_texts(
         alloc,
         JudgeKind::Infeasible,
         &mut instance.device,
         &mut MemorySource::new(&[]),
         &mut set.device,
-        output,
-        kept,
     );
+    let ended = write_outcome(outcome, &mut Discard, &mut Discard, output, kept);
     let failure = close_read(files, instance).or(close_read(files, set));
     name_failure(ended, failure)
 }

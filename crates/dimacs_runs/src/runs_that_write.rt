@@ -9,8 +9,8 @@ use crate::failure::{CommandError, name_failure};
 use crate::files::Files;
 use crate::jobs::SolveJob;
 use crate::open_files::{close_read, close_written, create, open};
-use crate::outcome::Outcome;
-use crate::solve::solve_and_keep;
+use crate::outcome::{Outcome, write_outcome};
+use crate::solve::solve_texts;
 use crate::status::Status;
 use dimacs_lines::{MemorySource, Sink};
 use std::alloc::Global;
@@ -64,11 +64,14 @@ fn solve_flow<'a, F: Files, K: Sink>(
             return Err(error);
         }
     };
-    let ended = solve_and_keep(
+    let outcome = solve_texts(
         alloc,
         job,
         &mut instance.device,
         &mut MemorySource::new(&[]),
+    );
+    let ended = write_outcome(
+        outcome,
         &mut claim.device,
         &mut certificate.device,
         output,
@@ -97,16 +100,13 @@ fn solve_distances<'a, F: Files, K: Sink>(
     let mut graph = open(files, graph)?;
     let mut queries = open(files, queries)?;
     let mut labels = create(files, labels)?;
-    let ended = solve_and_keep(
+    let outcome = solve_texts(
         alloc,
         SolveJob::Paths,
         &mut graph.device,
         &mut queries.device,
-        &mut Discard,
-        &mut labels.device,
-        output,
-        kept,
     );
+    let ended = write_outcome(outcome, &mut Discard, &mut labels.device, output, kept);
     let failure = close_read(files, graph)
         .or(close_read(files, queries))
         .or(close_written(files, labels));

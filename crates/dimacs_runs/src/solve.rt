@@ -59,51 +59,29 @@ pub fn run_solve<P: Source, Q: Source, C: Sink, D: Sink, K: Sink>(
     ensures unqueried { job ≢ jobs.Paths → queries.new ≡ queries.old }
     ensures unclaimed { job ≡ jobs.Paths → claim_out.new ≡ claim_out.old }
 {
-    solve_and_keep(
-        alloc,
-        job,
-        instance,
-        queries,
-        claim_out,
-        certificate_out,
-        report,
-        &mut None,
-    )
+    let outcome = solve_texts(alloc, job, instance, queries);
+    write_outcome(outcome, claim_out, certificate_out, report, &mut None)
 }
 
-/// The same, and keeps the outcome.
-pub(crate) fn solve_and_keep<P: Source, Q: Source, C: Sink, D: Sink, K: Sink>(
+/// Solves an instance, and returns what `run_solve` writes.
+pub(crate) fn solve_texts<P: Source, Q: Source>(
     alloc: Global,
     job: SolveJob,
     instance: &mut P,
     queries: &mut Q,
-    claim_out: &mut C,
-    certificate_out: &mut D,
-    report: &mut K,
-    kept: &mut Option<Outcome>,
-) -> Result<Status, RunError>
-    ensures reports { (a b : List ℕ) → P.coming instance.old ≡ Some a → AreQueries job (Q.coming queries.old) b
-        → ReportsAll (MayWrite (Solved job a b)) result
-        ((C.seen claim_out.old).accepted ∷ (D.seen certificate_out.old).accepted ∷ (K.seen report.old).accepted ∷ [])
-        ((C.seen claim_out.new).accepted ∷ (D.seen certificate_out.new).accepted ∷ (K.seen report.new).accepted ∷ []) }
-    ensures faults { CountsDevices result (P.faults instance.old ∷ Q.faults queries.old ∷ (C.seen claim_out.old).faults ∷
-        (D.seen certificate_out.old).faults ∷ (K.seen report.old).faults ∷ []) (P.faults instance.new ∷ Q.faults queries.new ∷
-        (C.seen claim_out.new).faults ∷ (D.seen certificate_out.new).faults ∷ (K.seen report.new).faults ∷ []) }
-    ensures nothing_written { (P.faults instance.new ≢ P.faults instance.old) ⊎ (Q.faults queries.new ≢ Q.faults queries.old)
-        → (C.seen claim_out.new ≡ C.seen claim_out.old) × (D.seen certificate_out.new ≡ D.seen certificate_out.old) × (K.seen report.new ≡ K.seen report.old) }
-    ensures memory { result ≡ Err Memory
-        → (C.seen claim_out.new ≡ C.seen claim_out.old) × (D.seen certificate_out.new ≡ D.seen certificate_out.old) × (K.seen report.new ≡ K.seen report.old) }
-    ensures stops_at_instance { (a : List ℕ) (l f : ℕ) (r : Reason) → P.coming instance.old ≡ Some a
-        → Fault (solved_kind job) (lines a) l f r → queries.new ≡ queries.old }
+) -> Result<Outcome, RunError>
+    ensures solves { (a b : List ℕ) → P.coming instance.old ≡ Some a → AreQueries job (Q.coming queries.old) b
+        → MaySolve (Solved job a b) result }
+    ensures faults { CountsDevices result (P.faults instance.old ∷ Q.faults queries.old ∷ []) (P.faults instance.new ∷ Q.faults queries.new ∷ []) }
+    ensures stops_at_instance { HasFault (solved_kind job) (P.coming instance.old) → queries.new ≡ queries.old }
     ensures unqueried { job ≢ jobs.Paths → queries.new ≡ queries.old }
-    ensures unclaimed { job ≡ jobs.Paths → claim_out.new ≡ claim_out.old }
+    ensures unclaimed { job ≡ jobs.Paths → IfOk result (λ outcome. outcome.claim ≡ Nothing) }
 {
-    let answer = match job {
+    outcome_of(match job {
         SolveJob::Max(limit) => solve_maximum(alloc, limit, instance),
         SolveJob::Min(limit) => solve_least(alloc, limit, instance),
         SolveJob::Paths => solve_labels(alloc, instance, queries),
-    };
-    write_outcome(outcome_of(answer), claim_out, certificate_out, report, kept)
+    })
 }
 
 fn solve_maximum<P: Source>(

@@ -3,7 +3,7 @@
 ghost use Rattle.std.specs.Prelude.{◌≡◌, ℕ, List, [], ◌∷◌, Some, IfOk};
 ghost use Rattle.dimacs_records.specs.declared.kinds.TextKind.TheVariants as kinds;
 ghost use Rattle.dimacs_claims.specs.{SolutionReading.{IsPlaced, IsPlacedLawful}, SolutionTexts.{GivesSolution}};
-ghost use Rattle.dimacs_runs.specs.inside.Judgings.{CountsUnread, HasFault, PlacesOne, ReadsOne, ReadsPlaced, ReadsTwo, ReadsThree, text_spells, text_of};
+ghost use Rattle.dimacs_runs.specs.inside.Judgings.{CountsUnread, HasFault, PlacesOne, ReadsOne, ReadsPlaced, ReadsTwo, text_spells, text_of};
 
 use dimacs_claims::{Place, Placed, read_solution_into};
 use dimacs_instance::Summary;
@@ -66,29 +66,6 @@ pub(crate) fn read_two<V: Text, W: Text, P: Source, Q: Source>(
     let value = read(alloc, first)?;
     let other = read(alloc, second)?;
     Ok((value, other))
-}
-
-/// Reads three texts. None is read after one with a fault.
-pub(crate) fn read_three<V: Text, W: Text, X: Text, P: Source, Q: Source, R: Source>(
-    alloc: Global,
-    first: &mut P,
-    second: &mut Q,
-    third: &mut R,
-) -> Result<(V, W, X), ReadFailure>
-    ensures reads { (a b c : List ℕ) → P.coming first.old ≡ Some a → Q.coming second.old ≡ Some b
-        → R.coming third.old ≡ Some c
-        → ReadsThree V.content W.content X.content (text_spells V.kind V.spells a) (text_spells W.kind W.spells b)
-        (text_spells X.kind X.spells c) result }
-    ensures faults { CountsUnread result (P.faults first.old ∷ Q.faults second.old ∷ R.faults third.old ∷ [])
-        (P.faults first.new ∷ Q.faults second.new ∷ R.faults third.new ∷ []) }
-    ensures stops_at_first { HasFault V.kind (P.coming first.old) → (second.new ≡ second.old) × (third.new ≡ third.old) }
-    ensures stops_at_second { HasFault W.kind (Q.coming second.old) → third.new ≡ third.old }
-    ensures lawful { IfOk result (λ values. V.lawful (V.content values.0) × W.lawful (W.content values.1) × X.lawful (X.content values.2)) }
-{
-    let value = read(alloc, first)?;
-    let other = read(alloc, second)?;
-    let last = read(alloc, third)?;
-    Ok((value, other, last))
 }
 
 /// Reads a solution, whose entries go to `place`, and its certificate. The second isn't read if the first has a fault.

@@ -17,15 +17,10 @@ pub fn put_verdict<K: Sink>(sink: &mut K, verdict: &Verdict) -> Result<(), Devic
         Verdict::Max(value) => put_line(sink, b"v", &[Part::Word(b"max"), Part::Wide(*value)]),
         Verdict::Min(cost) => put_line(sink, b"v", &[Part::Word(b"min"), Part::Wide(*cost)]),
         Verdict::Infeasible => put_line(sink, b"v", &[Part::Word(b"infeasible")]),
-        Verdict::Sources(count) => put_line(
-            sink,
-            b"v",
-            &[
-                Part::Word(b"sp"),
-                Part::Word(b"ss"),
-                Part::Number(i64::from(*count)),
-            ],
-        ),
+        Verdict::Sources(count) => {
+            let count = Part::Number(i64::from(*count));
+            put_line(sink, b"v", &[Part::Word(b"sp"), Part::Word(b"ss"), count])
+        }
         Verdict::Pairs(answers) => put_answers(sink, answers),
     }
 }
@@ -62,14 +57,11 @@ fn write_answer<K: Sink>(output: &mut OutputBuffer, sink: &mut K, answer: &Answe
 pub fn put_distances<K: Sink>(sink: &mut K, sources: u32) -> Result<(), DeviceFault>
     ensures { Puts result (K.seen sink.old) (distances_line sources) (K.seen sink.new) }
 {
+    let count = Part::Number(i64::from(sources));
     put_line(
         sink,
         b"v",
-        &[
-            Part::Word(b"sp"),
-            Part::Word(b"distances"),
-            Part::Number(i64::from(sources)),
-        ],
+        &[Part::Word(b"sp"), Part::Word(b"distances"), count],
     )
 }
 
@@ -103,13 +95,7 @@ fn put_numbered<K: Sink>(
 ) -> Result<(), DeviceFault>
     ensures { Puts result (K.seen sink.old) (numbered_line what.now number reason) (K.seen sink.new) }
 {
-    put_line(
-        sink,
-        b"x",
-        &[
-            Part::Word(what.as_bytes()),
-            Part::Number(i64::from(number)),
-            Part::Word(reason.name().as_bytes()),
-        ],
-    )
+    let number = Part::Number(i64::from(number));
+    let reason = Part::Word(reason.name().as_bytes());
+    put_line(sink, b"x", &[Part::Word(what.as_bytes()), number, reason])
 }

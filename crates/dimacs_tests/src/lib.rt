@@ -11,8 +11,6 @@ mod checks;
 #[cfg(test)]
 mod deciding;
 #[cfg(test)]
-mod judging;
-#[cfg(test)]
 mod lookups;
 #[cfg(test)]
 mod pages;

@@ -4,7 +4,6 @@ use dimacs_judge::{JudgeError, Where};
 use dimacs_lines::{DeviceFault, Memory};
 use dimacs_records::{At, ReadError, Reason};
 use std::io;
-use std::io::ErrorKind;
 
 /// An error, or a refusal.
 #[derive(Clone, Copy, Debug, PartialEq, Eq)]
@@ -34,34 +33,14 @@ impl Failure {
     /// Prints a refusal, and returns the exit status.
     pub fn status(self, rt: &HostRuntime) -> u8 {
         let printed = match self {
-            Failure::Fault(text, at, reason) => refuse(rt, text, at, reason),
-            Failure::Refused(Where::Solution { line, field }, reason) => {
-                refuse(rt, "solution", At { line, field }, reason)
-            }
-            Failure::Refused(Where::Certificate, reason) => {
-                refuse(rt, "certificate", At { line: 0, field: 0 }, reason)
-            }
-            Failure::Refused(Where::Arc(arc), reason) => refuse_item(rt, "arc", arc, reason),
-            Failure::Refused(Where::Node(node), reason) => refuse_item(rt, "node", node, reason),
             Failure::Misused => return 2,
             Failure::Device => return 3,
             Failure::Memory => return 4,
+            Failure::Fault(text, at, reason) => println!(rt; "x {text}, {at}: {reason}"),
+            Failure::Refused(place, reason) => println!(rt; "x {place}: {reason}"),
         };
-        match printed {
-            Ok(()) => 1,
-            Err(_) => 3,
-        }
+        if printed.is_ok() { 1 } else { 3 }
     }
-}
-
-/// Prints what is wrong with a text, and where.
-fn refuse(rt: &HostRuntime, text: &str, at: At, reason: Reason) -> io::Result<()> {
-    println!(rt; "x {text} {} {} {}", at.line, at.field, reason.name())
-}
-
-/// Prints what is wrong with an arc or a node.
-fn refuse_item(rt: &HostRuntime, what: &str, number: u32, reason: Reason) -> io::Result<()> {
-    println!(rt; "x {what} {number} {}", reason.name())
 }
 
 impl From<JudgeError> for Failure {
@@ -88,7 +67,7 @@ impl From<DeviceFault> for Failure {
 impl From<io::Error> for Failure {
     fn from(error: io::Error) -> Failure {
         match error.kind() {
-            ErrorKind::OutOfMemory => Failure::Memory,
+            io::ErrorKind::OutOfMemory => Failure::Memory,
             _ => Failure::Device,
         }
     }

@@ -9,23 +9,17 @@ mod checksum;
 mod failure;
 
 use crate::certify::certify;
-use crate::checksum::Checksum;
+use crate::checksum::{Checksum, START};
 use crate::failure::Failure;
-use dimacs_claims::{Solution, read_solution};
-use dimacs_instance::{CapacityArc, ForwardStar, MaxInstance, read_max};
+use dimacs_claims::read_solution;
+use dimacs_instance::read_max;
 use dimacs_lines::{FileSink, FileSource, StdoutSink};
 use std::fs::File;
 use std::process::ExitCode;
 use std::{env, io};
 
 fn main(rt: HostRuntime) -> ExitCode {
-    let ended = match env::args(&rt).and_then(|arguments| Ok(arguments.collect::<Vec<String>>(
-        rt.alloc(),
-    )?)) {
-        Ok(arguments) => run(&rt, arguments.get(1..).unwrap_or_default()),
-        Err(_) => Err(Failure::Misused),
-    };
-    ExitCode::from(match ended {
+    ExitCode::from(match run(&rt) {
         Ok(true) => 0,
         Ok(false) => 1,
         Err(failure) => failure.status(&rt),
@@ -33,32 +27,26 @@ fn main(rt: HostRuntime) -> ExitCode {
 }
 
 /// Whether the solution in the second file is a maximum flow of the instance in the first.
-fn run(rt: &HostRuntime, arguments: &[String]) -> Result<bool, Failure> {
-    let [instance, solution] = arguments else {
+fn run(rt: &HostRuntime) -> Result<bool, Failure> {
+    let arguments: Vec<String> = arguments(rt).map_err(|_| Failure::Misused)?;
+    let [_, instance, solution] = arguments.as_slice() else {
         return Err(Failure::Misused);
     };
-    let instance = instance_in(rt, instance.as_str())?;
-    let solution = solution_in(rt, solution.as_str())?;
-    let stdout: StdoutSink<'_, HostRuntime> = FileSink::new(io::writer(rt));
-    let mut out = Checksum::new(stdout);
+    let instance = read_max(rt.alloc(), &mut open(rt, instance)?);
+    let instance = instance.map_err(|it| Failure::of("instance", it))?;
+    let solution = read_solution(rt.alloc(), &mut open(rt, solution)?);
+    let solution = solution.map_err(|it| Failure::of("solution", it))?;
+    let sink: StdoutSink<'_, HostRuntime> = FileSink::new(io::writer(rt));
+    let mut out = Checksum { sink, sum: START };
     let is_maximum = certify(rt.alloc(), &instance, &solution, &mut out)?;
-    print_sum(rt, out.sum())?;
+    println!(rt; "c checksum {:08x}", out.sum)?;
     Ok(is_maximum)
 }
 
-fn print_sum(rt: &HostRuntime, sum: u32) -> io::Result<()> {
-    println!(rt; "c checksum {sum:08x}")
+fn arguments(rt: &HostRuntime) -> io::Result<Vec<String>> {
+    Ok(env::args(rt)?.collect(rt.alloc())?)
 }
 
-fn instance_in(
-    rt: &HostRuntime,
-    file: &str,
-) -> Result<MaxInstance<ForwardStar<CapacityArc>>, Failure> {
-    let mut source = FileSource::new(File::open(rt, file)?);
-    read_max(rt.alloc(), &mut source).map_err(|it| Failure::of("instance", it))
-}
-
-fn solution_in(rt: &HostRuntime, file: &str) -> Result<Solution, Failure> {
-    let mut source = FileSource::new(File::open(rt, file)?);
-    read_solution(rt.alloc(), &mut source).map_err(|it| Failure::of("solution", it))
+fn open(rt: &HostRuntime, name: &String) -> io::Result<FileSource<File>> {
+    Ok(FileSource::new(File::open(rt, name.as_str())?))
 }

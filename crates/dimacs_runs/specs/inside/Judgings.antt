@@ -45,10 +45,6 @@ abbrev pub ReadsTwo : {T U V W : Type 0} → (T → V) → (U → W) → TextSpe
 ReadsTwo f g x y (Ok values) = ReadsIn x (Ok (f values.0)) × ReadsIn y (Ok (g values.1))
 ReadsTwo f g x y (Err unread) = StopsAt x unread ⊎ ((v : _) × ReadsIn x (Ok v) × StopsAt y unread)
 
-abbrev pub ReadsThree : {T U S V W X : Type 0} → (T → V) → (U → W) → (S → X) → TextSpells V → TextSpells W → TextSpells X → Result (T × U × S) ReadFailure → Type 0
-ReadsThree f g h x y z (Ok values) = ReadsIn x (Ok (f values.0)) × ReadsIn y (Ok (g values.1)) × ReadsIn z (Ok (h values.2))
-ReadsThree f g h x y z (Err unread) = StopsAt x unread ⊎ ((v : _) × ReadsIn x (Ok v) × (StopsAt y unread ⊎ ((w : _) × ReadsIn y (Ok w) × StopsAt z unread)))
-
 -- the text of a solution is read into a place, whose values stand for the solution
 abbrev pub PlacesOne : {T V : Type 0} → (V → T → Type 0) → TextSpells V → Result T ReadFailure → Type 0
 PlacesOne stands text (Ok placed) = (v : _) × stands v placed × ReadsIn text (Ok v)

@@ -7,7 +7,7 @@ use crate::checks::{holds, same};
 use dimacs_claims::{CutReading, read_cut, read_solution};
 use dimacs_instance::{ArcView, MaxInstance, Network};
 use dimacs_judge::{Verdict, judge_max};
-use dimacs_lines::{DeviceFault, FlakySink, Sink, Source};
+use dimacs_lines::{DeviceFault, Sink, Source};
 use dimacs_records::{Reading, Record, TakeError, TextKind, read_text};
 use dimacs_runs::{
     JudgeKind, RunError, SolveJob, SpreadKind, Status, run_certify, run_convert, run_judge,
@@ -20,6 +20,14 @@ use std::test::Fail;
 #[derive(Drop)]
 struct Bytewise<'a> {
     left: &'a [u8],
+}
+
+impl<'a> Bytewise<'a> {
+    fn of(text: &'a str) -> Bytewise<'a> {
+        Bytewise {
+            left: text.as_bytes(),
+        }
+    }
 }
 
 impl<'a> Source for Bytewise<'a> {
@@ -143,10 +151,8 @@ impl Network for OneArc {
 #[test]
 fn a_reading_of_ones_own_reads_a_text(rt: HostRuntime) -> Result<(), Fail> {
     let reading = Counting::of(CutReading::new(rt.alloc()));
-    let mut text = Bytewise {
-        left: b"p cut 4 2\nu 3\nu 1\n",
-    };
-    let cut = read_text(rt.alloc(), TextKind::Cut, reading, &mut text)?;
+    let text = &mut Bytewise::of("p cut 4 2\nu 3\nu 1\n");
+    let cut = read_text(rt.alloc(), TextKind::Cut, reading, text)?;
     let inside = (
         cut.nodes(),
         cut.contains(1),
@@ -161,18 +167,8 @@ fn a_reading_of_ones_own_reads_a_text(rt: HostRuntime) -> Result<(), Fail> {
 fn a_network_of_ones_own_is_judged(rt: HostRuntime) -> Result<(), Fail> {
     let alloc = rt.alloc();
     let instance = MaxInstance::over(OneArc, 1, 2);
-    let solution = read_solution(
-        alloc,
-        &mut Bytewise {
-            left: b"s 3\nf 1 2 3\n",
-        },
-    )?;
-    let cut = read_cut(
-        alloc,
-        &mut Bytewise {
-            left: b"p cut 2 1\nu 1\n",
-        },
-    )?;
+    let solution = read_solution(alloc, &mut Bytewise::of("s 3\nf 1 2 3\n"))?;
+    let cut = read_cut(alloc, &mut Bytewise::of("p cut 2 1\nu 1\n"))?;
     let verdict = judge_max(alloc, &instance, &solution, &cut);
     same(&rt, "verdict", verdict, Ok(Verdict::Max(3)));
     Ok(())
@@ -240,24 +236,17 @@ static RUNS: [(Run, [&str; 3], [&str; 2], &str); 6] = [
 ];
 
 /// Runs this, each text by bytes.
-fn ended<K: Sink>(
+fn ended(
     alloc: Global,
     run: Run,
     texts: &[&str; 3],
     claim: &mut Wanted<'_>,
     certificate: &mut Wanted<'_>,
-    report: &mut K,
+    report: &mut Wanted<'_>,
 ) -> Result<Status, RunError> {
-    let [first, second, third] = texts;
-    let first = &mut Bytewise {
-        left: first.as_bytes(),
-    };
-    let second = &mut Bytewise {
-        left: second.as_bytes(),
-    };
-    let third = &mut Bytewise {
-        left: third.as_bytes(),
-    };
+    let first = &mut Bytewise::of(texts[0]);
+    let second = &mut Bytewise::of(texts[1]);
+    let third = &mut Bytewise::of(texts[2]);
     match run {
         Run::Convert(kind) => run_convert(alloc, kind, first, report),
         Run::Show(kind) => run_show(alloc, kind, first, report),
@@ -286,27 +275,4 @@ fn runs_take_any_source_and_any_sink(rt: HostRuntime) {
         let are_met = claim.is_met() && certificate.is_met() && report.is_met();
         holds(&rt, texts[0], are_met);
     }
-}
-
-#[test]
-fn a_sink_that_takes_a_byte_a_put_gets_the_same_bytes(rt: HostRuntime) {
-    let alloc = rt.alloc();
-    let mut sink = FlakySink::new(alloc, &[1; 40], &[]);
-    let graph = &mut Bytewise {
-        left: CYCLE.as_bytes(),
-    };
-    let queries = &mut Bytewise {
-        left: PAIRS.as_bytes(),
-    };
-    let labels = &mut Bytewise {
-        left: LABELS.as_bytes(),
-    };
-    let end = run_judge(alloc, JudgeKind::Paths, graph, queries, labels, &mut sink);
-    same(&rt, "the end", end, Ok(Status::Done));
-    same(
-        &rt,
-        "the bytes",
-        sink.bytes(),
-        b"v 1 2 5\nv 1 4 unreachable\n".as_slice(),
-    );
 }

@@ -1,9 +1,9 @@
 use Rattle.std.proofs.Common.{ℕ, ◌∙◌, List, [], ◌∷◌, ap, inl, inr, refl}
-use Rattle.dimacs_lines.specs.Devices.{Written}
 use Rattle.dimacs_runs.specs.{Commands.{Contents, ReportsJudged}, Files.{Read, ReadFile}, Judged.{Judged}}
 use Rattle.dimacs_runs.specs.inside.Commands.{named}
 use Rattle.dimacs_runs.proofs.FileLemmas.{sees_two, two_first}
-use Rattle.dimacs_runs.proofs.PlanLemmas.{each_text, one_of, reports_named, sees_nothing, stops_opening, uses_files, without_second}
+use Rattle.dimacs_runs.proofs.PlanLemmas.{each_text, no_outcome, reports_named, sees_nothing, stops_opening, uses_files}
+use Rattle.dimacs_runs.proofs.WritingLemmas.{counts_reported, counts_without, report_written, unreported}
 use Rattle.dimacs_runs.specs.declared.jobs.JudgeKind.TheVariants as judges
 use Rattle.dimacs_runs.proofs.runs_that_read.judge_set.Goals as goal
 
@@ -17,24 +17,27 @@ returns-in_err-set g c =
 
 pub returns : goal.returns
 returns g c =
-    let ended = c.judge_and_keep-ended.result in
+    let outcome = c.judge_texts-outcome.result in
+    let ended = c.write_outcome-ended.result in
     let failure = c.or-failure.result in
-    let old = (g.K.Sink.seen c.args.output.now).accepted in
-    let new = (g.K.Sink.seen c.judge_and_keep-ended.new.sink).accepted in
-    let instance : ReadFile = record { name = c.in_ok-instance.instance.name.now; faults = g.F.Input.Source.faults c.judge_and_keep-ended.new.instance } in
-    let set : ReadFile = record { name = c.in_ok-set.set.name.now; faults = g.F.Input.Source.faults c.judge_and_keep-ended.new.certificate } in
-    let quiet = rw (c.in_ok-instance.ensures.faultless, c.in_ok-set.ensures.faultless) at c.judge_and_keep-ended.ensures.nothing_written in
+    let old = g.K.Sink.seen c.args.output.now in
+    let new = g.K.Sink.seen c.write_outcome-ended.new.report in
+    let instance : ReadFile = record { name = c.in_ok-instance.instance.name.now; faults = g.F.Input.Source.faults c.judge_texts-outcome.new.instance } in
+    let set : ReadFile = record { name = c.in_ok-set.set.name.now; faults = g.F.Input.Source.faults c.judge_texts-outcome.new.certificate } in
+    let read : List ReadFile = instance ∷ set ∷ [] in
+    let counts = counts_without outcome (0 ∷ []) (instance.faults ∷ []) (0 ∷ []) (set.faults ∷ []) refl (rw (c.in_ok-instance.ensures.faultless, c.in_ok-set.ensures.faultless) at c.judge_texts-outcome.ensures.faults) in
+    let ends = c.write_outcome-ended.ensures.ends in
     record {
-      runs = uses_files (instance ∷ set ∷ []) [] ended failure
+      runs = uses_files read [] ended failure
           (rw (c.in_ok-instance.ensures.named, c.in_ok-set.ensures.named) refl) refl
           (sees_two c.in_ok-instance.ensures.opened c.in_ok-set.ensures.opened)
           (sees_two c.close_read.ensures.seen c.close_read-2.ensures.seen) c.name_failure.ensures
           (rw c.or-failure.ensures (two_first c.close_read.result c.close_read-2.result (Read instance) (Read set) c.close_read.ensures.failure c.close_read-2.ensures.failure))
-          (without_second ended _ _ _ _ (rw (c.in_ok-instance.ensures.faultless, c.in_ok-set.ensures.faultless) at c.judge_and_keep-ended.ensures.faults))
-          (each_text (_ ∷ _ ∷ []) (λ (texts : List (List ℕ)). ReportsJudged judges.Infeasible texts (named ended failure) (old ∷ []) (new ∷ [])) (λ a first d second.
-          reports_named (Judged judges.Infeasible a [] d) ended failure old new (c.judge_and_keep-ended.ensures.reports a [] d
+          (counts_reported outcome ended (0 ∷ 0 ∷ []) (instance.faults ∷ set.faults ∷ []) old new refl counts ends)
+          (each_text (_ ∷ _ ∷ []) (λ (texts : List (List ℕ)). ReportsJudged judges.Infeasible texts (named ended failure) (old.accepted ∷ []) (new.accepted ∷ [])) (λ a first d second.
+          reports_named (Judged judges.Infeasible a [] d) ended failure old.accepted new.accepted (report_written (Judged judges.Infeasible a [] d) outcome ended old new (c.judge_texts-outcome.ensures.reports a [] d
           (c.in_ok-instance.ensures.coming ∙ first) (λ none. absurd cc)
-          (c.in_ok-set.ensures.coming ∙ ap (λ (h : Contents). h c.args.set.now) c.in_ok-instance.ensures.holds ∙ second))))
-          (λ memory. ap (λ (w : Written). w.accepted ∷ []) (c.judge_and_keep-ended.ensures.memory memory))
-          (λ unread. ap (λ (w : Written). w.accepted ∷ []) (quiet (elim unread [ inl it ↦ inl it | inr last ↦ inr (inr (one_of last)) ])));
+          (c.in_ok-set.ensures.coming ∙ ap (λ (h : Contents). h c.args.set.now) c.in_ok-instance.ensures.holds ∙ second)) ends)))
+          (λ memory. unreported outcome ended old new ends (inl memory))
+          (λ unread. unreported outcome ended old new ends (inr (no_outcome outcome read counts unread)));
     }

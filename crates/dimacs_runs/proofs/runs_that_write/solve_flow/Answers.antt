@@ -1,8 +1,10 @@
-use Rattle.std.proofs.Common.{ℕ, ◌∙◌, List, [], ◌∷◌, inl, refl}
+use Rattle.std.proofs.Common.{ℕ, ◌∙◌, List, [], ◌∷◌, ap, inl, inr, refl}
+use Rattle.dimacs_lines.specs.Devices.{Written}
 use Rattle.dimacs_runs.specs.{Commands.{WritesSolved}, Files.{Read, ReadFile, WrittenFile, Wrote}, Outputs.{MayWrite}}
-use Rattle.dimacs_runs.specs.{Solved.{Solved}, inside.Commands.{named}}
+use Rattle.dimacs_runs.specs.{Solved.{Solved}, inside.Commands.{named}, inside.Outcomes.{accepted_by}}
 use Rattle.dimacs_runs.proofs.FileLemmas.{sees_three, sees_two, three_first}
-use Rattle.dimacs_runs.proofs.PlanLemmas.{each_text, flow_asks_nothing, flow_writes, one_of, reports_all_named, sees_nothing, stops_creating, stops_opening, uses_files, without_second}
+use Rattle.dimacs_runs.proofs.PlanLemmas.{each_text, flow_asks_nothing, flow_writes, no_outcome, reports_all_named, sees_nothing, stops_creating, stops_opening, uses_files}
+use Rattle.dimacs_runs.proofs.WritingLemmas.{all_written, counts_both, counts_without, unwritten}
 use Rattle.dimacs_runs.proofs.runs_that_write.solve_flow.Goals as goal
 
 pub returns-in_err-instance : goal.returns-in_err-instance
@@ -22,27 +24,32 @@ returns-in-Err g c =
 
 pub returns : goal.returns
 returns g c =
-    let ended = c.solve_and_keep-ended.result in
+    let outcome = c.solve_texts-outcome.result in
+    let ended = c.write_outcome-ended.result in
     let failure = c.or-failure.result in
-    let old = (g.K.Sink.seen c.args.output.now).accepted in
-    let new = (g.K.Sink.seen c.solve_and_keep-ended.new.report).accepted in
-    let claimed = g.F.Output.Sink.seen c.solve_and_keep-ended.new.claim_out in
-    let certified = g.F.Output.Sink.seen c.solve_and_keep-ended.new.certificate_out in
-    let instance : ReadFile = record { name = c.in_ok-instance.instance.name.now; faults = g.F.Input.Source.faults c.solve_and_keep-ended.new.instance } in
+    let old = g.K.Sink.seen c.args.output.now in
+    let new = g.K.Sink.seen c.write_outcome-ended.new.report in
+    let claimed = g.F.Output.Sink.seen c.write_outcome-ended.new.claim in
+    let certified = g.F.Output.Sink.seen c.write_outcome-ended.new.certificate in
+    let instance : ReadFile = record { name = c.in_ok-instance.instance.name.now; faults = g.F.Input.Source.faults c.solve_texts-outcome.new.instance } in
     let claim : WrittenFile = record { name = c.in_ok-claim.claim.name.now; seen = claimed } in
     let certificate : WrittenFile = record { name = c.in-Ok.certificate.name.now; seen = certified } in
     let opened = sees_three c.in_ok-instance.ensures.opened c.in_ok-claim.ensures.created c.in-Ok.ensures.created in
     let closed = sees_three c.close_read.ensures.seen c.close_written-2.ensures.seen c.close_written-3.ensures.seen in
-    let quiet = rw c.in_ok-instance.ensures.faultless at c.solve_and_keep-ended.ensures.nothing_written in
+    let counts = counts_without outcome (0 ∷ []) (instance.faults ∷ []) [] [] refl (rw c.in_ok-instance.ensures.faultless at c.solve_texts-outcome.ensures.faults) in
+    let fresh : Written = record { accepted = g.F.Files.empty; faults = 0 } in
+    let before : List Written = fresh ∷ fresh ∷ old ∷ [] in
+    let after : List Written = claimed ∷ certified ∷ new ∷ [] in
+    let ends = rw (c.in_ok-claim.ensures.empty, c.in-Ok.ensures.empty) at c.write_outcome-ended.ensures.ends in
     record {
       runs = uses_files (instance ∷ []) (claim ∷ certificate ∷ []) ended failure
           (rw c.in_ok-instance.ensures.named refl) (rw (c.in_ok-claim.ensures.named, c.in-Ok.ensures.named) refl) opened closed c.name_failure.ensures
           (rw (c.or-failure.ensures, c.or.ensures) (three_first c.close_read.result c.close_written-2.result c.close_written-3.result (Read instance) (Wrote claim) (Wrote certificate) c.close_read.ensures.failure c.close_written-2.ensures.failure c.close_written-3.ensures.failure))
-          (without_second ended _ _ _ _ (rw (c.in_ok-instance.ensures.faultless, c.in_ok-claim.ensures.empty, c.in-Ok.ensures.empty) at c.solve_and_keep-ended.ensures.faults))
-          (each_text (_ ∷ []) (λ (texts : List (List ℕ)). WritesSolved c.args.job texts (named ended failure) (g.F.Files.empty ∷ g.F.Files.empty ∷ old ∷ []) (claimed.accepted ∷ certified.accepted ∷ new ∷ [])) (λ a first.
-          flow_writes c.args.job a [] (named ended failure) (g.F.Files.empty ∷ g.F.Files.empty ∷ old ∷ []) (claimed.accepted ∷ certified.accepted ∷ new ∷ []) c.requires
-          (reports_all_named (MayWrite (Solved c.args.job a [])) ended failure (g.F.Files.empty ∷ g.F.Files.empty ∷ old ∷ []) (claimed.accepted ∷ certified.accepted ∷ new ∷ [])
-          (rw (c.in_ok-claim.ensures.empty, c.in-Ok.ensures.empty) at (c.solve_and_keep-ended.ensures.reports a [] (c.in_ok-instance.ensures.coming ∙ first) (flow_asks_nothing c.args.job _ [] c.requires))))))
-          (λ memory. let same = c.solve_and_keep-ended.ensures.memory memory in rw (same.0, same.1, same.2, c.in_ok-claim.ensures.empty, c.in-Ok.ensures.empty) refl)
-          (λ unread. let same = quiet (inl (one_of unread)) in rw (same.0, same.1, same.2, c.in_ok-claim.ensures.empty, c.in-Ok.ensures.empty) refl);
+          (counts_both outcome ended (0 ∷ []) (instance.faults ∷ []) before after counts ends)
+          (each_text (_ ∷ []) (λ (texts : List (List ℕ)). WritesSolved c.args.job texts (named ended failure) (accepted_by before) (accepted_by after)) (λ a first.
+          flow_writes c.args.job a [] (named ended failure) (accepted_by before) (accepted_by after) c.requires
+          (reports_all_named (MayWrite (Solved c.args.job a [])) ended failure (accepted_by before) (accepted_by after)
+          (all_written (MayWrite (Solved c.args.job a [])) outcome ended before after (c.solve_texts-outcome.ensures.solves a [] (c.in_ok-instance.ensures.coming ∙ first) (flow_asks_nothing c.args.job _ [] c.requires)) ends))))
+          (λ memory. ap accepted_by (unwritten outcome ended before after ends (inl memory)))
+          (λ unread. ap accepted_by (unwritten outcome ended before after ends (inr (no_outcome outcome (instance ∷ []) counts unread))));
     }

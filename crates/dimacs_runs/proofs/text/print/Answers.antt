@@ -6,20 +6,20 @@ use Rattle.dimacs_runs.proofs.text.print.Goals as goal
 
 pub returns-in_ok-write_in_form-in-Ok-clause-reports : goal.returns-in_ok-write_in_form-in-Ok-clause-reports
 returns-in_ok-write_in_form-in-Ok-clause-reports g c = λ bytes coming.
-    let printed = in_form c.args.form g.T.Text.canonical g.T.Text.shown in
-    let value = g.T.Text.content c.in-Ok.value in
-    (printed value, value_printed (text_spells g.T.Text.kind g.T.Text.spells bytes) printed value (c.in-Ok.ensures.reads bytes coming), c.in_ok-write_in_form-in-Ok.ensures.puts.accepted)
+    let printed = in_form c.args.form g.T.Writable.canonical g.T.Writable.shown in
+    let value = g.T.Writable.content c.in-Ok.value in
+    (printed value, value_printed (text_spells g.T.Writable.kind g.T.Writable.spells bytes) printed value (c.in-Ok.ensures.reads bytes coming), c.in_ok-write_in_form-in-Ok.ensures.puts.accepted)
 
 pub returns-in_err-write_in_form-in-Ok-clause-reports : goal.returns-in_err-write_in_form-in-Ok-clause-reports
 returns-in_err-write_in_form-in-Ok-clause-reports g c = λ bytes coming.
-    let printed = in_form c.args.form g.T.Text.canonical g.T.Text.shown in
-    let value = g.T.Text.content c.in-Ok.value in
+    let printed = in_form c.args.form g.T.Writable.canonical g.T.Writable.shown in
+    let value = g.T.Writable.content c.in-Ok.value in
     let (error, is, device) = err_from_is_err_and c.from_residual.result c.from_residual.ensures.1 in
-    rw is (inr (Done, printed value, value_printed (text_spells g.T.Text.kind g.T.Text.spells bytes) printed value (c.in-Ok.ensures.reads bytes coming), c.in_err-write_in_form-in-Ok.ensures.puts.accepted))
+    rw is (inr (Done, printed value, value_printed (text_spells g.T.Writable.kind g.T.Writable.spells bytes) printed value (c.in-Ok.ensures.reads bytes coming), c.in_err-write_in_form-in-Ok.ensures.puts.accepted))
 
 pub returns-in-Err-clause-reports : goal.returns-in-Err-clause-reports
 returns-in-Err-clause-reports g c = λ bytes coming.
-    let printed = in_form c.args.form g.T.Text.canonical g.T.Text.shown in
-    let text = text_spells g.T.Text.kind g.T.Text.spells bytes in
+    let printed = in_form c.args.form g.T.Writable.canonical g.T.Writable.shown in
+    let text = text_spells g.T.Writable.kind g.T.Writable.spells bytes in
     report_written (FaultIn text (IsPrinted printed)) c.outcome_of-answer.result c.write_outcome.result (g.K.Sink.seen c.args.sink.now) (g.K.Sink.seen c.write_outcome.new.report)
     (rw c.outcome_of-answer.ensures (unread_printed text printed c.in-Err.unread (Err c.from.result) c.from.ensures (c.in-Err.ensures.reads bytes coming))) c.write_outcome.ensures.ends
