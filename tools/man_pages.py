@@ -243,7 +243,7 @@ def page(name):
 
 
 def main():
-    if len(sys.argv) != 2:
+    if len(sys.argv) != 2 or sys.argv[1].startswith("-"):
         sys.exit("tools/man_pages.py OUT")
     for name in SOURCES:
         write(os.path.join(os.path.abspath(sys.argv[1]), name), page(name))

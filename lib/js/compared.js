@@ -20,7 +20,7 @@ const ARCS = {
 const NODES = {
     Balance: ({leaves, enters, supply}) =>
         supply === undefined ? `${leaves} leaves, ${enters} enters` : `${leaves - enters} leaves, its supply is ${supply}`,
-    NoTightArc: ({before, at}) => `no arc${before === undefined ? "" : ` from ${before}`} gives its distance ${at}`,
+    NoTightArc: ({before, at}) => `no ${before === undefined ? "walk" : `arc from ${before}`} gives its distance ${at}`,
     NodeRange: ({node, nodes, before, at}) => {
         if (node === 0 || node > nodes) return `nodes are numbered from 1, and there are ${nodes}`;
         if (before > nodes) return `its predecessor is ${before}, and there are ${nodes} nodes`;

@@ -76,7 +76,7 @@ class Frames(Said):
         self.assertEqual(found["predecessor"].to_dict(), {"spring": None, "mill": None, "farm": None, "town": "mill"})
         again = self.network().certify_paths("mill", found["distance"]).nodes
         self.assertEqual(again["predecessor"].to_dict(), found["predecessor"].to_dict())
-        message = "node 'town' NoTightArc: no arc gives its distance 2"
+        message = "node 'town' NoTightArc: no walk gives its distance 2"
         self.says(dimacs.Refused, message, self.network().certify_paths, "mill", {"mill": 0, "town": 2})
 
     def test_numbers(self):
@@ -105,7 +105,7 @@ class Frames(Said):
         for claim in found, found.to_dict(), {"mill": 0, "town": 2**53 + 1}:
             again = network.certify_paths("mill", claim).nodes["distance"]
             self.assertEqual([again["town"], again["farm"]], [2**53 + 1, float("inf")])
-        message = f"node 'town' NoTightArc: no arc gives its distance {2**53}"
+        message = f"node 'town' NoTightArc: no walk gives its distance {2**53}"
         self.says(dimacs.Refused, message, network.certify_paths, "mill", {"mill": 0, "town": 2**53})
 
     def test_a_label_twice(self):

@@ -192,7 +192,7 @@ class Distances(Networkx):
         for distances, message in [
             ({"a": 0, "b": 1, "c": 3}, "arc ('b', 'c') NotShortest: 1 and its weight 1 are less than 3"),
             ({"a": 0, "b": 1}, "arc ('b', 'c') Escapes: its tail is at 1, its head isn't reached"),
-            ({"a": 0, "b": 1, "c": 1}, "node 'c' NoTightArc: no arc gives its distance 1"),
+            ({"a": 0, "b": 1, "c": 1}, "node 'c' NoTightArc: no walk gives its distance 1"),
             ({"b": 1, "c": 2}, "node 'a' NotShortest: the source is at inf"),
         ]:
             self.says(dimacs.Refused, message, dimacs.certify_networkx_paths, graph, "a", distances)

@@ -335,7 +335,7 @@ class Tables(Scipy):
         graph, certify = [[0, 5, 0], [0, 0, 4], [0, 0, 0]], ours.certify_shortest_path
         dist = numpy.array([[0, 5, 9], [numpy.inf, 0, 4], [numpy.inf, numpy.inf, 0]])
         dist[0, 2] = 8
-        no = self.raises(dimacs.Refused, "NoTightArc: no arc gives its distance 8", certify, graph, dist)
+        no = self.raises(dimacs.Refused, "NoTightArc: no walk gives its distance 8", certify, graph, dist)
         self.assertEqual(no.node, (0, 2))
         dist[0, 2] = 10
         message = r"arc \(1, 2\) NotShortest: 5 and its weight 4 are less than 10"

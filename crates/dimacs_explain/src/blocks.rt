@@ -82,6 +82,20 @@ pub(crate) fn first_unreached(
     None
 }
 
+/// The source of the only block that has a label of a node; none if several have one.
+pub(crate) fn only_source(labels: &Labels, node: u32) -> Option<u32> {
+    let mut source = None;
+    for block in labels.blocks() {
+        if block.labels().into_iter().any(|label| label.id == node) {
+            if source.is_some() {
+                return None;
+            }
+            source = Some(block.source());
+        }
+    }
+    source
+}
+
 /// The least distance by one of these arcs from a node that has a label in a block.
 fn nearest(block: &Block, arcs: &[ArcInto]) -> Option<i128> {
     let mut least = lightest(arcs, block.source()).map(i128::from);

@@ -250,13 +250,33 @@ impl<'a, A: Reopen> Explanation<'a, A> {
     /// Writes a command about the claimed flow, or that none is feasible; or the one that finds distances.
     fn write_command(&mut self, verb: &str) -> Said<'a> {
         let instance = self.page.texts.instance()?;
-        match (instance.kind, self.page.texts.claim()) {
-            (TextKind::Max, Ok(claim)) => say!(self; "dimacs {}-max {} {}", verb, instance, claim),
-            (TextKind::Min, Ok(claim)) => say!(self; "dimacs {}-min {} {}", verb, instance, claim),
-            (_, Ok(claim)) => say!(self; "dimacs solve-paths {} {} LABELS", instance, claim),
-            _ => say!(self; "dimacs {}-infeasible {}", verb, instance),
+        let claim = self.page.texts.claim().ok();
+        match (instance.kind, claim) {
+            (TextKind::Max, Some(_)) => say!(self; "dimacs {}-max ", verb),
+            (TextKind::Min, Some(_)) => say!(self; "dimacs {}-min ", verb),
+            (_, Some(_)) => say!(self; "dimacs solve-paths "),
+            _ => say!(self; "dimacs {}-infeasible ", verb),
+        }
+        self.write_word(instance);
+        if let Some(claim) = claim {
+            say!(self; " ");
+            self.write_word(claim);
+        }
+        if instance.kind == TextKind::Graph {
+            say!(self; " LABELS");
         }
         Ok(())
+    }
+
+    /// Writes the name of a file as a word of a command: in quotes if a shell may take it for several.
+    fn write_word(&mut self, text: TextFile<'a>) {
+        let is_plain = |byte: u8| byte.is_ascii_alphanumeric() || b"\0+-./_".contains(&byte);
+        let quote = if text.file.bytes().all(is_plain) {
+            ""
+        } else {
+            "'"
+        };
+        say!(self; "{}{}{}", quote, text, quote);
     }
 
     pub(crate) fn explain_balance(&mut self, node: u32) -> Said<'a> {

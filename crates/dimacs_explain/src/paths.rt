@@ -1,6 +1,6 @@
 //! Explains the tests of labels, distances and queries.
 
-use crate::blocks::{ArcInto, Unreached, failing_ends, first_unreached, lightest};
+use crate::blocks::{ArcInto, Unreached, failing_ends, first_unreached, lightest, only_source};
 use crate::explanation::Explanation;
 use crate::flows::arc_of;
 use dimacs_lines::Memory;
@@ -80,8 +80,9 @@ impl<'a, A: Reopen> Explanation<'a, A> {
     pub(crate) fn explain_unreached(&mut self, node: u32) -> Said<'a> {
         let text = self.page.texts.tested()?;
         let arcs = self.arcs_into(node)?;
+        let labels = self.labels(text)?;
         let is_distance = text.kind == TextKind::Distances;
-        let found = first_unreached(&self.labels(text)?, text.kind, node, &arcs);
+        let found = first_unreached(&labels, text.kind, node, &arcs);
         match found {
             Some(it) => {
                 self.quote_label(text, it.source, node)?;
@@ -90,23 +91,31 @@ impl<'a, A: Reopen> Explanation<'a, A> {
                     false => self.write_label(it, lightest(&arcs, it.label.pred)),
                 }
             }
-            None if is_distance =>
+            None if is_distance => {
+                if let Some(source) = only_source(&labels, node) {
+                    self.quote_label(text, source, node)?;
+                }
                 say!(self; "the arcs that lead to the distance of node {} come from nodes that no walk from the source reaches at theirs\n",
-                    Node(node)),
+                    Node(node));
+            }
             None => return Err(text.unread()),
         }
         if found.and_then(|it| it.least).is_none() {
             let advice = self.page.words("leave its line out", "it has no distance");
             say!(self; "if no walk leads to node {}, {}\n", Node(node), advice);
         }
-        Ok(())
+        if is_distance {
+            return Ok(());
+        }
+        self.write_open()
     }
 
     /// Writes that no arc gives a distance.
     fn write_distance(&mut self, it: Unreached) {
         say!(self; "no arc leads to node {} at distance {}: ", Node(it.label.id), it.label.dist);
         match it.least {
-            Some(least) => say!(self; "the nearest leads there at distance {}\n", least),
+            Some(least) =>
+                say!(self; "by the claimed distances the nearest leads there at distance {}\n", least),
             None => say!(self; "none comes from a node that has a distance\n"),
         }
     }

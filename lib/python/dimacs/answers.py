@@ -162,7 +162,7 @@ _SAID = {
     "Escapes": ["its tail is at {tail}, its head isn't reached"],
     "Infeasible": ["supplies add up to {supply}, and not to 0", "demands add up to {demand}, and not to 0"],
     "NegativeWeight": ["its weight is {weight}"],
-    "NoTightArc": ["no arc from {predecessor} gives its distance {distance}", "no arc gives its distance {distance}"],
+    "NoTightArc": ["no arc from {predecessor} gives its distance {distance}", "no walk gives its distance {distance}"],
     "NodeRange": [
         "{it_is}, and its predecessor is {predecessor}",
         "its predecessor is {predecessor}, and there are {nodes} nodes",
