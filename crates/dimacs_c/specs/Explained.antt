@@ -31,7 +31,7 @@ printing bytes = record { files = record { done = None; faults = 0 }; output = r
 abbrev pub Reported : Reporting → List (List ℕ) → Status → List ℕ → Type 0
 Reported writes texts status report = writes texts (Ok status) (Some [] ∷ []) (Some report ∷ [])
 
--- the report of a job, if its files hold these texts: for `convert`, `show` and the judges the only possible report, for
+-- the report of a job, if its files hold these texts: for `Convert`, `Show` and `Judge` the only possible report, for
 -- others one with which a run of the job can end so
 abbrev pub ReportsJob : Job → (List ℕ → List ℕ) → Status → List ℕ → Type 0
 ReportsJob (Convert kind file) text = Reported (ReportsOne (Prints Canonical kind)) (map text (plan_of (Convert kind file)).opened)

@@ -1,18 +1,19 @@
 //! Showing over arrays that no flow is feasible.
 
-ghost use Rattle.std.specs.Prelude.{◌≡◌, None, Some, IfOk};
-ghost use Rattle.dimacs_lines.specs.Puts.{Puts};
+ghost use Rattle.std.specs.Prelude.{◌≡◌, None, Some};
 ghost use Rattle.dimacs_arrays.specs.MinArrays.{CertifiesInfeasibleArrays, JudgesInfeasibleArrays};
 ghost use Rattle.dimacs_c.specs.Arrays.{AnswersItems, AnswersLine, infeasible_printed, buffers, printed};
-ghost use Rattle.dimacs_c.specs.Calls.{handed};
+ghost use Rattle.dimacs_c.specs.{Calls.{handed}, inside.Printed.{parts}};
 
 use crate::answer::hand_printed;
-use crate::lines::{hand_judged, put_error, put_feasible, put_yes};
+use crate::lines::{Line, WHOLE_TEXT, hand_judged};
+use crate::printed::Printed;
 use dimacs_arrays::{
     ArrayError, InfeasibleCertified, MinArrays, certify_infeasible_arrays, judge_infeasible_arrays,
 };
 use dimacs_judging::Verdict;
-use dimacs_lines::{DeviceFault, MemorySink, Sink};
+use dimacs_lines::MemorySink;
+use dimacs_records::Reason;
 use std::alloc::Global;
 
 /// Judges that no flow is feasible, as `judge_infeasible_arrays`.
@@ -48,44 +49,26 @@ pub extern "C" fn dimacs_certify_infeasible_arrays(
         None (Some (handed flows.old flows.new flows_needed.new))) }
 {
     let answer = certify_infeasible_arrays(alloc, instance);
+    let found = certified(&answer);
     let mut line = MemorySink::new(alloc);
-    let status = put_certified(&mut line, &answer);
-    hand_printed(status, inside_of(&answer), inside, inside_needed);
-    hand_printed(status, flow_of(&answer), flows, flows_needed);
+    let status = found.line.put(&mut line);
+    hand_printed(status, found.marks, inside, inside_needed);
+    hand_printed(status, found.amounts, flows, flows_needed);
     hand_printed(status, line.bytes(), out, needed)
 }
 
-/// Writes the answer's line, and returns its status.
-fn put_certified<K: Sink>(
-    sink: &mut K,
-    answer: &Result<InfeasibleCertified, ArrayError>,
-) -> Result<u32, DeviceFault>
-    ensures status { IfOk result (λ status. status ≡ (printed infeasible_printed answer.now).status) }
-    ensures line { Puts result (K.seen sink.old) (printed infeasible_printed answer.now).line (K.seen sink.new) }
+fn certified(answer: &Result<InfeasibleCertified, ArrayError>) -> Printed<'_, u8>
+    ensures { parts result ≡ printed infeasible_printed answer.now }
 {
     match answer {
-        Ok(InfeasibleCertified::Infeasible(_)) => put_yes(sink, &Verdict::Infeasible),
-        Ok(InfeasibleCertified::Feasible(_)) => put_feasible(sink),
-        Err(error) => put_error(sink, *error),
-    }
-}
-
-/// The bytes of the set, if no flow is feasible.
-fn inside_of(answer: &Result<InfeasibleCertified, ArrayError>) -> &[u8]
-    ensures { result.now ≡ (printed infeasible_printed answer.now).marks }
-{
-    match answer {
-        Ok(InfeasibleCertified::Infeasible(inside)) => inside,
-        _ => &[],
-    }
-}
-
-/// The feasible flow, if there is one.
-fn flow_of(answer: &Result<InfeasibleCertified, ArrayError>) -> &[i64]
-    ensures { result.now ≡ (printed infeasible_printed answer.now).amounts }
-{
-    match answer {
-        Ok(InfeasibleCertified::Feasible(flow)) => flow.amounts(),
-        _ => &[],
+        Ok(InfeasibleCertified::Infeasible(inside)) => Printed {
+            marks: inside,
+            ..Printed::only(Line::Yes(Verdict::Infeasible))
+        },
+        Ok(InfeasibleCertified::Feasible(flow)) => Printed {
+            amounts: flow.amounts(),
+            ..Printed::only(Line::Fault(b"instance", WHOLE_TEXT, Reason::Feasible))
+        },
+        Err(error) => Printed::only(Line::Error(*error)),
     }
 }

@@ -20,6 +20,7 @@ mod min;
 mod named_texts;
 mod paths;
 mod potentials;
+mod printed;
 mod queries;
 mod read_instance;
 mod reading;

@@ -2,21 +2,21 @@
 
 ghost use Rattle.std.specs.Prelude.{◌≡◌, IfOk};
 ghost use Rattle.dimacs_lines.specs.Puts.{Puts};
-ghost use Rattle.dimacs_runs.specs.Verdicts.{failure_line, gave_up_line, verdict_lines};
-ghost use Rattle.dimacs_c.specs.Arrays.{error_line, error_status, feasible_line, printed, verdict_printed};
-ghost use Rattle.dimacs_c.specs.{Calls.{handed}, inside.Arrays.{EndsLine}};
+ghost use Rattle.dimacs_runs.specs.Refusals.{refusal_line};
+ghost use Rattle.dimacs_c.specs.{Arrays.{printed, verdict_printed}, Calls.{handed}};
+ghost use Rattle.dimacs_c.specs.inside.Printed.{EndsAs, EndsWhole, line_status, line_text};
 
 use crate::answer::{MISUSED, NO_MEMORY, hand_printed};
 use dimacs_arrays::ArrayError;
 use dimacs_judging::{Verdict, Where};
 use dimacs_lines::{DeviceFault, MemorySink, Sink};
-use dimacs_records::{Part, Reason, put_line};
+use dimacs_records::{At, Part, Reason, put_line};
 use dimacs_runs::{put_failure, put_gave_up, put_verdict};
 use std::alloc::Global;
 
-const YES: u32 = 0;
+const DONE: u32 = 0;
 
-/// The status of a test that fails.
+/// The status of a test that fails, or of a text with a fault.
 const NO: u32 = 1;
 
 /// The status if a solver gave up, or the answer doesn't fit into arrays.
@@ -25,6 +25,92 @@ const GAVE_UP: u32 = 5;
 /// The place of a refusal of a whole flow.
 pub(crate) const WHOLE_FLOW: Where = Where::Solution { line: 0, field: 0 };
 
+/// The place of a fault of a whole text.
+pub(crate) const WHOLE_TEXT: At = At { line: 0, field: 0 };
+
+/// The line of an answer.
+#[derive(Drop)]
+pub(crate) enum Line<'a> {
+    /// There is none: a text was read.
+    Read,
+    Yes(Verdict),
+    /// A test fails.
+    No(Where, Reason),
+    /// The text that this word names has a fault.
+    Fault(&'a [u8], At, Reason),
+    GaveUp,
+    /// A wrong length and out of memory have no line.
+    Error(ArrayError),
+}
+
+impl<'a> Line<'a> {
+    /// Copies the line, and returns its status.
+    pub(crate) fn hand(&self, alloc: Global, out: &mut [u8], needed: &mut usize) -> u32
+        ensures { EndsAs (line_status self.now) (line_text self.now) result (handed out.old out.new needed.new) }
+    {
+        let mut line = MemorySink::new(alloc);
+        let status = self.put(&mut line);
+        hand_printed(status, line.bytes(), out, needed)
+    }
+
+    /// Writes the line, and returns its status.
+    pub(crate) fn put<K: Sink>(&self, sink: &mut K) -> Result<u32, DeviceFault>
+        ensures status { IfOk result (λ status. status ≡ line_status self.now) }
+        ensures line { Puts result (K.seen sink.old) (line_text self.now) (K.seen sink.new) }
+    {
+        self.write(sink)?;
+        Ok(self.status())
+    }
+
+    fn write<K: Sink>(&self, sink: &mut K) -> Result<(), DeviceFault>
+        ensures { Puts result (K.seen sink.old) (line_text self.now) (K.seen sink.new) }
+    {
+        match self {
+            Line::Read => Ok(()),
+            Line::Yes(verdict) => put_verdict(sink, verdict),
+            Line::No(place, reason) => put_failure(sink, *place, *reason),
+            Line::Fault(text, place, reason) => put_fault(sink, text, *place, *reason),
+            Line::GaveUp => put_gave_up(sink),
+            Line::Error(ArrayError::Refused(place, reason) | ArrayError::Limit(place, reason)) => {
+                put_failure(sink, *place, *reason)
+            }
+            Line::Error(ArrayError::Length(_) | ArrayError::Memory) => Ok(()),
+        }
+    }
+
+    fn status(&self) -> u32
+        ensures { result ≡ line_status self.now }
+    {
+        match self {
+            Line::Read | Line::Yes(_) => DONE,
+            Line::No(_, _) | Line::Fault(_, _, _) | Line::Error(ArrayError::Refused(_, _)) => NO,
+            Line::GaveUp => GAVE_UP,
+            Line::Error(ArrayError::Limit(_, _) | ArrayError::Length(_)) => MISUSED,
+            Line::Error(ArrayError::Memory) => NO_MEMORY,
+        }
+    }
+}
+
+fn put_fault<K: Sink>(
+    sink: &mut K,
+    text: &[u8],
+    place: At,
+    reason: Reason,
+) -> Result<(), DeviceFault>
+    ensures { Puts result (K.seen sink.old) (refusal_line text.now place.line place.field reason) (K.seen sink.new) }
+{
+    put_line(
+        sink,
+        b"x",
+        &[
+            Part::Word(text),
+            Part::Wide(i128::from(place.line)),
+            Part::Number(i64::from(place.field)),
+            Part::Word(reason.name().as_bytes()),
+        ],
+    )
+}
+
 /// Copies the line of a judge's answer, and returns its status.
 pub(crate) fn hand_judged(
     alloc: Global,
@@ -32,88 +118,10 @@ pub(crate) fn hand_judged(
     out: &mut [u8],
     needed: &mut usize,
 ) -> u32
-    ensures { EndsLine (printed verdict_printed answer) result (handed out.old out.new needed.new) }
-{
-    let mut line = MemorySink::new(alloc);
-    let status = put_judged(&mut line, answer);
-    hand_printed(status, line.bytes(), out, needed)
-}
-
-/// Writes the line of a judge's answer, and returns its status.
-fn put_judged<K: Sink>(
-    sink: &mut K,
-    answer: Result<Verdict, ArrayError>,
-) -> Result<u32, DeviceFault>
-    ensures status { IfOk result (λ status. status ≡ (printed verdict_printed answer).status) }
-    ensures line { Puts result (K.seen sink.old) (printed verdict_printed answer).line (K.seen sink.new) }
+    ensures { EndsWhole (printed verdict_printed answer) result (handed out.old out.new needed.new) }
 {
     match answer {
-        Ok(verdict) => put_yes(sink, &verdict),
-        Err(error) => put_error(sink, error),
-    }
-}
-
-/// Writes the line of a verdict.
-pub(crate) fn put_yes<K: Sink>(sink: &mut K, verdict: &Verdict) -> Result<u32, DeviceFault>
-    ensures status { IfOk result (λ status. status ≡ 0) }
-    ensures line { Puts result (K.seen sink.old) (verdict_lines verdict.now) (K.seen sink.new) }
-{
-    put_verdict(sink, verdict)?;
-    Ok(YES)
-}
-
-/// Writes the line of a test that fails.
-pub(crate) fn put_refusal<K: Sink>(
-    sink: &mut K,
-    place: Where,
-    reason: Reason,
-) -> Result<u32, DeviceFault>
-    ensures status { IfOk result (λ status. status ≡ 1) }
-    ensures line { Puts result (K.seen sink.old) (failure_line place reason) (K.seen sink.new) }
-{
-    put_failure(sink, place, reason)?;
-    Ok(NO)
-}
-
-/// Writes the refusal if a flow is feasible.
-pub(crate) fn put_feasible<K: Sink>(sink: &mut K) -> Result<u32, DeviceFault>
-    ensures status { IfOk result (λ status. status ≡ 1) }
-    ensures line { Puts result (K.seen sink.old) feasible_line (K.seen sink.new) }
-{
-    put_line(
-        sink,
-        b"x",
-        &[
-            Part::Word(b"instance"),
-            Part::Number(0),
-            Part::Number(0),
-            Part::Word(Reason::Feasible.name().as_bytes()),
-        ],
-    )?;
-    Ok(NO)
-}
-
-/// Writes the line `g limit`.
-pub(crate) fn put_unsolved<K: Sink>(sink: &mut K) -> Result<u32, DeviceFault>
-    ensures status { IfOk result (λ status. status ≡ 5) }
-    ensures line { Puts result (K.seen sink.old) gave_up_line (K.seen sink.new) }
-{
-    put_gave_up(sink)?;
-    Ok(GAVE_UP)
-}
-
-/// Writes the line of an error. A wrong length and out of memory have none.
-pub(crate) fn put_error<K: Sink>(sink: &mut K, error: ArrayError) -> Result<u32, DeviceFault>
-    ensures status { IfOk result (λ status. status ≡ error_status error) }
-    ensures line { Puts result (K.seen sink.old) (error_line error) (K.seen sink.new) }
-{
-    match error {
-        ArrayError::Refused(place, reason) => put_refusal(sink, place, reason),
-        ArrayError::Limit(place, reason) => {
-            put_failure(sink, place, reason)?;
-            Ok(MISUSED)
-        }
-        ArrayError::Length(_) => Ok(MISUSED),
-        ArrayError::Memory => Ok(NO_MEMORY),
+        Ok(verdict) => Line::Yes(verdict).hand(alloc, out, needed),
+        Err(error) => Line::Error(error).hand(alloc, out, needed),
     }
 }

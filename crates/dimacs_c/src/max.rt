@@ -1,19 +1,19 @@
 //! Maximum flows over arrays.
 
-ghost use Rattle.std.specs.Prelude.{◌≡◌, None, Some, IfOk};
-ghost use Rattle.dimacs_lines.specs.Puts.{Puts};
+ghost use Rattle.std.specs.Prelude.{◌≡◌, None, Some};
 ghost use Rattle.dimacs_arrays.specs.MaxArrays.{CertifiesMaxArrays, JudgesMaxArrays, SolvesMaxArrays};
 ghost use Rattle.dimacs_c.specs.Arrays.{AnswersItems, AnswersLine, max_found, max_printed, buffers, printed};
-ghost use Rattle.dimacs_c.specs.Calls.{handed};
+ghost use Rattle.dimacs_c.specs.{Calls.{handed}, inside.Printed.{parts}};
 
 use crate::answer::hand_printed;
-use crate::lines::{WHOLE_FLOW, hand_judged, put_error, put_refusal, put_unsolved, put_yes};
+use crate::lines::{Line, WHOLE_FLOW, hand_judged};
+use crate::printed::Printed;
 use dimacs_arrays::{
     ArrayError, MaxArrays, MaxCertified, MaxSolved, certify_max_arrays, judge_max_arrays,
     solve_max_arrays,
 };
 use dimacs_judging::Verdict;
-use dimacs_lines::{DeviceFault, MemorySink, Sink};
+use dimacs_lines::MemorySink;
 use dimacs_records::Reason;
 use std::alloc::Global;
 
@@ -52,45 +52,27 @@ pub extern "C" fn dimacs_certify_max_arrays(
         None (Some (handed better.old better.new better_needed.new))) }
 {
     let answer = certify_max_arrays(alloc, instance, flows);
+    let found = certified(&answer);
     let mut line = MemorySink::new(alloc);
-    let status = put_certified(&mut line, &answer);
-    hand_printed(status, inside_of(&answer), inside, inside_needed);
-    hand_printed(status, better_of(&answer), better, better_needed);
+    let status = found.line.put(&mut line);
+    hand_printed(status, found.marks, inside, inside_needed);
+    hand_printed(status, found.amounts, better, better_needed);
     hand_printed(status, line.bytes(), out, needed)
 }
 
-/// Writes the answer's line, and returns its status.
-fn put_certified<K: Sink>(
-    sink: &mut K,
-    answer: &Result<MaxCertified, ArrayError>,
-) -> Result<u32, DeviceFault>
-    ensures status { IfOk result (λ status. status ≡ (printed max_printed answer.now).status) }
-    ensures line { Puts result (K.seen sink.old) (printed max_printed answer.now).line (K.seen sink.new) }
+fn certified(answer: &Result<MaxCertified, ArrayError>) -> Printed<'_, u8>
+    ensures { parts result ≡ printed max_printed answer.now }
 {
     match answer {
-        Ok(MaxCertified::Optimal { value, .. }) => put_yes(sink, &Verdict::Max(*value)),
-        Ok(MaxCertified::Better(_)) => put_refusal(sink, WHOLE_FLOW, Reason::NotMaximum),
-        Err(error) => put_error(sink, *error),
-    }
-}
-
-/// The bytes of the cut, if the flow is maximum.
-fn inside_of(answer: &Result<MaxCertified, ArrayError>) -> &[u8]
-    ensures { result.now ≡ (printed max_printed answer.now).marks }
-{
-    match answer {
-        Ok(MaxCertified::Optimal { inside, .. }) => inside,
-        _ => &[],
-    }
-}
-
-/// The better flow, if there is one.
-fn better_of(answer: &Result<MaxCertified, ArrayError>) -> &[i64]
-    ensures { result.now ≡ (printed max_printed answer.now).amounts }
-{
-    match answer {
-        Ok(MaxCertified::Better(flow)) => flow.amounts(),
-        _ => &[],
+        Ok(MaxCertified::Optimal { value, inside }) => Printed {
+            marks: inside,
+            ..Printed::only(Line::Yes(Verdict::Max(*value)))
+        },
+        Ok(MaxCertified::Better(flow)) => Printed {
+            amounts: flow.amounts(),
+            ..Printed::only(Line::No(WHOLE_FLOW, Reason::NotMaximum))
+        },
+        Err(error) => Printed::only(Line::Error(*error)),
     }
 }
 
@@ -112,44 +94,30 @@ pub extern "C" fn dimacs_solve_max_arrays(
         None (Some (handed flows.old flows.new flows_needed.new))) }
 {
     let answer = solve_max_arrays(alloc, instance, limit);
+    let found = solved(&answer);
     let mut line = MemorySink::new(alloc);
-    let status = put_solved(&mut line, &answer);
-    hand_printed(status, solved_inside(&answer), inside, inside_needed);
-    hand_printed(status, flow_of(&answer), flows, flows_needed);
+    let status = found.line.put(&mut line);
+    hand_printed(status, found.marks, inside, inside_needed);
+    hand_printed(status, found.amounts, flows, flows_needed);
     hand_printed(status, line.bytes(), out, needed)
 }
 
-/// Writes the answer's line, and returns its status.
-fn put_solved<K: Sink>(
-    sink: &mut K,
-    answer: &Result<MaxSolved, ArrayError>,
-) -> Result<u32, DeviceFault>
-    ensures status { IfOk result (λ status. status ≡ (printed max_found answer.now).status) }
-    ensures line { Puts result (K.seen sink.old) (printed max_found answer.now).line (K.seen sink.new) }
+fn solved(answer: &Result<MaxSolved, ArrayError>) -> Printed<'_, u8>
+    ensures { parts result ≡ printed max_found answer.now }
 {
     match answer {
-        Ok(MaxSolved::Optimal { value, .. }) => put_yes(sink, &Verdict::Max(*value)),
-        Ok(MaxSolved::GaveUp) => put_unsolved(sink),
-        Err(error) => put_error(sink, *error),
-    }
-}
-
-/// The bytes of the cut, if a flow was found.
-fn solved_inside(answer: &Result<MaxSolved, ArrayError>) -> &[u8]
-    ensures { result.now ≡ (printed max_found answer.now).marks }
-{
-    match answer {
-        Ok(MaxSolved::Optimal { inside, .. }) => inside,
-        _ => &[],
-    }
-}
-
-/// The flow, if one was found.
-fn flow_of(answer: &Result<MaxSolved, ArrayError>) -> &[i64]
-    ensures { result.now ≡ (printed max_found answer.now).amounts }
-{
-    match answer {
-        Ok(MaxSolved::Optimal { flow, .. }) => flow.amounts(),
-        _ => &[],
+        Ok(
+            MaxSolved::Optimal {
+                value,
+                flow,
+                inside,
+            },
+        ) => Printed {
+            marks: inside,
+            amounts: flow.amounts(),
+            ..Printed::only(Line::Yes(Verdict::Max(*value)))
+        },
+        Ok(MaxSolved::GaveUp) => Printed::only(Line::GaveUp),
+        Err(error) => Printed::only(Line::Error(*error)),
     }
 }

@@ -1,19 +1,19 @@
 //! Flows of least cost over arrays.
 
-ghost use Rattle.std.specs.Prelude.{◌≡◌, None, Some, IfOk};
-ghost use Rattle.dimacs_lines.specs.Puts.{Puts};
+ghost use Rattle.std.specs.Prelude.{◌≡◌, None, Some};
 ghost use Rattle.dimacs_arrays.specs.MinArrays.{CertifiesMinArrays, JudgesMinArrays, SolvesMinArrays};
 ghost use Rattle.dimacs_c.specs.Arrays.{AnswersItems, AnswersLine, min_found, min_printed, buffers, printed};
-ghost use Rattle.dimacs_c.specs.Calls.{handed};
+ghost use Rattle.dimacs_c.specs.{Calls.{handed}, inside.Printed.{parts}};
 
 use crate::answer::hand_printed;
-use crate::lines::{WHOLE_FLOW, hand_judged, put_error, put_refusal, put_unsolved, put_yes};
+use crate::lines::{Line, WHOLE_FLOW, hand_judged};
+use crate::printed::Printed;
 use dimacs_arrays::{
     ArrayError, MinArrays, MinCertified, MinSolved, certify_min_arrays, judge_min_arrays,
     solve_min_arrays,
 };
 use dimacs_judging::Verdict;
-use dimacs_lines::{DeviceFault, MemorySink, Sink};
+use dimacs_lines::MemorySink;
 use dimacs_records::Reason;
 use std::alloc::Global;
 
@@ -52,51 +52,28 @@ pub extern "C" fn dimacs_certify_min_arrays(
         (Some (handed better.old better.new better_needed.new))) }
 {
     let answer = certify_min_arrays(alloc, instance, flows);
+    let found = certified(&answer);
     let mut line = MemorySink::new(alloc);
-    let status = put_certified(&mut line, &answer);
-    hand_printed(
-        status,
-        potentials_of(&answer),
-        potentials,
-        potentials_needed,
-    );
-    hand_printed(status, better_of(&answer), better, better_needed);
+    let status = found.line.put(&mut line);
+    hand_printed(status, found.numbers, potentials, potentials_needed);
+    hand_printed(status, found.amounts, better, better_needed);
     hand_printed(status, line.bytes(), out, needed)
 }
 
-/// Writes the answer's line, and returns its status.
-fn put_certified<K: Sink>(
-    sink: &mut K,
-    answer: &Result<MinCertified, ArrayError>,
-) -> Result<u32, DeviceFault>
-    ensures status { IfOk result (λ status. status ≡ (printed min_printed answer.now).status) }
-    ensures line { Puts result (K.seen sink.old) (printed min_printed answer.now).line (K.seen sink.new) }
+fn certified(answer: &Result<MinCertified, ArrayError>) -> Printed<'_, u8>
+    ensures { parts result ≡ printed min_printed answer.now }
 {
     match answer {
-        Ok(MinCertified::Optimal { cost, .. }) => put_yes(sink, &Verdict::Min(*cost)),
-        Ok(MinCertified::Wide { .. }) => put_unsolved(sink),
-        Ok(MinCertified::Better(_)) => put_refusal(sink, WHOLE_FLOW, Reason::NotLeast),
-        Err(error) => put_error(sink, *error),
-    }
-}
-
-/// The potentials, if the flow costs least and they fit into an array.
-fn potentials_of(answer: &Result<MinCertified, ArrayError>) -> &[i64]
-    ensures { result.now ≡ (printed min_printed answer.now).numbers }
-{
-    match answer {
-        Ok(MinCertified::Optimal { potentials, .. }) => potentials,
-        _ => &[],
-    }
-}
-
-/// The better flow, if there is one.
-fn better_of(answer: &Result<MinCertified, ArrayError>) -> &[i64]
-    ensures { result.now ≡ (printed min_printed answer.now).amounts }
-{
-    match answer {
-        Ok(MinCertified::Better(flow)) => flow.amounts(),
-        _ => &[],
+        Ok(MinCertified::Optimal { cost, potentials }) => Printed {
+            numbers: potentials,
+            ..Printed::only(Line::Yes(Verdict::Min(*cost)))
+        },
+        Ok(MinCertified::Wide { .. }) => Printed::only(Line::GaveUp),
+        Ok(MinCertified::Better(flow)) => Printed {
+            amounts: flow.amounts(),
+            ..Printed::only(Line::No(WHOLE_FLOW, Reason::NotLeast))
+        },
+        Err(error) => Printed::only(Line::Error(*error)),
     }
 }
 
@@ -121,61 +98,35 @@ pub extern "C" fn dimacs_solve_min_arrays(
         (Some (handed potentials.old potentials.new potentials_needed.new)) (Some (handed flows.old flows.new flows_needed.new))) }
 {
     let answer = solve_min_arrays(alloc, instance, limit);
+    let found = solved(&answer);
     let mut line = MemorySink::new(alloc);
-    let status = put_solved(&mut line, &answer);
-    hand_printed(status, solved_inside(&answer), inside, inside_needed);
-    hand_printed(
-        status,
-        solved_potentials(&answer),
-        potentials,
-        potentials_needed,
-    );
-    hand_printed(status, flow_of(&answer), flows, flows_needed);
+    let status = found.line.put(&mut line);
+    hand_printed(status, found.marks, inside, inside_needed);
+    hand_printed(status, found.numbers, potentials, potentials_needed);
+    hand_printed(status, found.amounts, flows, flows_needed);
     hand_printed(status, line.bytes(), out, needed)
 }
 
-/// Writes the answer's line, and returns its status.
-fn put_solved<K: Sink>(
-    sink: &mut K,
-    answer: &Result<MinSolved, ArrayError>,
-) -> Result<u32, DeviceFault>
-    ensures status { IfOk result (λ status. status ≡ (printed min_found answer.now).status) }
-    ensures line { Puts result (K.seen sink.old) (printed min_found answer.now).line (K.seen sink.new) }
+fn solved(answer: &Result<MinSolved, ArrayError>) -> Printed<'_, u8>
+    ensures { parts result ≡ printed min_found answer.now }
 {
     match answer {
-        Ok(MinSolved::Optimal { cost, .. }) => put_yes(sink, &Verdict::Min(*cost)),
-        Ok(MinSolved::Infeasible { .. }) => put_yes(sink, &Verdict::Infeasible),
-        Ok(MinSolved::Wide { .. } | MinSolved::GaveUp) => put_unsolved(sink),
-        Err(error) => put_error(sink, *error),
-    }
-}
-
-/// The bytes of the set, if no flow is feasible.
-fn solved_inside(answer: &Result<MinSolved, ArrayError>) -> &[u8]
-    ensures { result.now ≡ (printed min_found answer.now).marks }
-{
-    match answer {
-        Ok(MinSolved::Infeasible { inside }) => inside,
-        _ => &[],
-    }
-}
-
-/// The potentials, if a flow was found and they fit into an array.
-fn solved_potentials(answer: &Result<MinSolved, ArrayError>) -> &[i64]
-    ensures { result.now ≡ (printed min_found answer.now).numbers }
-{
-    match answer {
-        Ok(MinSolved::Optimal { potentials, .. }) => potentials,
-        _ => &[],
-    }
-}
-
-/// The flow, if one was found and its potentials fit into an array.
-fn flow_of(answer: &Result<MinSolved, ArrayError>) -> &[i64]
-    ensures { result.now ≡ (printed min_found answer.now).amounts }
-{
-    match answer {
-        Ok(MinSolved::Optimal { flow, .. }) => flow.amounts(),
-        _ => &[],
+        Ok(
+            MinSolved::Optimal {
+                cost,
+                flow,
+                potentials,
+            },
+        ) => Printed {
+            numbers: potentials,
+            amounts: flow.amounts(),
+            ..Printed::only(Line::Yes(Verdict::Min(*cost)))
+        },
+        Ok(MinSolved::Infeasible { inside }) => Printed {
+            marks: inside,
+            ..Printed::only(Line::Yes(Verdict::Infeasible))
+        },
+        Ok(MinSolved::Wide { .. } | MinSolved::GaveUp) => Printed::only(Line::GaveUp),
+        Err(error) => Printed::only(Line::Error(*error)),
     }
 }

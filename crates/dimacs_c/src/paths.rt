@@ -1,19 +1,19 @@
 //! Distances over arrays.
 
-ghost use Rattle.std.specs.Prelude.{◌≡◌, None, Some, IfOk};
-ghost use Rattle.dimacs_lines.specs.Puts.{Puts};
+ghost use Rattle.std.specs.Prelude.{◌≡◌, None, Some};
 ghost use Rattle.dimacs_arrays.specs.GraphArrays.{CertifiesPathsArrays, JudgesPathsArrays, SolvesPathsArrays};
 ghost use Rattle.dimacs_c.specs.Arrays.{AnswersItems, AnswersLine, paths_found, paths_printed, buffers, printed};
-ghost use Rattle.dimacs_c.specs.Calls.{handed};
+ghost use Rattle.dimacs_c.specs.{Calls.{handed}, inside.Printed.{parts}};
 
 use crate::answer::hand_printed;
-use crate::lines::{hand_judged, put_error, put_unsolved, put_yes};
+use crate::lines::{Line, hand_judged};
+use crate::printed::Printed;
 use dimacs_arrays::{
     ArrayError, GraphArrays, PathsSolved, certify_paths_arrays, judge_paths_arrays,
     solve_paths_arrays,
 };
 use dimacs_judging::Verdict;
-use dimacs_lines::{DeviceFault, MemorySink, Sink};
+use dimacs_lines::MemorySink;
 use std::alloc::Global;
 
 /// Judges distances with predecessors, as `judge_paths_arrays`.
@@ -49,38 +49,22 @@ pub extern "C" fn dimacs_certify_paths_arrays(
         (buffers (handed out.old out.new needed.new) (Some (handed predecessors.old predecessors.new predecessors_needed.new)) None None) }
 {
     let answer = certify_paths_arrays(alloc, graph, source, distances);
+    let found = certified(&answer);
     let mut line = MemorySink::new(alloc);
-    let status = put_certified(&mut line, &answer);
-    hand_printed(
-        status,
-        predecessors_of(&answer),
-        predecessors,
-        predecessors_needed,
-    );
+    let status = found.line.put(&mut line);
+    hand_printed(status, found.marks, predecessors, predecessors_needed);
     hand_printed(status, line.bytes(), out, needed)
 }
 
-/// Writes the answer's line, and returns its status.
-fn put_certified<K: Sink>(
-    sink: &mut K,
-    answer: &Result<Vec<u32>, ArrayError>,
-) -> Result<u32, DeviceFault>
-    ensures status { IfOk result (λ status. status ≡ (printed paths_printed answer.now).status) }
-    ensures line { Puts result (K.seen sink.old) (printed paths_printed answer.now).line (K.seen sink.new) }
+fn certified(answer: &Result<Vec<u32>, ArrayError>) -> Printed<'_, u32>
+    ensures { parts result ≡ printed paths_printed answer.now }
 {
     match answer {
-        Ok(_) => put_yes(sink, &Verdict::Sources(1)),
-        Err(error) => put_error(sink, *error),
-    }
-}
-
-/// The predecessors; none if the distances are refused.
-fn predecessors_of(answer: &Result<Vec<u32>, ArrayError>) -> &[u32]
-    ensures { result.now ≡ (printed paths_printed answer.now).marks }
-{
-    match answer {
-        Ok(predecessors) => predecessors,
-        Err(_) => &[],
+        Ok(predecessors) => Printed {
+            marks: predecessors,
+            ..Printed::only(Line::Yes(Verdict::Sources(1)))
+        },
+        Err(error) => Printed::only(Line::Error(*error)),
     }
 }
 
@@ -102,54 +86,29 @@ pub extern "C" fn dimacs_solve_paths_arrays(
         (Some (handed distances.old distances.new distances_needed.new)) None) }
 {
     let answer = solve_paths_arrays(alloc, graph, source);
+    let found = solved(&answer);
     let mut line = MemorySink::new(alloc);
-    let status = put_solved(&mut line, &answer);
-    hand_printed(
-        status,
-        solved_predecessors(&answer),
-        predecessors,
-        predecessors_needed,
-    );
-    hand_printed(
-        status,
-        solved_distances(&answer),
-        distances,
-        distances_needed,
-    );
+    let status = found.line.put(&mut line);
+    hand_printed(status, found.marks, predecessors, predecessors_needed);
+    hand_printed(status, found.numbers, distances, distances_needed);
     hand_printed(status, line.bytes(), out, needed)
 }
 
-/// Writes the answer's line, and returns its status.
-fn put_solved<K: Sink>(
-    sink: &mut K,
-    answer: &Result<PathsSolved, ArrayError>,
-) -> Result<u32, DeviceFault>
-    ensures status { IfOk result (λ status. status ≡ (printed paths_found answer.now).status) }
-    ensures line { Puts result (K.seen sink.old) (printed paths_found answer.now).line (K.seen sink.new) }
+fn solved(answer: &Result<PathsSolved, ArrayError>) -> Printed<'_, u32>
+    ensures { parts result ≡ printed paths_found answer.now }
 {
     match answer {
-        Ok(PathsSolved::Distances { .. }) => put_yes(sink, &Verdict::Sources(1)),
-        Ok(PathsSolved::Wide(_)) => put_unsolved(sink),
-        Err(error) => put_error(sink, *error),
-    }
-}
-
-/// The predecessors, if the distances fit into an array.
-fn solved_predecessors(answer: &Result<PathsSolved, ArrayError>) -> &[u32]
-    ensures { result.now ≡ (printed paths_found answer.now).marks }
-{
-    match answer {
-        Ok(PathsSolved::Distances { predecessors, .. }) => predecessors,
-        _ => &[],
-    }
-}
-
-/// The distances, if they fit into an array.
-fn solved_distances(answer: &Result<PathsSolved, ArrayError>) -> &[i64]
-    ensures { result.now ≡ (printed paths_found answer.now).numbers }
-{
-    match answer {
-        Ok(PathsSolved::Distances { distances, .. }) => distances,
-        _ => &[],
+        Ok(
+            PathsSolved::Distances {
+                distances,
+                predecessors,
+            },
+        ) => Printed {
+            marks: predecessors,
+            numbers: distances,
+            ..Printed::only(Line::Yes(Verdict::Sources(1)))
+        },
+        Ok(PathsSolved::Wide(_)) => Printed::only(Line::GaveUp),
+        Err(error) => Printed::only(Line::Error(*error)),
     }
 }

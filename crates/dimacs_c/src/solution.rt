@@ -1,19 +1,17 @@
 //! Reading solutions into arrays, and writing them.
 
-ghost use Rattle.std.specs.Prelude.{◌≡◌, None, Some, IfOk};
-ghost use Rattle.dimacs_lines.specs.Puts.{Puts};
+ghost use Rattle.std.specs.Prelude.{◌≡◌, None, Some};
 ghost use Rattle.dimacs_arrays.specs.SolutionArrays.{MakesSolutionArrays, ReadsSolutionArrays};
 ghost use Rattle.dimacs_c.specs.{ArrayTexts.{AnswersClaim, flow_read, solution_text}, Calls.{handed}};
-ghost use Rattle.dimacs_c.specs.{Arrays.{AnswersItems, buffers, printed}, inside.ArrayTexts.{value_if}};
+ghost use Rattle.dimacs_c.specs.{Arrays.{AnswersItems, buffers, printed}, inside.Printed.{parts, value_if}};
 
 use crate::answer::hand_printed;
-use crate::lines::put_error;
+use crate::lines::Line;
+use crate::printed::Printed;
 use crate::written::hand_text;
 use dimacs_arrays::{ArrayError, ClaimedFlow, EndArrays, read_solution_arrays, solution_of_arrays};
-use dimacs_lines::{DeviceFault, MemorySink, Sink};
+use dimacs_lines::{DeviceFault, MemorySink};
 use std::alloc::Global;
-
-const DONE: u32 = 0;
 
 /// Reads a solution over these arcs, as `read_solution_arrays`. `flows` gets an amount for each arc.
 #[unsafe(no_mangle)]
@@ -38,24 +36,23 @@ pub extern "C" fn dimacs_read_solution(
         heads,
     };
     let answer = read_solution_arrays(alloc, &arcs, text);
+    let found = claimed(&answer);
     let mut line = MemorySink::new(alloc);
-    let status = put_read(&mut line, &answer);
+    let status = found.line.put(&mut line);
     *value = value_of(status, &answer);
-    hand_printed(status, amounts_of(&answer), flows, flows_needed);
+    hand_printed(status, found.amounts, flows, flows_needed);
     hand_printed(status, line.bytes(), out, needed)
 }
 
-/// Writes the line of an error, and returns the status.
-fn put_read<K: Sink>(
-    sink: &mut K,
-    answer: &Result<ClaimedFlow, ArrayError>,
-) -> Result<u32, DeviceFault>
-    ensures status { IfOk result (λ status. status ≡ (printed flow_read answer.now).status) }
-    ensures line { Puts result (K.seen sink.old) (printed flow_read answer.now).line (K.seen sink.new) }
+fn claimed(answer: &Result<ClaimedFlow, ArrayError>) -> Printed<'_, u8>
+    ensures { parts result ≡ printed flow_read answer.now }
 {
     match answer {
-        Ok(_) => Ok(DONE),
-        Err(error) => put_error(sink, *error),
+        Ok(claimed) => Printed {
+            amounts: claimed.flow.amounts(),
+            ..Printed::only(Line::Read)
+        },
+        Err(error) => Printed::only(Line::Error(*error)),
     }
 }
 
@@ -66,15 +63,6 @@ fn value_of(status: Result<u32, DeviceFault>, answer: &Result<ClaimedFlow, Array
     match (status, answer) {
         (Ok(_), Ok(claimed)) => claimed.value,
         _ => 0,
-    }
-}
-
-fn amounts_of(answer: &Result<ClaimedFlow, ArrayError>) -> &[i64]
-    ensures { result.now ≡ (printed flow_read answer.now).amounts }
-{
-    match answer {
-        Ok(claimed) => claimed.flow.amounts(),
-        Err(_) => &[],
     }
 }
 

@@ -1,13 +1,13 @@
 //! Solving texts in memory.
 
 ghost use Rattle.std.specs.Prelude.{◌∷◌, []};
-ghost use Rattle.dimacs_c.specs.{Calls.{AnswersTexts, AnswersTextsKind, handed}, Kinds.{solve_job}};
+ghost use Rattle.dimacs_c.specs.{Calls.{AnswersTextsKind, handed}, Kinds.{solve_job}};
 ghost use Rattle.dimacs_runs.specs.{Outputs.{MayWrite}, Solved.{Solved}};
 
 use crate::answer::{end, misuse};
 use crate::kinds::solve_of;
 use dimacs_lines::{MemorySink, MemorySource};
-use dimacs_runs::{SolveJob, run_solve};
+use dimacs_runs::run_solve;
 use std::alloc::Global;
 
 /// Solves an instance, as `dimacs solve-max` and so on. `solution` gets the solution, and `certificate` its certificate.
@@ -30,43 +30,11 @@ pub extern "C" fn dimacs_solve(
         (handed solution.old solution.new solution_needed.new ∷ handed certificate.old certificate.new certificate_needed.new
         ∷ handed out.old out.new needed.new ∷ []) }
 {
-    match solve_of(kind, limit) {
-        Some(job) => solve(
-            alloc,
-            job,
-            instance,
-            queries,
-            out,
-            needed,
-            solution,
-            solution_needed,
-            certificate,
-            certificate_needed,
-        ),
-        None => {
-            misuse(solution_needed);
-            misuse(certificate_needed);
-            misuse(needed)
-        }
-    }
-}
-
-fn solve(
-    alloc: Global,
-    job: SolveJob,
-    instance: &[u8],
-    queries: &[u8],
-    out: &mut [u8],
-    needed: &mut usize,
-    solution: &mut [u8],
-    solution_needed: &mut usize,
-    certificate: &mut [u8],
-    certificate_needed: &mut usize,
-) -> u32
-    ensures { AnswersTexts (MayWrite (Solved job instance.now queries.now)) result
-        (handed solution.old solution.new solution_needed.new ∷ handed certificate.old certificate.new certificate_needed.new
-        ∷ handed out.old out.new needed.new ∷ []) }
-{
+    let Some(job) = solve_of(kind, limit) else {
+        misuse(solution_needed);
+        misuse(certificate_needed);
+        return misuse(needed);
+    };
     let mut claim = MemorySink::new(alloc);
     let mut text = MemorySink::new(alloc);
     let mut report = MemorySink::new(alloc);

@@ -1,13 +1,13 @@
 //! Dealing out claimed flows in memory.
 
 ghost use Rattle.std.specs.Prelude.{◌∷◌, []};
-ghost use Rattle.dimacs_c.specs.{Calls.{AnswersTexts, AnswersTextsKind, handed}, Kinds.{spread_kind}};
+ghost use Rattle.dimacs_c.specs.{Calls.{AnswersTextsKind, handed}, Kinds.{spread_kind}};
 ghost use Rattle.dimacs_runs.specs.{Outputs.{WritesAlike}, Spread.{Spreads}};
 
 use crate::answer::{end, misuse};
 use crate::kinds::spread_of;
 use dimacs_lines::{MemorySink, MemorySource};
-use dimacs_runs::{SpreadKind, run_spread};
+use dimacs_runs::run_spread;
 use std::alloc::Global;
 
 /// Deals out a claimed flow to parallel arcs, as `dimacs spread-max` and so on. `solution` gets the flow.
@@ -25,37 +25,10 @@ pub extern "C" fn dimacs_spread(
     ensures { AnswersTextsKind (spread_kind kind) (λ k. WritesAlike (Spreads k instance.now claim.now)) result
         (handed solution.old solution.new solution_needed.new ∷ handed out.old out.new needed.new ∷ []) }
 {
-    match spread_of(kind) {
-        Some(kind) => spread(
-            alloc,
-            kind,
-            instance,
-            claim,
-            out,
-            needed,
-            solution,
-            solution_needed,
-        ),
-        None => {
-            misuse(solution_needed);
-            misuse(needed)
-        }
-    }
-}
-
-fn spread(
-    alloc: Global,
-    kind: SpreadKind,
-    instance: &[u8],
-    claim: &[u8],
-    out: &mut [u8],
-    needed: &mut usize,
-    solution: &mut [u8],
-    solution_needed: &mut usize,
-) -> u32
-    ensures { AnswersTexts (WritesAlike (Spreads kind instance.now claim.now)) result
-        (handed solution.old solution.new solution_needed.new ∷ handed out.old out.new needed.new ∷ []) }
-{
+    let Some(kind) = spread_of(kind) else {
+        misuse(solution_needed);
+        return misuse(needed);
+    };
     let mut text = MemorySink::new(alloc);
     let mut report = MemorySink::new(alloc);
     let mut first = MemorySource::new(instance);

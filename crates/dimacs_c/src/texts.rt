@@ -1,12 +1,11 @@
 //! Converting and describing texts in memory.
 
-ghost use Rattle.dimacs_c.specs.{Calls.{Answers, AnswersKind, handed}, Kinds.{text_kind}};
+ghost use Rattle.dimacs_c.specs.{Calls.{AnswersKind, handed}, Kinds.{text_kind}};
 ghost use Rattle.dimacs_runs.specs.{Runs.{Prints}, declared.text.TextForm.TheVariants.{Canonical, Summary}};
 
 use crate::answer::{end, misuse};
 use crate::kinds::text_of;
 use dimacs_lines::{MemorySink, MemorySource};
-use dimacs_records::TextKind;
 use dimacs_runs::{run_convert, run_show};
 use std::alloc::Global;
 
@@ -21,15 +20,9 @@ pub extern "C" fn dimacs_convert(
 ) -> u32
     ensures { AnswersKind (text_kind kind) (λ k. Prints Canonical k text.now) result (handed out.old out.new needed.new) }
 {
-    match text_of(kind) {
-        Some(kind) => convert(alloc, kind, text, out, needed),
-        None => misuse(needed),
-    }
-}
-
-fn convert(alloc: Global, kind: TextKind, text: &[u8], out: &mut [u8], needed: &mut usize) -> u32
-    ensures { Answers (Prints Canonical kind text.now) result (handed out.old out.new needed.new) }
-{
+    let Some(kind) = text_of(kind) else {
+        return misuse(needed);
+    };
     let mut sink = MemorySink::new(alloc);
     let mut source = MemorySource::new(text);
     let ended = run_convert(alloc, kind, &mut source, &mut sink);
@@ -47,15 +40,9 @@ pub extern "C" fn dimacs_show(
 ) -> u32
     ensures { AnswersKind (text_kind kind) (λ k. Prints Summary k text.now) result (handed out.old out.new needed.new) }
 {
-    match text_of(kind) {
-        Some(kind) => show(alloc, kind, text, out, needed),
-        None => misuse(needed),
-    }
-}
-
-fn show(alloc: Global, kind: TextKind, text: &[u8], out: &mut [u8], needed: &mut usize) -> u32
-    ensures { Answers (Prints Summary kind text.now) result (handed out.old out.new needed.new) }
-{
+    let Some(kind) = text_of(kind) else {
+        return misuse(needed);
+    };
     let mut sink = MemorySink::new(alloc);
     let mut source = MemorySource::new(text);
     let ended = run_show(alloc, kind, &mut source, &mut sink);

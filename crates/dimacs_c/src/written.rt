@@ -2,10 +2,10 @@
 
 ghost use Rattle.std.specs.Prelude.{◌≡◌, IfOk};
 ghost use Rattle.dimacs_lines.specs.Puts.{Puts};
-ghost use Rattle.dimacs_c.specs.{Arrays.{only, printed}, Calls.{handed}, inside.Arrays.{EndsLine}};
+ghost use Rattle.dimacs_c.specs.{Arrays.{only, printed}, Calls.{handed}, inside.Printed.{EndsWhole}};
 
 use crate::answer::hand_printed;
-use crate::lines::put_error;
+use crate::lines::Line;
 use dimacs_arrays::ArrayError;
 use dimacs_lines::{DeviceFault, MemorySink, Sink};
 use dimacs_records::Writable;
@@ -20,7 +20,7 @@ pub(crate) fn hand_text<T: Writable>(
     out: &mut [u8],
     needed: &mut usize,
 ) -> u32
-    ensures { EndsLine (printed (λ v. only 0 (T.canonical (T.content v))) answer.now) result (handed out.old out.new needed.new) }
+    ensures { EndsWhole (printed (λ v. only 0 (T.canonical (T.content v))) answer.now) result (handed out.old out.new needed.new) }
 {
     let mut text = MemorySink::new(alloc);
     let status = put_text(&mut text, answer);
@@ -39,6 +39,6 @@ fn put_text<T: Writable, K: Sink>(
             value.write(sink)?;
             Ok(DONE)
         }
-        Err(error) => put_error(sink, *error),
+        Err(error) => Line::Error(*error).put(sink),
     }
 }

@@ -8,6 +8,7 @@ use Rattle.dimacs_c.proofs.max.dimacs_certify_max_arrays.Goals as goal
 pub returns : goal.returns
 returns c =
     items_answered max_printed (CertifiesMaxArrays c.args.instance.now c.args.flows.now) tt c.certify_max_arrays-answer.result c.certify_max_arrays-answer.ensures
-    c.put_certified-status.result c.put_certified-status.ensures.status c.new-line.result.bytes c.put_certified-status.new.sink.bytes (ap (λ (m : InMemory). m.bytes) c.new-line.ensures) c.put_certified-status.ensures.line.accepted
+    c.certified-found.result c.certified-found.ensures
+    c.put-status.result c.put-status.ensures.status c.new-line.result.bytes c.put-status.new.sink.bytes (ap (λ (m : InMemory). m.bytes) c.new-line.ensures) c.put-status.ensures.line.accepted
     (buffers (handed c.args.out.now c.hand_printed-3.new.buffer c.hand_printed-3.new.needed) (Some (handed c.args.inside.now c.hand_printed.new.buffer c.hand_printed.new.needed)) None (Some (handed c.args.better.now c.hand_printed-2.new.buffer c.hand_printed-2.new.needed))) c.hand_printed-3.result (rw c.bytes.ensures at c.hand_printed-3.ensures)
-    (c.hand_printed.result, rw c.inside_of.ensures at c.hand_printed.ensures) tt (c.hand_printed-2.result, rw c.better_of.ensures at c.hand_printed-2.ensures)
+    (c.hand_printed.result, c.hand_printed.ensures) tt (c.hand_printed-2.result, c.hand_printed-2.ensures)

@@ -8,6 +8,7 @@ use Rattle.dimacs_c.proofs.min.dimacs_certify_min_arrays.Goals as goal
 pub returns : goal.returns
 returns c =
     items_answered min_printed (CertifiesMinArrays c.args.instance.now c.args.flows.now) tt c.certify_min_arrays-answer.result c.certify_min_arrays-answer.ensures
-    c.put_certified-status.result c.put_certified-status.ensures.status c.new-line.result.bytes c.put_certified-status.new.sink.bytes (ap (λ (m : InMemory). m.bytes) c.new-line.ensures) c.put_certified-status.ensures.line.accepted
+    c.certified-found.result c.certified-found.ensures
+    c.put-status.result c.put-status.ensures.status c.new-line.result.bytes c.put-status.new.sink.bytes (ap (λ (m : InMemory). m.bytes) c.new-line.ensures) c.put-status.ensures.line.accepted
     (buffers (handed c.args.out.now c.hand_printed-3.new.buffer c.hand_printed-3.new.needed) None (Some (handed c.args.potentials.now c.hand_printed.new.buffer c.hand_printed.new.needed)) (Some (handed c.args.better.now c.hand_printed-2.new.buffer c.hand_printed-2.new.needed))) c.hand_printed-3.result (rw c.bytes.ensures at c.hand_printed-3.ensures)
-    tt (c.hand_printed.result, rw c.potentials_of.ensures at c.hand_printed.ensures) (c.hand_printed-2.result, rw c.better_of.ensures at c.hand_printed-2.ensures)
+    tt (c.hand_printed.result, c.hand_printed.ensures) (c.hand_printed-2.result, c.hand_printed-2.ensures)

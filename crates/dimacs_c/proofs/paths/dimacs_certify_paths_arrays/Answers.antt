@@ -8,6 +8,7 @@ use Rattle.dimacs_c.proofs.paths.dimacs_certify_paths_arrays.Goals as goal
 pub returns : goal.returns
 returns c =
     items_answered paths_printed (CertifiesPathsArrays c.args.graph.now c.args.source c.args.distances.now) tt c.certify_paths_arrays-answer.result c.certify_paths_arrays-answer.ensures
-    c.put_certified-status.result c.put_certified-status.ensures.status c.new-line.result.bytes c.put_certified-status.new.sink.bytes (ap (λ (m : InMemory). m.bytes) c.new-line.ensures) c.put_certified-status.ensures.line.accepted
+    c.certified-found.result c.certified-found.ensures
+    c.put-status.result c.put-status.ensures.status c.new-line.result.bytes c.put-status.new.sink.bytes (ap (λ (m : InMemory). m.bytes) c.new-line.ensures) c.put-status.ensures.line.accepted
     (buffers (handed c.args.out.now c.hand_printed-2.new.buffer c.hand_printed-2.new.needed) (Some (handed c.args.predecessors.now c.hand_printed.new.buffer c.hand_printed.new.needed)) None None) c.hand_printed-2.result (rw c.bytes.ensures at c.hand_printed-2.ensures)
-    (c.hand_printed.result, rw c.predecessors_of.ensures at c.hand_printed.ensures) tt tt
+    (c.hand_printed.result, c.hand_printed.ensures) tt tt

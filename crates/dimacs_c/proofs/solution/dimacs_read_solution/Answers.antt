@@ -9,8 +9,8 @@ pub returns : goal.returns
 returns c =
     let fits : SFits w64 c.value_of.result = search rules in
     rw (to_z-of_z w64 c.value_of.result fits) (
-    claim_answered flow_read (ReadsSolutionArrays (record { nodes = c.args.nodes; tails = c.args.tails; heads = c.args.heads }) c.args.text.now) tt c.read_solution_arrays-answer.result c.read_solution_arrays-answer.ensures value_read
-    c.put_read-status.result c.put_read-status.ensures.status c.new-line.result.bytes c.put_read-status.new.sink.bytes (ap (λ (m : InMemory). m.bytes) c.new-line.ensures) c.put_read-status.ensures.line.accepted
+    claim_answered flow_read (ReadsSolutionArrays (record { nodes = c.args.nodes; tails = c.args.tails; heads = c.args.heads }) c.args.text.now) tt c.read_solution_arrays-answer.result c.read_solution_arrays-answer.ensures c.claimed-found.result c.claimed-found.ensures value_read
+    c.put-status.result c.put-status.ensures.status c.new-line.result.bytes c.put-status.new.sink.bytes (ap (λ (m : InMemory). m.bytes) c.new-line.ensures) c.put-status.ensures.line.accepted
     (buffers (handed c.args.out.now c.hand_printed-2.new.buffer c.hand_printed-2.new.needed) None None (Some (handed c.args.flows.now c.hand_printed.new.buffer c.hand_printed.new.needed))) c.hand_printed-2.result (rw c.bytes.ensures at c.hand_printed-2.ensures)
-    tt tt (c.hand_printed.result, rw c.amounts_of.ensures at c.hand_printed.ensures) _ (value_set c.put_read-status.result c.read_solution_arrays-answer.result _ c.value_of.ensures)
+    tt tt (c.hand_printed.result, c.hand_printed.ensures) _ (value_set c.put-status.result c.read_solution_arrays-answer.result _ c.value_of.ensures)
     )

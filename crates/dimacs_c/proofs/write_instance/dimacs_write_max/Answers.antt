@@ -1,12 +1,7 @@
-use Rattle.std.proofs.Common.{None, ap}
-use Rattle.dimacs_lines.specs.Devices.{InMemory}
 use Rattle.dimacs_arrays.specs.Spelled.{SpellsMaxArrays}
-use Rattle.dimacs_c.specs.{ArrayTexts.{max_text}, Arrays.{buffers}, Calls.{handed}}
-use Rattle.dimacs_c.proofs.ArrayLemmas.{items_answered}
+use Rattle.dimacs_c.specs.{ArrayTexts.{max_text}, Calls.{handed}}
+use Rattle.dimacs_c.proofs.ArrayLemmas.{text_answered}
 use Rattle.dimacs_c.proofs.write_instance.dimacs_write_max.Goals as goal
 
 pub returns : goal.returns
-returns c =
-    items_answered max_text (SpellsMaxArrays c.args.instance.now) tt c.max_over-answer.result c.max_over-answer.ensures
-    c.put_max-status.result c.put_max-status.ensures.status c.new-text.result.bytes c.put_max-status.new.sink.bytes (ap (λ (m : InMemory). m.bytes) c.new-text.ensures) c.put_max-status.ensures.text.accepted
-    (buffers (handed c.args.out.now c.hand_printed.new.buffer c.hand_printed.new.needed) None None None) c.hand_printed.result (rw c.bytes.ensures at c.hand_printed.ensures) tt tt tt
+returns c = text_answered max_text (SpellsMaxArrays c.args.instance.now) tt c.max_over-answer.result c.max_over-answer.ensures c.hand_text.result (handed c.args.out.now c.hand_text.new.out c.hand_text.new.needed) c.hand_text.ensures

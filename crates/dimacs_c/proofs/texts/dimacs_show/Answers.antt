@@ -1,12 +1,14 @@
-use Rattle.std.proofs.Common.{Some, ap}
+use Rattle.std.proofs.Common.{◌∙◌, Some, ap, sym}
 use Rattle.dimacs_lines.specs.Devices.{InMemory}
 use Rattle.dimacs_runs.specs.{Runs.{Prints}, declared.text.TextForm.TheVariants.{Summary}}
 use Rattle.dimacs_c.specs.Calls.{handed}
 use Rattle.dimacs_c.proofs.CallLemmas.{answered}
-use Rattle.dimacs_c.proofs.texts.show.Goals as goal
+use Rattle.dimacs_c.proofs.texts.dimacs_show.Goals as goal
 
 pub returns : goal.returns
 returns c =
     let reports = c.run_show-ended.ensures.reports c.args.text.now (ap Some c.new-source.ensures) in
-    answered (Prints Summary c.args.kind c.args.text.now) c.run_show-ended.result c.new-sink.result.bytes c.run_show-ended.new.sink.bytes c.end.result (handed c.args.out.now c.end.new.out c.end.new.needed)
+    rw (sym c.text_of.ensures ∙ c.in-Some.is) (
+    answered (Prints Summary c.in-Some.kind c.args.text.now) c.run_show-ended.result c.new-sink.result.bytes c.run_show-ended.new.sink.bytes c.end.result (handed c.args.out.now c.end.new.out c.end.new.needed)
     (ap (λ (m : InMemory). m.bytes) c.new-sink.ensures) reports (rw c.bytes.ensures at c.end.ensures)
+    )

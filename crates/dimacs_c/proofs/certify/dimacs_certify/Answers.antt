@@ -1,9 +1,9 @@
-use Rattle.std.proofs.Common.{[], ◌∷◌, Some, ap}
+use Rattle.std.proofs.Common.{◌∙◌, [], ◌∷◌, Some, ap, sym}
 use Rattle.dimacs_lines.specs.Devices.{InMemory}
 use Rattle.dimacs_runs.specs.{Certified.{Certified}, Outputs.{WritesAlike}}
 use Rattle.dimacs_c.specs.Calls.{handed}
 use Rattle.dimacs_c.proofs.CallLemmas.{answered_texts}
-use Rattle.dimacs_c.proofs.certify.certify.Goals as goal
+use Rattle.dimacs_c.proofs.certify.dimacs_certify.Goals as goal
 
 pub returns : goal.returns
 returns c =
@@ -13,6 +13,8 @@ returns c =
     let reports = rw (ap (λ (m : InMemory). m.bytes) c.new-text.ensures, ap (λ (m : InMemory). m.bytes) c.new-report.ensures) at reported in
     let handed_text = rw c.bytes.ensures at c.end.ensures in
     let printed = rw c.bytes-2.ensures at c.end-2.ensures in
-    answered_texts (WritesAlike (Certified c.args.kind a b)) c.run_certify-ended.result
+    rw (sym c.judge_of.ensures ∙ c.in-Some.is) (
+    answered_texts (WritesAlike (Certified c.in-Some.kind a b)) c.run_certify-ended.result
     ((c.run_certify-ended.new.certificate_out.bytes, handed c.args.certificate.now c.end.new.out c.end.new.needed) ∷ (c.run_certify-ended.new.report.bytes, handed c.args.out.now c.end-2.new.out c.end-2.new.needed) ∷ [])
     c.run_certify-ended.new.report.bytes c.end-2.result (handed c.args.out.now c.end-2.new.out c.end-2.new.needed) reports ((c.end.result, handed_text), ((c.end-2.result, printed), tt)) printed
+    )
