@@ -7,7 +7,7 @@ use Rattle.dimacs_arrays.specs.{declared.error.ArrayError.{ArrayError}, declared
 use Rattle.dimacs_fill.specs.{declared.error.FillError.{FillError}, declared.error.FillError.TheVariants.{Unread, Node}}
 use Rattle.dimacs_fill.specs.Filling.{ReadsArcsInto, ReadsFitting, ReadsInto}
 use Rattle.dimacs_c.specs.{ArrayTexts.{value_read}, Calls.{Handed, handed}, Reading.{AnswersFilled, AnswersRead}}
-use Rattle.dimacs_c.specs.{inside.ArrayTexts.{value_if}, inside.Reading.{EndsUnfilled, EndsUnread}}
+use Rattle.dimacs_c.specs.{inside.Printed.{value_if}, inside.Reading.{EndsUnfilled, EndsUnread}}
 use Rattle.dimacs_c.proofs.ArrayLemmas.{IsSet, none_by}
 
 -- out of memory is a possible result after any other error
