@@ -276,7 +276,7 @@ struct CertifiedMax {
 // The flow costs least, as the potentials show.
 template <class Potentials>
 struct CertifiedMin {
-    Value cost;
+    Value value;  // the cost
     Potentials potentials;
 };
 
@@ -303,7 +303,7 @@ struct SolvedMax {
 // A flow of least cost, with the potentials that show it.
 template <class Flow, class Potentials>
 struct SolvedMin {
-    Value cost;
+    Value value;  // the cost
     Flow flows;
     Potentials potentials;
 };
@@ -386,21 +386,21 @@ struct InText {
 
 // The first fault of a text, or the first test that fails. What doesn't apply is empty.
 struct Refused {
-    std::string line;    // as the command prints it, without its end: "x arc 3 AboveCap"
-    std::string reason;  // its word: "AboveCap"
+    std::string printed;  // as the command prints it, without the end of its line: "x arc 3 AboveCap"
+    std::string reason;   // its word: "AboveCap"
     std::optional<InText> text;
     std::optional<std::uint64_t> arc, node;  // from 1
 
-    const std::string &message() const noexcept { return line; }
+    const std::string &message() const noexcept { return printed; }
 };
 
 // The flow is feasible and has the claimed value, but there is a better one.
 template <class Flow>
 struct NotOptimal {
-    std::string line;  // as the command prints it, without its end: "x solution 0 0 NotMaximum"
+    std::string printed;  // as the command prints it, without the end of its line: "x solution 0 0 NotMaximum"
     Flow better;
 
-    const std::string &message() const noexcept { return line; }
+    const std::string &message() const noexcept { return printed; }
 };
 
 // The same with the text of a solution. It is missing if its cost is out of the range of such texts.
@@ -446,7 +446,7 @@ class WrongLength : public std::invalid_argument {
 // The first number of an instance that is past its limit. Nothing was judged.
 class PastLimit : public std::invalid_argument {
   public:
-    explicit PastLimit(const Refused &refused) : PastLimit(refused, refused.line) {}
+    explicit PastLimit(const Refused &refused) : PastLimit(refused, refused.printed) {}
 
     // Copied, and not moved: what was moved from would have nothing to refer to.
     PastLimit(const PastLimit &) = default;
@@ -487,10 +487,12 @@ class [[nodiscard]] Answer {
     bool has_value() const noexcept { return it_.index() == 0; }
     explicit operator bool() const noexcept { return has_value(); }
 
-    // The yes. If it is a no, the behaviour is undefined, as for std::optional.
+    // The yes. If it is a no, the behaviour is undefined, as for std::optional. What refers into an answer wants one that
+    // stands in a variable; one that is gone at once hands out its yes by value.
     const Yes &operator*() const & noexcept { return *std::get_if<0>(&it_); }
-    Yes &&operator*() && noexcept { return std::move(*std::get_if<0>(&it_)); }
-    const Yes *operator->() const noexcept { return std::get_if<0>(&it_); }
+    Yes operator*() && { return std::move(*std::get_if<0>(&it_)); }
+    const Yes *operator->() const & noexcept { return std::get_if<0>(&it_); }
+    const Yes *operator->() const && = delete;
 
     // The yes. Throws BadAnswer with the message of a no.
     const Yes &value() const & {
@@ -504,8 +506,16 @@ class [[nodiscard]] Answer {
 
     // The yes or the no of this type, or null if the answer is another one.
     template <class It>
-    const It *get_if() const noexcept {
+    const It *get_if() const & noexcept {
         return std::get_if<It>(&it_);
+    }
+    template <class It>
+    const It *get_if() const && = delete;
+
+    // Whether it is the yes or the no of this type.
+    template <class It>
+    bool holds() const noexcept {
+        return std::holds_alternative<It>(it_);
     }
 
     // The message of a no; empty for a yes.
@@ -522,7 +532,8 @@ class [[nodiscard]] Answer {
     }
 
     // All of them, for std::visit.
-    const std::variant<Yes, No...> &variant() const noexcept { return it_; }
+    const std::variant<Yes, No...> &variant() const & noexcept { return it_; }
+    std::variant<Yes, No...> variant() && { return std::move(it_); }
 
   private:
     std::variant<Yes, No...> it_;
@@ -578,7 +589,7 @@ inline Refused refused(std::string_view line) {
     const bool is_item = place == "arc" || place == "node";
     const auto fields = words_of(line, is_item ? 4 : 5, {"x"});
     Refused it;
-    it.line = line.substr(0, line.find('\n'));
+    it.printed = line.substr(0, line.find('\n'));
     it.reason = fields.back();
     if (is_item) {
         (place == "arc" ? it.arc : it.node) = number_of(fields[2], line);
@@ -850,7 +861,7 @@ inline Answer<CertifiedText, NotOptimalText, Refused> certify_flow(std::uint32_t
     if (is_yes) return CertifiedText{value_of(line), std::move(shown)};
     Refused no = refused(line);
     if (!is_not_optimal(no)) return no;
-    return NotOptimalText{no.line, shown.empty() ? std::nullopt : std::optional(std::move(shown))};
+    return NotOptimalText{no.printed, shown.empty() ? std::nullopt : std::optional(std::move(shown))};
 }
 
 // What dimacs_solve hands out: the lines, and the two texts.
@@ -1048,7 +1059,7 @@ inline Answer<CertifiedMax<Inside>, NotOptimal<Flows>, Refused> certify_max(cons
     const std::uint32_t status = detail::call(dimacs_certify_max_arrays, &arrays, flows, line, inside, better);
     if (status == DIMACS_DONE) return CertifiedMax<Inside>{detail::value_of(line.text()), inside.take()};
     Refused no = detail::refused(line.text());
-    if (detail::is_not_optimal(no)) return NotOptimal<Flows>{no.line, better.take()};
+    if (detail::is_not_optimal(no)) return NotOptimal<Flows>{no.printed, better.take()};
     return no;
 }
 
@@ -1065,7 +1076,7 @@ inline Answer<CertifiedMin<Potentials>, NotOptimal<Flows>, GaveUp, Refused> cert
     if (status == DIMACS_DONE) return CertifiedMin<Potentials>{detail::value_of(line.text()), potentials.take()};
     if (status == DIMACS_GAVE_UP) return GaveUp{};
     Refused no = detail::refused(line.text());
-    if (detail::is_not_optimal(no)) return NotOptimal<Flows>{no.line, better.take()};
+    if (detail::is_not_optimal(no)) return NotOptimal<Flows>{no.printed, better.take()};
     return no;
 }
 

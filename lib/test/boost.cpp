@@ -85,9 +85,9 @@ static void maximum_flow(Graph &graph) {
     check_that("push_relabel_max_flow's flow", yes && yes->value == value && value > 0);
     check_that("by a cut", yes->inside[from] && !get(yes->inside, to));
     const long again = send_by_augmenting(graph, from, to);
-    check_that("boykov_kolmogorov_max_flow's flow", certify_max(graph, from, to)->value == again && again == value);
+    check_that("boykov_kolmogorov_max_flow's flow", certify_max(graph, from, to).value().value == again && again == value);
     boost::edmonds_karp_max_flow(graph, from, to, maps(graph));
-    check_that("edmonds_karp_max_flow's flow", certify_max(graph, from, to)->value == value);
+    check_that("edmonds_karp_max_flow's flow", certify_max(graph, from, to).value().value == value);
 
     Edge full = *edges(graph).first;
     for (auto range = edges(graph); range.first != range.second; ++range.first) {
@@ -130,8 +130,8 @@ static void edges_both_ways() {
     const Edge edge = add(graph, 0, 1, 5, 0);
     graph[graph[edge].reverse].capacity = 3;  // an edge of its own too
     const long value = send_by_augmenting(graph, 1, 0);
-    check_that("a flow along a reverse edge", value == 3 && certify_max(graph, 1, 0)->value == 3);
-    check_that("the other way it isn't maximum", certify_max(graph, 0, 1).get_if<Better>() != nullptr);
+    check_that("a flow along a reverse edge", value == 3 && certify_max(graph, 1, 0).value().value == 3);
+    check_that("the other way it isn't maximum", certify_max(graph, 0, 1).holds<Better>());
 }
 
 static auto certify_min(const Graph &graph, Vertex from, Vertex to) {
@@ -143,7 +143,7 @@ static void least_cost(Graph &graph) {
     const Vertex from = 0, to = FEW_NODES / 2;
     boost::successive_shortest_path_nonnegative_weights(graph, from, to, maps(graph));
     const auto yes = certify_min(graph, from, to);
-    check_that("successive_shortest_path's flow", yes && yes->cost != 0);
+    check_that("successive_shortest_path's flow", yes && yes->value != 0);
     check_that("which is maximum too", certify_max(graph, from, to).has_value());
 
     boost::push_relabel_max_flow(graph, from, to, maps(graph));
@@ -152,7 +152,7 @@ static void least_cost(Graph &graph) {
     check_that("a flow that costs more", better && no.message() == "x solution 0 0 NotLeast");
     boost::cycle_canceling(graph, maps(graph));
     const auto canceled = certify_min(graph, from, to);
-    check_that("cycle_canceling's flow", canceled && canceled->cost == yes->cost);
+    check_that("cycle_canceling's flow", canceled && canceled->value == yes->value);
 }
 
 static void distances(const Graph &graph) {
@@ -210,11 +210,11 @@ static void values_past_64_bits() {
         return graph;
     };
     const Graph least = flow_between(LONG_MAX, 1, 1);
-    is("the value -2^63", certify_min(least, 0, 1)->cost.str(), "9223372036854775808");
-    is("2^63", certify_min(least, 1, 0)->cost.str(), "9223372036854775808");
+    is("the value -2^63", certify_min(least, 0, 1).value().value.str(), "9223372036854775808");
+    is("2^63", certify_min(least, 1, 0).value().value.str(), "9223372036854775808");
     const Graph wide = flow_between(LONG_MAX, LONG_MAX, 1);
-    is("-2^64 + 2", certify_min(wide, 0, 1)->cost.str(), "18446744073709551614");
-    is("2^64 - 2", certify_min(wide, 1, 0)->cost.str(), "18446744073709551614");
+    is("-2^64 + 2", certify_min(wide, 0, 1).value().value.str(), "18446744073709551614");
+    is("2^64 - 2", certify_min(wide, 1, 0).value().value.str(), "18446744073709551614");
 
     Graph dear = flow_between(LONG_MAX, LONG_MAX, 1);
     const Edge cheap = add(dear, 1, 0, 3, 0);
@@ -256,7 +256,7 @@ static void hidden_vertices() {
     }
     const auto cut = dimacs::boost::certify_max(part, 0, 1, capacity, left);
     const auto least = dimacs::boost::certify_min(part, 0, 1, capacity, left, weight);
-    check_that("a part of a graph", cut && cut->inside[0] && !cut->inside[1] && least && least->cost == 0);
+    check_that("a part of a graph", cut && cut->inside[0] && !cut->inside[1] && least && least->value == 0);
     for (const Vertex none : {Vertex(2), Vertex(3)}) {
         throws<std::out_of_range>("its mark", [&] { return cut->inside[none]; });
         throws<std::out_of_range>("its potential", [&] { return get(least->potentials, none); });
@@ -330,8 +330,8 @@ static void limits() {
     throws<std::out_of_range>("a residual one", [&] { return certify(5, bits); }, "x arc (0,1) NumberRange");
     throws<std::out_of_range>("below", [&] { return certify(5, -bits); }, "x arc (0,1) NumberRange");
     throws<std::out_of_range>("a flow of 2^63", [&] { return certify(INT64_MAX, -1); }, "x arc (0,1) NumberRange");
-    is("2^63 - 1", certify(INT64_MAX, 0)->value.str(), "9223372036854775807");
-    is("an edge that carries nothing", certify(0, INT64_MAX)->value.str(), "0");
+    is("2^63 - 1", certify(INT64_MAX, 0).value().value.str(), "9223372036854775807");
+    is("an edge that carries nothing", certify(0, INT64_MAX).value().value.str(), "0");
 }
 
 /* Texts as graphs, and back. */
@@ -347,7 +347,7 @@ static void texts() {
                                           graph[(*arcs)[2]].capacity == 9 && from == 0 && to == 2);
     is("written", ours::write_max(graph, *arcs, from, to, capacity), max);
     const long value = boost::push_relabel_max_flow(graph, from, to, maps(graph));
-    check_that("certified", ours::certify_max(graph, from, to, capacity, left)->value == value);
+    check_that("certified", ours::certify_max(graph, from, to, capacity, left).value().value == value);
     const std::string flow = ours::write_solution(graph, *arcs, value, capacity, left);
     is("a solution", flow, "s 8\nf 2 1 0\nf 1 2 7\nf 2 3 8\nf 1 2 1\n");
     Graph other;
@@ -362,7 +362,7 @@ static void texts() {
        "x arc 2 NumberRange");
     check_that("all as it was", num_vertices(narrow) == 0);
     const std::string roads = "p sp 3 2\na 1 2 -7\na 3 2 7\n";
-    check_that("a graph", ours::read_graph(roads, narrow, weight)->size() == 2);
+    check_that("a graph", ours::read_graph(roads, narrow, weight).value().size() == 2);
     is("written", ours::write_graph(narrow, boost::make_iterator_range(edges(narrow)), weight), roads);
     const std::vector<int> far{3, INT_MAX, 0};
     is("distances", ours::write_distances(narrow, 2, far.data()).value(), "p distances 3 1\nt 3 1\nd 1 3\n");

@@ -18,7 +18,7 @@ using Amounts = std::vector<std::int64_t>;
 
 template <class Call>
 static void throws_limit(const char *name, const Call &call, const std::string &line) {
-    throws<PastLimit>(name, call, line, [&](const auto &it) { is(name, it.refused().line, line); });
+    throws<PastLimit>(name, call, line, [&](const auto &it) { is(name, it.refused().printed, line); });
 }
 
 static void explains_texts() {
@@ -36,7 +36,7 @@ static void judges_texts() {
     is("maximum", judge_max(max, flow, cut).value().value.str(), "6");
     is("least", judge_min(min, least, pot).value().value.str(), "14");
     check_that("no flow", judge_infeasible(surplus, both).has_value());
-    check_that("all distances", judge_paths(graph, source, dist)->sources == 1);
+    check_that("all distances", judge_paths(graph, source, dist).value().sources == 1);
     const auto answer = judge_paths(graph, pairs, dist);
     check_that("two pairs", answer && answer->sources == 0 && answer->pairs.size() == 2);
     const Pair &near = answer->pairs[0], &far = answer->pairs[1];
@@ -64,7 +64,7 @@ static void certifies_texts() {
     check_that("certified maximum", yes && yes->value == 6 && yes->certificate == cut && yes.message().empty());
     const auto no = certify_max(max, slow);
     const auto *better = no.get_if<NotOptimalText>();
-    check_that("not maximum", !no && better && better->line == "x solution 1 2 NotMaximum" && better->better);
+    check_that("not maximum", !no && better && better->printed == "x solution 1 2 NotMaximum" && better->better);
     check_that("the better one is maximum", certify_max(max, *better->better).has_value());
     const auto cheap = certify_min(min, least);
     check_that("certified least", cheap && cheap->value == 14);
@@ -78,7 +78,7 @@ static void certifies_whole_claims() {
     const auto one = certify_infeasible(min);
     const auto *flow_of = one.get_if<FeasibleText>();
     check_that("a feasible flow in a text", flow_of && flow_of->flow && one.message() == "x instance 0 0 Feasible");
-    check_that("which is feasible", !certify_min(min, *flow_of->flow).get_if<Refused>());
+    check_that("which is feasible", !certify_min(min, *flow_of->flow).holds<Refused>());
     const auto far = certify_paths(graph, "p distances 4 1\nt 1 1\nd 2 5\n");
     check_that("distances in a text", far && far->sources == 1 && far->labels == dist);
 }
@@ -86,16 +86,16 @@ static void certifies_whole_claims() {
 static void solves_texts() {
     const auto most = solve_max(max);
     check_that("a maximum flow", most && most->value == 6 && judge_max(max, most->solution, most->certificate));
-    check_that("no flow is asked about", solve_max(max, 0).get_if<GaveUp>() != nullptr);
+    check_that("no flow is asked about", solve_max(max, 0).holds<GaveUp>());
     const auto cheap = solve_min(min);
     check_that("least cost", cheap && cheap->value == 14 && judge_min(min, cheap->solution, cheap->certificate));
     const auto none = solve_min(surplus);
     const auto *set = none.get_if<Infeasible<std::string>>();
     check_that("no feasible flow", set && set->inside == both && none.message() == "v infeasible");
-    check_that("no step", solve_min(min, 0).get_if<GaveUp>() != nullptr);
+    check_that("no step", solve_min(min, 0).holds<GaveUp>());
     const auto found = solve_paths(graph, pairs);
     check_that("paths", found && found->labels == dist && found->pairs.size() == 2 && found->pairs[0].number == 5);
-    check_that("all paths", solve_paths(graph, source)->sources == 1);
+    check_that("all paths", solve_paths(graph, source).value().sources == 1);
 }
 
 static void makes_texts() {
@@ -160,12 +160,13 @@ static void misuses() {
 static void least_costs() {
     const Amounts flows{2, 2, 2, 0, 4}, much{2, 2, 1, 1, 3};
     const auto yes = certify_min(shipping, flows);
-    check_that("least cost in arrays", yes && yes->cost == 14 && judge_min(shipping, flows, yes->potentials));
+    check_that("least cost in arrays", yes && yes->value == 14 && judge_min(shipping, flows, yes->potentials));
     const auto no = certify_min(shipping, much);
     check_that("a cheaper flow", no.get_if<NotOptimal<Flows>>() && no.get_if<NotOptimal<Flows>>()->better.size() == 5);
-    check_that("no flow", certify_min(shipping, lows).get_if<Refused>()->node == 1U);
+    const auto unmet = certify_min(shipping, lows);
+    check_that("no flow", unmet.get_if<Refused>()->node == 1U);
     const auto made = solve_min(shipping);
-    check_that("made", made && made->cost == 14 && judge_min(shipping, made->flows, made->potentials));
+    check_that("made", made && made->value == 14 && judge_min(shipping, made->flows, made->potentials));
     const Amounts more{9, 0, 0, -9};
     const MinInstance short_of{4, tails, heads, lows, caps, costs, more};
     const auto none = solve_min(short_of);
@@ -175,9 +176,9 @@ static void least_costs() {
     check_that("certified to have none", certified && judge_infeasible(short_of, certified->inside));
     const auto other = certify_infeasible(shipping);
     const auto *feasible = other.get_if<Feasible<Flows>>();
-    check_that("a feasible flow", feasible && !certify_min(shipping, feasible->flow).get_if<Refused>());
+    check_that("a feasible flow", feasible && !certify_min(shipping, feasible->flow).holds<Refused>());
     is("there is one", judge_infeasible(shipping, Inside{1, 0, 0, 0}).message(), "x certificate 0 0 NotViolated");
-    check_that("given up", solve_min(shipping, 0).get_if<GaveUp>() != nullptr);
+    check_that("given up", solve_min(shipping, 0).holds<GaveUp>());
 }
 
 static void distances() {
@@ -194,7 +195,7 @@ static void distances() {
     is("a weight below 0", solve_paths({2, Ids{1}, Ids{2}, Amounts{-1}}, 1).message(), "x arc 1 NegativeWeight");
     check_that(
         "a distance that doesn't fit",
-        solve_paths({3, Ids{1, 2}, Ids{2, 3}, Amounts{INT64_MAX, 1}}, 1).get_if<GaveUp>() != nullptr);
+        solve_paths({3, Ids{1, 2}, Ids{2, 3}, Amounts{INT64_MAX, 1}}, 1).holds<GaveUp>());
 }
 
 /* Texts in their canonical form, read and written again. */
@@ -212,16 +213,16 @@ static void reads_and_writes() {
                                                 shipping_of.caps == caps && shipping_of.costs == costs &&
                                                 shipping_of.supplies == supplies);
     is("written", write_min(shipping_of), min);
-    check_that("solved", solve_min(shipping_of)->cost == 14);
+    check_that("solved", solve_min(shipping_of).value().value == 14);
     const auto roads = read_graph(graph).value();
     check_that("a graph", roads.nodes == 4 && roads.tails == Ids({1, 3, 4}) && roads.heads == Ids({2, 4, 3}) &&
                               roads.weights == Amounts({5, 0, 0}));
     is("written", write_graph(roads), graph);
-    check_that("solved", solve_paths(roads, 1)->distances[1] == 5);
+    check_that("solved", solve_paths(roads, 1).value().distances[1] == 5);
     const auto claim = read_solution(flow, network_of).value();
     check_that("a solution", claim.value == 6 && claim.flows == Flows({4, 2, 1, 3, 3}));
     is("written", write_solution(claim.value, network, claim.flows), flow);
-    check_that("one without some entries", read_solution(least, shipping)->flows == Flows({2, 2, 2, 0, 4}));
+    check_that("one without some entries", read_solution(least, shipping).value().flows == Flows({2, 2, 2, 0, 4}));
     is("a cut", write_cut(read_cut(cut).value()), cut);
     is("one of more nodes than bytes", write_cut(read_cut("p cut 99 0\n").value()), "p cut 99 0\n");
     is("potentials", write_potentials(read_potentials(pot).value()), pot);
@@ -293,6 +294,17 @@ static constexpr bool is_safe = std::is_convertible_v<const Vectors &, View> && 
                                 !std::is_convertible_v<const Vectors, View> && !std::is_convertible_v<Answered, View>;
 static_assert(is_safe<MaxInstance, MaxVectors> && is_safe<MinInstance, MinVectors> && is_safe<Graph, GraphVectors>);
 
+/* An answer that is gone at once lends nothing. */
+template <class It, class = void, class = void>
+static constexpr bool lends = false;
+template <class It>
+static constexpr bool lends<It, std::void_t<decltype(std::declval<It>().operator->())>,
+                            std::void_t<decltype(std::declval<It>().template get_if<Refused>())>> = true;
+using Answered = Answer<MaxVectors, Refused>;
+static_assert(lends<Answered &> && lends<const Answered &> && !lends<Answered> && !lends<const Answered>);
+static_assert(!std::is_reference_v<decltype(*std::declval<Answered>())> &&
+              !std::is_reference_v<decltype(std::declval<Answered>().variant())>);
+
 static void values() {
     static_assert(!converts<double> && !converts<float> && !converts<const char *> && !converts<std::nullptr_t>);
     static_assert(!std::is_invocable_v<std::equal_to<>, Value, double>);
@@ -304,8 +316,8 @@ static void values() {
     is("the greatest of 128", Value(~UnsignedWide(0)).str(), "340282366920938463463374607431768211455");
     check_that("2^64 isn't 0", Value(Wide(1) << 64) != 0 && Value(Wide(1) << 64) == (UnsignedWide(1) << 64));
     std::ostringstream out;
-    out << judge_max(max, flow, cut)->value << ' ' << certify_min(min, least)->value << ' '
-        << solve_paths(graph, pairs)->pairs[0].number;
+    out << judge_max(max, flow, cut).value().value << ' ' << certify_min(min, least).value().value << ' '
+        << solve_paths(graph, pairs).value().pairs[0].number;
     is("printed", out.str(), "6 14 5");
 }
 
@@ -336,10 +348,10 @@ static void unknown_answers() {
 static void moved_exceptions() {
     PastLimit one(detail::refused("x arc 4 NodeRange"));
     const PastLimit other(std::move(one));
-    is("moved", other.refused().line, "x arc 4 NodeRange");
-    is("moved from", one.refused().line, "x arc 4 NodeRange");
+    is("moved", other.refused().printed, "x arc 4 NodeRange");
+    is("moved from", one.refused().printed, "x arc 4 NodeRange");
     one = PastLimit(detail::refused("x node 1 NodeTwice"));
-    is("assigned", one.refused().line + one.what(), "x node 1 NodeTwicex node 1 NodeTwice");
+    is("assigned", one.refused().printed + one.what(), "x node 1 NodeTwicex node 1 NodeTwice");
 }
 
 static void takes_what_has_items() {
@@ -347,7 +359,7 @@ static void takes_what_has_items() {
     const std::uint32_t head[] = {2};
     std::vector<std::int64_t> cap{7};
     const MaxInstance arc{2, 1, 2, tail, head, {cap.data(), cap.size()}};
-    check_that("an array, a C array, and a pointer with a size", solve_max(arc)->value == 7);
+    check_that("an array, a C array, and a pointer with a size", solve_max(arc).value().value == 7);
     const std::int64_t sum = std::visit(
         [](const auto &it) -> std::int64_t {
             if constexpr (std::is_same_v<std::decay_t<decltype(it)>, GaveUp>) {

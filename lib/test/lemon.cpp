@@ -97,7 +97,7 @@ static void least_cost(const Graph &graph, const Numbers &capacity, const Number
     const auto judged = ours::judge_min(graph, lower, capacity, cost, supply, flow, potential);
     check_that("NetworkSimplex's flow and potentials", judged && judged->value == total);
     const auto yes = ours::certify_min(graph, lower, capacity, cost, supply, flow);
-    check_that("NetworkSimplex's flow", yes && yes->cost == total);
+    check_that("NetworkSimplex's flow", yes && yes->value == total);
     check_that("by the potentials that were handed out",
                ours::judge_min(graph, lower, capacity, cost, supply, flow, yes->potentials).has_value());
 
@@ -106,7 +106,7 @@ static void least_cost(const Graph &graph, const Numbers &capacity, const Number
     check_that("a unit more round the ring", no.get_if<Better>() && no.message() == "x solution 0 0 NotLeast");
     lemon::mapCopy(graph, no.get_if<Better>()->better, flow);
     check_that("a flow that costs less",
-               !ours::certify_min(graph, lower, capacity, cost, supply, flow).get_if<Refused>());
+               !ours::certify_min(graph, lower, capacity, cost, supply, flow).holds<Refused>());
     const auto some = ours::certify_infeasible(graph, lower, capacity, supply);
     check_that("a feasible flow", some.get_if<dimacs::Feasible<ours::Map<Graph, Arc, std::int64_t>>>() != nullptr);
     supply[graph.nodeFromId(3)] += 1;
@@ -227,7 +227,7 @@ static void other_graphs() {
     const auto no = ours::certify_max(gaps, three, from, to, none);
     using Found = dimacs::NotOptimal<ours::Map<lemon::ListDigraph, lemon::ListDigraph::Arc, std::int64_t>>;
     check_that("a graph of which a node was erased", no.get_if<Found>() && no.get_if<Found>()->better[arc] == 3);
-    check_that("certified", ours::certify_max(gaps, three, from, to, three)->value == 3);
+    check_that("certified", ours::certify_max(gaps, three, from, to, three).value().value == 3);
 
     lemon::ListGraph edges;
     lemon::ListGraph::Node one = edges.addNode(), other = edges.addNode(), alone = edges.addNode();
@@ -239,7 +239,7 @@ static void other_graphs() {
                                              ours::certify_paths(edges, length, one, solver));
     lemon::Preflow<lemon::ListGraph, lemon::ListGraph::ArcMap<int>> flow(edges, length, one, other);
     flow.run();
-    check_that("for flows too", ours::certify_max(edges, length, one, other, flow.flowMap())->value == 4);
+    check_that("for flows too", ours::certify_max(edges, length, one, other, flow.flowMap()).value().value == 4);
 }
 
 /* Texts as graphs, and back. Parallel arcs keep their order. */
@@ -287,7 +287,7 @@ static void texts() {
     for (int id = 0; id < 3; id++) potential[graph.nodeFromId(id)] = id;
     is("potentials", ours::write_potentials(graph, potential), "p pot 3 2\ny 2 -1\ny 3 -2\n");
     const std::string roads = "p sp 3 2\na 3 2 7\na 1 2 -7\n";
-    check_that("a graph", ours::read_graph(roads, graph, cost)->size() == 2);
+    check_that("a graph", ours::read_graph(roads, graph, cost).value().size() == 2);
     is("written", ours::write_graph(graph, cost), roads);
     const Made found{{3, -1, 0}};
     is("distances", ours::write_distances(graph, graph.nodeFromId(2), found).value(),
@@ -303,10 +303,10 @@ static void moved_exceptions() {
     const dimacs::RefusedAt<Node, Arc> at{"x node 7 NumberRange", "NumberRange", Node(lemon::INVALID), std::nullopt};
     dimacs::OutOfRangeAt<Node, Arc> one(at);
     const dimacs::OutOfRangeAt<Node, Arc> other(std::move(one));
-    is("moved", one.at().line + other.at().line, at.line + at.line);
+    is("moved", one.at().printed + other.at().printed, at.printed + at.printed);
     dimacs::PastLimitAt<Node, Arc> limit(dimacs::detail::refused("x node 0 NodeRange"), at);
     const dimacs::PastLimitAt<Node, Arc> another(std::move(limit));
-    is("and past a limit", limit.at().line + another.refused().line, at.line + "x node 0 NodeRange");
+    is("and past a limit", limit.at().printed + another.refused().printed, at.printed + "x node 0 NodeRange");
 }
 
 int main() {

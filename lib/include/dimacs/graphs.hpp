@@ -20,12 +20,12 @@ inline namespace DIMACS_SPAN {
 // The first test that fails, over a graph of another library.
 template <class Node, class Arc>
 struct RefusedAt {
-    std::string line;  // as the command prints it, but with the graph's own name of the item: "x arc 17 AboveCap"
+    std::string printed;  // as the command prints it, but with the graph's own name of the item: "x arc 17 AboveCap"
     std::string reason;
     std::optional<Node> node;
     std::optional<Arc> arc;
 
-    const std::string &message() const noexcept { return line; }
+    const std::string &message() const noexcept { return printed; }
 };
 
 // The first number of an instance that is past its limit. Nothing was judged.
@@ -33,7 +33,7 @@ template <class Node, class Arc>
 class PastLimitAt : public PastLimit {
   public:
     PastLimitAt(const Refused &refused, RefusedAt<Node, Arc> at)
-        : PastLimit(refused, at.line), at_(std::make_shared<const RefusedAt<Node, Arc>>(std::move(at))) {}
+        : PastLimit(refused, at.printed), at_(std::make_shared<const RefusedAt<Node, Arc>>(std::move(at))) {}
 
     PastLimitAt(const PastLimitAt &) = default;
     PastLimitAt &operator=(const PastLimitAt &) = default;
@@ -49,7 +49,7 @@ template <class Node, class Arc>
 class OutOfRangeAt : public std::out_of_range {
   public:
     explicit OutOfRangeAt(RefusedAt<Node, Arc> at)
-        : std::out_of_range(at.line), at_(std::make_shared<const RefusedAt<Node, Arc>>(std::move(at))) {}
+        : std::out_of_range(at.printed), at_(std::make_shared<const RefusedAt<Node, Arc>>(std::move(at))) {}
 
     OutOfRangeAt(const OutOfRangeAt &) = default;
     OutOfRangeAt &operator=(const OutOfRangeAt &) = default;
@@ -86,7 +86,7 @@ template <class Index>
 RefusedOver<Index> refused_over(const Index &index, const Refused &no) {
     if (no.arc && *no.arc - 1 < index.arcs().size()) return refused_arc(index, *no.arc - 1, no.reason);
     if (no.node && *no.node - 1 < index.nodes().size()) return refused_node(index, *no.node - 1, no.reason);
-    return {no.line, no.reason, std::nullopt, std::nullopt};
+    return {no.printed, no.reason, std::nullopt, std::nullopt};
 }
 
 // Throws for a node that the graph doesn't have.
@@ -186,7 +186,7 @@ CertifiedMaxOver<Index> certify_max_over(const Index &index, const MaxInstance &
     const auto answer = over(index, [&] { return certify_max(instance, flows); });
     if (answer) return CertifiedMax<typename Index::Marked>{answer->value, index.marked(answer->inside)};
     if (auto *no = answer.template get_if<NotOptimal<Flows>>()) {
-        return NotOptimal<typename Index::Flow>{no->line, index.flow(no->better)};
+        return NotOptimal<typename Index::Flow>{no->printed, index.flow(no->better)};
     }
     return refused_over(index, *answer.template get_if<Refused>());
 }
@@ -198,9 +198,9 @@ using CertifiedMinOver =
 template <class Index>
 CertifiedMinOver<Index> certify_min_over(const Index &index, const MinInstance &instance, Numbers flows) {
     const auto answer = over(index, [&] { return certify_min(instance, flows); });
-    if (answer) return CertifiedMin<typename Index::Potential>{answer->cost, index.potential(answer->potentials)};
+    if (answer) return CertifiedMin<typename Index::Potential>{answer->value, index.potential(answer->potentials)};
     if (auto *no = answer.template get_if<NotOptimal<Flows>>()) {
-        return NotOptimal<typename Index::Flow>{no->line, index.flow(no->better)};
+        return NotOptimal<typename Index::Flow>{no->printed, index.flow(no->better)};
     }
     if (answer.template get_if<GaveUp>()) return GaveUp{};
     return refused_over(index, *answer.template get_if<Refused>());
