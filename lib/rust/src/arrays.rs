@@ -31,7 +31,7 @@ pub struct CertifiedMax {
 #[derive(Clone, Debug, PartialEq, Eq)]
 pub struct CertifiedMin {
     /// The cost, which may have more than 64 bits.
-    pub cost: i128,
+    pub value: i128,
     /// The potentials.
     pub potentials: Vec<i64>,
 }
@@ -51,7 +51,7 @@ pub struct SolvedMax {
 #[derive(Clone, Debug, PartialEq, Eq)]
 pub struct SolvedMin {
     /// The cost.
-    pub cost: i128,
+    pub value: i128,
     /// An amount for each arc.
     pub flows: Vec<i64>,
     /// The potentials.
@@ -182,7 +182,7 @@ pub fn certify_max(instance: &MaxInstance, flows: &[i64]) -> Result<CertifiedMax
 /// let road = MinInstance {
 ///     nodes: 2, tails: &[1, 1], heads: &[2, 2], lows: &[0, 0], caps: &[3, 9], costs: &[1, 2], supplies: &[5, -5],
 /// };
-/// assert_eq!(certify_min(&road, &[3, 2]).unwrap().cost, 7);
+/// assert_eq!(certify_min(&road, &[3, 2]).unwrap().value, 7);
 /// assert_eq!(certify_min(&road, &[2, 3]), Err(Error::NotOptimal(vec![3, 2])));
 /// assert_eq!(certify_min(&road, &[3, 3]).unwrap_err().to_string(), "x node 1 Balance");
 /// ```
@@ -192,7 +192,7 @@ pub fn certify_min(instance: &MinInstance, flows: &[i64]) -> Result<CertifiedMin
     let (instance, mut better) = (instance.raw()?, Room::new(flows.len())?);
     let status = call!(ffi::dimacs_certify_min_arrays: &instance, [flows], {line}, {potentials}, {better});
     let line = line_or_better(status, line, better)?;
-    Ok(CertifiedMin { cost: value(&line)?, potentials: potentials.take() })
+    Ok(CertifiedMin { value: value(&line)?, potentials: potentials.take() })
 }
 
 /// Decides whether an instance has no feasible flow. Returns a set that [`judge_infeasible`] accepts.
@@ -276,7 +276,7 @@ pub fn solve_min(instance: &MinInstance, limit: u64) -> Result<SolvedMin, Error>
     if is_infeasible(&line) {
         return Err(Error::Infeasible(inside.marks()?));
     }
-    Ok(SolvedMin { cost: value(&line)?, flows: flows.take(), potentials: potentials.take() })
+    Ok(SolvedMin { value: value(&line)?, flows: flows.take(), potentials: potentials.take() })
 }
 
 /// Makes distances from the source, and predecessors that [`judge_paths`] accepts. [`Error::Refused`] for the first arc

@@ -30,7 +30,7 @@ pub struct Arcs<'a> {
 /// other numbers, and other arrays by arc and by node.
 macro_rules! instances {
     ($(
-        $(#[$about:meta])* $slices:ident, $vectors:ident by $method:ident, $raw:ident {
+        $(#[$about:meta])* $slices:ident, $vectors:ident, $raw:ident {
             $($(#[$about_number:meta])* $number:ident)*;
             $($(#[$about_by_arc:meta])* $by_arc:ident)*;
             $($(#[$about_by_node:meta])* $by_node:ident)*
@@ -76,7 +76,7 @@ macro_rules! instances {
 
         impl $vectors {
             /// The same in slices of these vectors.
-            pub fn $method(&self) -> $slices<'_> {
+            pub fn instance(&self) -> $slices<'_> {
                 let $vectors { nodes, $($number,)* tails, heads, $($by_arc,)* $($by_node,)* } = self;
                 $slices { nodes: *nodes, $($number: *$number,)* tails, heads, $($by_arc,)* $($by_node,)* }
             }
@@ -105,7 +105,7 @@ macro_rules! instances {
 
 instances! {
     /// A maximum flow instance: an arc goes from its tail to its head, and carries from 0 to its capacity.
-    MaxInstance, MaxVectors by instance, Max {
+    MaxInstance, MaxVectors, Max {
         /// Where flow comes from.
         source
         /// Where it goes to.
@@ -116,7 +116,7 @@ instances! {
 
     /// A minimum cost flow instance: an arc carries from its lower bound to its capacity, at a cost for each unit. A
     /// node's supply is its outflow minus its inflow. A demand is a negative supply.
-    MinInstance, MinVectors by instance, Min {
+    MinInstance, MinVectors, Min {
         ;
         /// By arc, from 0 to the capacity.
         lows
@@ -129,7 +129,7 @@ instances! {
     }
 
     /// A graph: an arc goes from its tail to its head, and has a weight, which may be negative.
-    Graph, GraphVectors by graph, RawGraph {
+    Graph, GraphVectors, RawGraph {
         ;
         /// By arc.
         weights;

@@ -34,7 +34,7 @@ fn least_costs() {
     assert_eq!(arrays::judge_min(&least, &[9, 0, MOST], &[LEAST, 0]), Ok(cost));
     assert_eq!(arrays::judge_min(&least, &[9, 0, MOST], &[LEAST, MOST]).unwrap_err().to_string(), "x arc 1 NotTight");
     let solved = arrays::solve_min(&least, dimacs::LIMIT).unwrap();
-    assert_eq!((solved.cost, &solved.flows[..]), (cost, &[9, 0, MOST][..]));
+    assert_eq!((solved.value, &solved.flows[..]), (cost, &[9, 0, MOST][..]));
     assert_eq!(arrays::judge_min(&least, &solved.flows, &solved.potentials), Ok(cost));
     let short = MinInstance { supplies: &[LEAST, MOST], ..least };
     assert!(matches!(arrays::certify_infeasible(&short), Ok(set) if arrays::judge_infeasible(&short, &set) == Ok(())));
