@@ -62,6 +62,10 @@ export class Solved extends Certified {
     get distances() {
         return this.solution;
     }
+
+    get pairs() {
+        return this.solution;
+    }
 }
 
 function placed({text, line, field, arc, node}, reason) {

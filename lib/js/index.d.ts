@@ -138,6 +138,8 @@ export class Solved<Solution, Certificate, Value = bigint> extends Certified<Cer
     /** The solution, by the name that fits it. */
     get flows(): Solution;
     get distances(): Solution;
+    /** Of queries for pairs in a text, as of a Verdict. */
+    get pairs(): Solution;
 }
 
 /**
@@ -263,6 +265,11 @@ export function read(kind: "cut", text: Text): Typed<Cut>;
 export function read(kind: "pot", text: Text): Typed<Potentials>;
 export function read(kind: "dist", text: Text, source: number | bigint): Typed<Required<Labels>>;
 export function read(kind: "distances", text: Text, source: number | bigint): Typed<DistancesFrom>;
+/** Of a kind that is one of these. */
+export function read(
+    kind: "max" | "min" | "gr" | "query" | "cut" | "pot",
+    text: Text,
+): Typed<MaxInstance> | Typed<MinInstance> | Typed<Graph> | Typed<Queries> | Typed<Cut> | Typed<Potentials>;
 
 /**
  * The canonical text of arrays, which read again gives the same. A solution has an entry for each arc. Throws PastLimit if
@@ -281,7 +288,7 @@ export function write(kind: "distances", distances: DistancesFrom): string;
 
 /**
  * The calls over arrays. They throw what those over texts do; RangeError if a number doesn't fit, isn't whole or is a
- * number above 2^53 that should be a BigInt, or if an array has a wrong length; PastLimit, which is a RangeError, if a
+ * number from 2^53 that should be a BigInt, or if an array has a wrong length; PastLimit, which is a RangeError, if a
  * number is past a limit of instances; TypeError for what is no number or array.
  */
 export function judgeMaxArrays(instance: MaxInstance, flows: Amounts, inside: Marks): Verdict;

@@ -33,7 +33,7 @@ function keepRefused(no, command, read) {
 }
 
 /** The lines that explain a refusal, if it is still that of its texts. */
-export function unchanged({printed}, lines) {
+function unchanged({printed}, lines) {
     const changed = "the texts hold something else now: the refusal isn't theirs";
     return lines.startsWith(`${printed}\n`) ? lines : `${printed}\n${changed}\n`;
 }

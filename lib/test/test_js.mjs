@@ -274,7 +274,9 @@ const CASES = {
         const unmet = /: no flow is feasible\n$/;
         assert.match(thrown(() => dimacs.solveMin(SHORT)).explain(), unmet);
         assert.match(dimacs.certifyInfeasible(SHORT).explain(), unmet);
-        assert.match(dimacs.solvePaths(GRAPH, PAIRS).explain(), /\n1 -> 2 -> 3: 5 \+ 4 = 9\n/);
+        const routes = dimacs.solvePaths(GRAPH, PAIRS);
+        assert.match(routes.explain(), /\n1 -> 2 -> 3: 5 \+ 4 = 9\n/);
+        assert.deepEqual(routes.pairs, dimacs.judgePaths(GRAPH, PAIRS, routes.certificate).pairs);
         const number = "WEIGHT is a whole number, digits with a sign or without, and not `1.0`";
         assert.ok(thrown(() => dimacs.convert("gr", "p sp 1 1\na 1 1 1.0\n")).explain().includes(number));
         const back = thrown(() => dimacs.spreadMax(MAX, "s 0\nf 4 3 2\n"));
