@@ -7,14 +7,15 @@ ghost use Rattle.dimacs_network.specs.Skips.{Skips};
 ghost use Rattle.dimacs_records.specs.declared.kinds.TextKind.TheVariants as kinds;
 ghost use Rattle.dimacs_records.specs.{declared.records.Record.TheVariants.{CutNode}, Faults.{Fault}, Texts.{Reads}};
 ghost use Rattle.dimacs_records.specs.Readings.{CountsRead};
-ghost use Rattle.dimacs_claims.specs.Cuts.{CutValue, IsCut, GivesCut, SpellsCut, canonical_cut, empty_cut, ids_in, with_node};
+ghost use Rattle.dimacs_claims.specs.Cuts.{CutValue, IsCut, GivesCut, SpellsCut, canonical_cut, empty_cut, ids_in, shown_cut, with_node};
 ghost use Rattle.dimacs_claims.specs.CutReading.{IsCutBegunBy, plain_context, context};
 
+use crate::show::show_nodes;
 use dimacs_lines::{DeviceFault, Memory, Sink, Source};
 use dimacs_network::NodeSet;
 use dimacs_records::{
-    Builder, Context, CountedReading, Declared, ReadError, Record, TextKind, put_sparse_text,
-    read_counted,
+    Builder, Context, CountedReading, Declared, ReadError, Record, Text, TextKind, Writable,
+    put_sparse_text, read_counted,
 };
 use std::alloc::Global;
 use std::marker::Model;
@@ -217,4 +218,36 @@ pub fn write_cut<S: Sink>(cut: &Cut, sink: &mut S) -> Result<(), DeviceFault>
             cut.contains(id).then_some(Record::CutNode { id })
         },
     )
+}
+
+impl Writable for Cut {
+    ghost kind = { kinds.Cut };
+
+    ghost Content = { CutValue };
+
+    ghost content = { λ c. c };
+
+    ghost spells = { λ text c. SpellsCut text c };
+
+    ghost canonical = { λ c. canonical_cut c };
+
+    ghost shown = { λ c. shown_cut c };
+
+    fn kind() -> TextKind {
+        TextKind::Cut
+    }
+
+    fn write<K: Sink>(&self, sink: &mut K) -> Result<(), DeviceFault> {
+        write_cut(self, sink)
+    }
+
+    fn show<K: Sink>(&self, sink: &mut K) -> Result<(), DeviceFault> {
+        show_nodes(sink, b"cut", self.nodes(), self.len() as usize)
+    }
+}
+
+impl Text for Cut {
+    fn read<S: Source>(alloc: Global, source: &mut S) -> Result<Self, ReadError> {
+        read_cut(alloc, source)
+    }
 }

@@ -5,15 +5,18 @@ ghost use Rattle.std.specs.List.{All};
 ghost use Rattle.dimacs_lines.specs.{Limits.{most_count, most_nodes}, Lines.{lines}, Puts.{Puts}};
 ghost use Rattle.dimacs_records.specs.declared.kinds.TextKind.TheVariants as kinds;
 ghost use Rattle.dimacs_records.specs.{Faults.{Fault}, Ranges.{IsWide}, Readings.{CountsRead}, Texts.{Reads}};
-ghost use Rattle.dimacs_claims.specs.DistanceTexts.{AreBare, GivesDistances, IsBare, SpellsDistances, bare, canonical_distances};
+ghost use Rattle.dimacs_claims.specs.DistanceTexts.{AreBare, GivesDistances, IsBare, SpellsDistances, bare, canonical_distances, shown_distances};
 ghost use Rattle.dimacs_claims.specs.Labels.{AreLabels, IsBlock, IsNewSource, LabelsValue, label_at, with_block};
 ghost use Rattle.dimacs_claims.specs.LabelTexts.{FitText};
 ghost use Rattle.dimacs_claims.specs.LabelsReading.{bare_context, end_context, labels_begun_records};
 
 use crate::block::{Block, Label};
 use crate::labels::{Labels, LabelsBuilder, write_in_kind};
+use crate::show::show_nodes;
 use dimacs_lines::{DeviceFault, Memory, Sink, Source};
-use dimacs_records::{Builder, Context, CountedReading, ReadError, Record, TextKind, read_counted};
+use dimacs_records::{
+    Builder, Context, CountedReading, ReadError, Record, Text, TextKind, Writable, read_counted,
+};
 use std::alloc::Global;
 use std::marker::Model;
 
@@ -210,4 +213,36 @@ pub fn write_distances<S: Sink>(distances: &Distances, sink: &mut S) -> Result<(
         → canonical_distances read ≡ canonical_distances distances.now }
 {
     write_in_kind(TextKind::Distances, distances.labels(), sink)
+}
+
+impl Writable for Distances {
+    ghost kind = { kinds.Distances };
+
+    ghost Content = { LabelsValue };
+
+    ghost content = { λ d. d };
+
+    ghost spells = { λ text d. SpellsDistances text d };
+
+    ghost canonical = { λ d. canonical_distances d };
+
+    ghost shown = { λ d. shown_distances d };
+
+    fn kind() -> TextKind {
+        TextKind::Distances
+    }
+
+    fn write<K: Sink>(&self, sink: &mut K) -> Result<(), DeviceFault> {
+        write_distances(self, sink)
+    }
+
+    fn show<K: Sink>(&self, sink: &mut K) -> Result<(), DeviceFault> {
+        show_nodes(sink, b"distances", self.nodes(), self.blocks().len())
+    }
+}
+
+impl Text for Distances {
+    fn read<S: Source>(alloc: Global, source: &mut S) -> Result<Self, ReadError> {
+        read_distances(alloc, source)
+    }
 }

@@ -14,8 +14,8 @@ mod label_list;
 mod labels;
 mod place;
 mod potentials;
+mod show;
 mod solution;
-mod texts;
 
 pub use block::{Block, Label};
 pub use cut::{Cut, CutReading, read_cut, write_cut};

@@ -6,14 +6,15 @@ ghost use Rattle.dimacs_network.specs.Skips.{Skips};
 ghost use Rattle.dimacs_records.specs.declared.kinds.TextKind.TheVariants as kinds;
 ghost use Rattle.dimacs_records.specs.{declared.records.Record.TheVariants.{PotentialsNode}, Faults.{Fault}};
 ghost use Rattle.dimacs_records.specs.{Readings.{CountsRead}, Texts.{Reads}, Ranges.{IsWide}, NodeValues.{is_nonzero}};
-ghost use Rattle.dimacs_claims.specs.Potentials.{PotentialsValue, ArePotentials, GivesPotentials, SpellsPotentials, canonical_potentials, nonzero_ids, potential_of, with_potential, zero_potentials};
+ghost use Rattle.dimacs_claims.specs.Potentials.{PotentialsValue, ArePotentials, GivesPotentials, SpellsPotentials, canonical_potentials, nonzero_ids, potential_of, shown_potentials, with_potential, zero_potentials};
 ghost use Rattle.dimacs_claims.specs.PotentialsReading.{ArePotentialsBegunBy, plain_context, context};
 
+use crate::show::show_nodes;
 use dimacs_lines::{DeviceFault, Memory, Sink, Source};
 use dimacs_network::WideMap;
 use dimacs_records::{
-    Builder, Context, CountedReading, Declared, ReadError, Record, TextKind, put_sparse_text,
-    read_counted,
+    Builder, Context, CountedReading, Declared, ReadError, Record, Text, TextKind, Writable,
+    put_sparse_text, read_counted,
 };
 use std::alloc::Global;
 use std::marker::Model;
@@ -242,4 +243,36 @@ pub fn write_potentials<S: Sink>(potentials: &Potentials, sink: &mut S) -> Resul
             (value != 0).then_some(Record::PotentialsNode { id, value })
         },
     )
+}
+
+impl Writable for Potentials {
+    ghost kind = { kinds.Potentials };
+
+    ghost Content = { PotentialsValue };
+
+    ghost content = { λ p. p };
+
+    ghost spells = { λ text p. SpellsPotentials text p };
+
+    ghost canonical = { λ p. canonical_potentials p };
+
+    ghost shown = { λ p. shown_potentials p };
+
+    fn kind() -> TextKind {
+        TextKind::Potentials
+    }
+
+    fn write<K: Sink>(&self, sink: &mut K) -> Result<(), DeviceFault> {
+        write_potentials(self, sink)
+    }
+
+    fn show<K: Sink>(&self, sink: &mut K) -> Result<(), DeviceFault> {
+        show_nodes(sink, b"pot", self.nodes(), self.count_nonzero() as usize)
+    }
+}
+
+impl Text for Potentials {
+    fn read<S: Source>(alloc: Global, source: &mut S) -> Result<Self, ReadError> {
+        read_potentials(alloc, source)
+    }
 }

@@ -6,15 +6,15 @@ ghost use Rattle.dimacs_claims.specs.declared.solution.Entry.{Entry};
 ghost use Rattle.dimacs_lines.specs.{Lines.{lines}, Puts.{Puts}};
 ghost use Rattle.dimacs_records.specs.declared.kinds.TextKind.TheVariants as kinds;
 ghost use Rattle.dimacs_records.specs.{Faults.{Fault}, Readings.{CountsRead}, Texts.{Reads}};
-ghost use Rattle.dimacs_claims.specs.SolutionTexts.{SolutionValue, IsLawful, SpellsSolution, canonical_solution, claimed, entry_line, entry_record, renumbered};
+ghost use Rattle.dimacs_claims.specs.SolutionTexts.{SolutionValue, IsLawful, SpellsSolution, canonical_solution, claimed, entry_line, entry_record, renumbered, shown_solution};
 ghost use Rattle.dimacs_claims.specs.SolutionReading.{GivesPlaced, IsPlaced, IsPlacedLawful, ReadsLike, StandsForSolution};
 ghost use Rattle.dimacs_claims.specs.inside.SolutionReading.{value_context};
 
 use crate::place::{Place, Placed};
 use dimacs_lines::{DeviceFault, Sink, Source};
 use dimacs_records::{
-    Context, ReadError, Reading, Record, TakeError, TextKind, put_text, read_text, test_end,
-    test_record,
+    Context, Part, ReadError, Reading, Record, TakeError, Text, TextKind, Writable, put_line,
+    put_text, read_text, test_end, test_record,
 };
 use std::alloc::Global;
 
@@ -189,4 +189,46 @@ pub fn write_solution<S: Sink>(solution: &Solution, sink: &mut S) -> Result<(), 
             ensures { result ≡ option_map entry_record (slice_get entries.entry.now i) }
         { Some(entries[i].record()) },
     )
+}
+
+impl Writable for Solution {
+    ghost kind = { kinds.Solution };
+
+    ghost Content = { SolutionValue };
+
+    ghost content = { λ s. claimed s };
+
+    ghost spells = { λ text s. SpellsSolution text s };
+
+    ghost lawful = { λ s. IsLawful (claimed s) };
+
+    ghost canonical = { λ s. canonical_solution s };
+
+    ghost shown = { λ s. shown_solution s };
+
+    fn kind() -> TextKind {
+        TextKind::Solution
+    }
+
+    fn write<K: Sink>(&self, sink: &mut K) -> Result<(), DeviceFault> {
+        write_solution(self, sink)
+    }
+
+    fn show<K: Sink>(&self, sink: &mut K) -> Result<(), DeviceFault> {
+        put_line(
+            sink,
+            b"i",
+            &[
+                Part::Word(b"solution"),
+                Part::Wide(self.value),
+                Part::Wide(self.entries.len() as i128),
+            ],
+        )
+    }
+}
+
+impl Text for Solution {
+    fn read<S: Source>(alloc: Global, source: &mut S) -> Result<Self, ReadError> {
+        read_solution(alloc, source)
+    }
 }

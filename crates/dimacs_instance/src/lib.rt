@@ -10,7 +10,6 @@ mod max;
 mod min;
 mod queries;
 mod summaries;
-mod texts;
 
 pub use dimacs_network::{
     ArcEnds, ArcView, BoundsAndCost, CapacityArc, ForwardStar, MAX_ARCS, Network, PlainArcs,

@@ -5,13 +5,13 @@ ghost use Rattle.dimacs_lines.specs.{Lines.{lines}, OutputBuffers.{Appends}, Put
 ghost use Rattle.dimacs_records.specs.declared.kinds.TextKind.TheVariants as kinds;
 ghost use Rattle.dimacs_records.specs.{declared.records.Record.TheVariants.{QueriesProblem}, Faults.{Fault}};
 ghost use Rattle.dimacs_records.specs.{Canonical.{canonical_line}, Readings.{CountsRead}, Texts.{Reads}};
-ghost use Rattle.dimacs_instance.specs.QueryTexts.{QueriesValue, AreLawful, GivesQueries, SpellsQueries, asked, canonical_queries, kind_asked, query_lines};
+ghost use Rattle.dimacs_instance.specs.QueryTexts.{QueriesValue, AreLawful, GivesQueries, SpellsQueries, asked, canonical_queries, kind_asked, query_lines, shown_queries};
 ghost use Rattle.dimacs_instance.specs.QueriesReading.{queries_begun_records, plain_context, are_others, context};
 
 use dimacs_lines::{DeviceFault, Memory, OutputBuffer, Sink, Source};
 use dimacs_records::{
-    Builder, Context, CountedReading, Declared, Part, QueryKind, ReadError, Record, TextKind,
-    read_counted, write_line, write_lines,
+    Builder, Context, CountedReading, Declared, Part, QueryKind, ReadError, Record, Text, TextKind,
+    Writable, put_line, read_counted, write_line, write_lines,
 };
 use std::alloc::Global;
 use std::marker::Model;
@@ -251,4 +251,43 @@ fn write_problem<S: Sink>(output: &mut OutputBuffer, sink: &mut S, asks: QueryKi
             Part::Wide(count as i128),
         ],
     );
+}
+
+impl Writable for Queries {
+    ghost kind = { kinds.Queries };
+
+    ghost Content = { QueriesValue };
+
+    ghost content = { λ q. asked q };
+
+    ghost spells = { λ text q. SpellsQueries text q };
+
+    ghost lawful = { λ q. AreLawful (asked q) };
+
+    ghost canonical = { λ q. canonical_queries q };
+
+    ghost shown = { λ q. shown_queries q };
+
+    fn kind() -> TextKind {
+        TextKind::Queries
+    }
+
+    fn write<K: Sink>(&self, sink: &mut K) -> Result<(), DeviceFault> {
+        write_queries(self, sink)
+    }
+
+    fn show<K: Sink>(&self, sink: &mut K) -> Result<(), DeviceFault> {
+        let word = self.kind().word();
+        put_line(
+            sink,
+            b"i",
+            &[Part::Word(word), Part::Wide(self.len() as i128)],
+        )
+    }
+}
+
+impl Text for Queries {
+    fn read<S: Source>(alloc: Global, source: &mut S) -> Result<Self, ReadError> {
+        read_queries(alloc, source)
+    }
 }

@@ -25,7 +25,7 @@ pub trait Writable {
     ghost spells: { List ℕ → Content → Type 0 };
 
     /// What holds of every value that was read.
-    ghost lawful: { Content → Type 0 };
+    ghost lawful: { Self → Type 0 } = { λ value. Unit {0} };
 
     /// The canonical text of a value.
     ghost canonical: { Content → List ℕ };
@@ -53,5 +53,5 @@ pub trait Text: Writable + Drop {
         ensures reads { (bytes : List ℕ) → S.coming source.old ≡ Some bytes
             → ReadsAs Self.content (Self.spells bytes) (Fault Self.kind (lines bytes)) result }
         ensures faults { CountsRead result (S.faults source.old) (S.faults source.new) }
-        ensures lawful { IfOk result (λ value. Self.lawful (Self.content value)) };
+        ensures lawful { IfOk result (λ value. Self.lawful value) };
 }

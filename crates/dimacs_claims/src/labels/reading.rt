@@ -20,7 +20,7 @@ use crate::labels::Labels;
 use dimacs_lines::{Memory, Source};
 use dimacs_network::NodeSet;
 use dimacs_records::{
-    Builder, Context, CountedReading, Declared, ReadError, Record, TextKind, read_counted,
+    Builder, Context, CountedReading, Declared, ReadError, Record, Text, TextKind, read_counted,
 };
 use std::alloc::Global;
 use std::marker::Model;
@@ -323,4 +323,10 @@ pub fn read_plain_labels<S: Source>(alloc: Global, source: &mut S) -> Result<Lab
     ensures faults { CountsRead result (S.faults source.old) (S.faults source.new) }
 {
     read_counted::<LabelsBuilder, S>(alloc, source)
+}
+
+impl Text for Labels {
+    fn read<S: Source>(alloc: Global, source: &mut S) -> Result<Self, ReadError> {
+        read_plain_labels(alloc, source)
+    }
 }

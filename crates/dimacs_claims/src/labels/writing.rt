@@ -2,15 +2,17 @@
 
 ghost use Rattle.std.specs.Prelude.{◌≡◌, ◌<◌, ◌≤◌, Some, length, map, option_map, slice_get};
 ghost use Rattle.dimacs_lines.specs.{Limits.{most_count}, OutputBuffers.{Appends}, Puts.{Puts}};
+ghost use Rattle.dimacs_records.specs.declared.kinds.TextKind.TheVariants as kinds;
 ghost use Rattle.dimacs_records.specs.{declared.records.Record.TheVariants.{LabelsBlock}, Canonical.{canonical_text}};
 ghost use Rattle.dimacs_claims.specs.{Labels.{AreLabels, LabelsValue}, DistanceTexts.{bare}};
 ghost use Rattle.dimacs_claims.specs.inside.Lines.{in_kind, line_in_kind};
-ghost use Rattle.dimacs_claims.specs.LabelTexts.{FitText, SpellsLabels, block_lines, canonical_labels, label_line, label_records};
+ghost use Rattle.dimacs_claims.specs.LabelTexts.{FitText, SpellsLabels, block_lines, canonical_labels, label_line, label_records, shown_labels};
 
 use crate::block::{Block, Label};
 use crate::labels::Labels;
+use crate::show::show_nodes;
 use dimacs_lines::{DeviceFault, OutputBuffer, Sink};
-use dimacs_records::{Record, TextKind, write_lines, write_record};
+use dimacs_records::{Record, TextKind, Writable, write_lines, write_record};
 
 /// Writes the canonical text of labels.
 pub fn write_labels<S: Sink>(labels: &Labels, sink: &mut S) -> Result<(), DeviceFault>
@@ -105,5 +107,31 @@ fn label_record(label: Label) -> Record
         id: label.id,
         dist: label.dist,
         pred: label.pred,
+    }
+}
+
+impl Writable for Labels {
+    ghost kind = { kinds.Labels };
+
+    ghost Content = { LabelsValue };
+
+    ghost content = { λ l. l };
+
+    ghost spells = { λ text l. SpellsLabels text l };
+
+    ghost canonical = { λ l. canonical_labels l };
+
+    ghost shown = { λ l. shown_labels l };
+
+    fn kind() -> TextKind {
+        TextKind::Labels
+    }
+
+    fn write<K: Sink>(&self, sink: &mut K) -> Result<(), DeviceFault> {
+        write_labels(self, sink)
+    }
+
+    fn show<K: Sink>(&self, sink: &mut K) -> Result<(), DeviceFault> {
+        show_nodes(sink, b"dist", self.nodes(), self.blocks().len())
     }
 }

@@ -11,7 +11,7 @@ use crate::graph::Graph;
 use dimacs_lines::{Memory, Source};
 use dimacs_network::{ForwardStar, Network, OfWeightArcs, PlainArcs, WeightArc};
 use dimacs_records::{
-    Builder, Context, CountedReading, Declared, ReadError, Record, TextKind, read_counted,
+    Builder, Context, CountedReading, Declared, ReadError, Record, Text, TextKind, read_counted,
 };
 use std::alloc::Global;
 use std::marker::{Model, PhantomData};
@@ -121,4 +121,10 @@ pub fn read_plain_graph<S: Source>(
     ensures faults { CountsRead result (S.faults source.old) (S.faults source.new) }
 {
     read_counted::<GraphBuilder<PlainArcs<WeightArc>>, S>(alloc, source)
+}
+
+impl<N: OfWeightArcs + Drop> Text for Graph<N> {
+    fn read<S: Source>(alloc: Global, source: &mut S) -> Result<Self, ReadError> {
+        read_counted::<GraphBuilder<N>, S>(alloc, source)
+    }
 }

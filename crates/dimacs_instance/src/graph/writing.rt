@@ -2,13 +2,15 @@
 
 ghost use Rattle.std.specs.Prelude.{◌≡◌, ◌<◌, ◌^◌, length, option_map, slice_get};
 ghost use Rattle.dimacs_lines.specs.Puts.{Puts};
-ghost use Rattle.dimacs_instance.specs.Graph.{SpellsGraph, canonical_graph, graph_arc};
+ghost use Rattle.dimacs_records.specs.declared.kinds.TextKind.TheVariants as kinds;
+ghost use Rattle.dimacs_instance.specs.Graph.{SpellsGraph, canonical_graph, graph_arc, shown_graph};
 ghost use Rattle.dimacs_network.specs.Arcs.{NetworkValue};
 
 use crate::graph::Graph;
+use crate::summaries::{GraphSummary, Summary};
 use dimacs_lines::{DeviceFault, Sink};
 use dimacs_network::{ArcView, Network};
-use dimacs_records::{Record, put_text};
+use dimacs_records::{Record, TextKind, Writable, put_text};
 
 /// Writes the canonical text of a graph.
 pub fn write_graph<N: Network, S: Sink>(graph: &Graph<N>, sink: &mut S) -> Result<(), DeviceFault>
@@ -38,5 +40,36 @@ fn arc_record(arc: ArcView) -> Record
         tail: arc.tail,
         head: arc.head,
         weight: arc.cost,
+    }
+}
+
+impl<N: Network> Writable for Graph<N> {
+    ghost kind = { kinds.Graph };
+
+    ghost Content = { NetworkValue };
+
+    ghost content = { λ g. g };
+
+    ghost spells = { λ text g. SpellsGraph text g };
+
+    ghost canonical = { λ g. canonical_graph g };
+
+    ghost shown = { λ g. shown_graph g };
+
+    fn kind() -> TextKind {
+        TextKind::Graph
+    }
+
+    fn write<K: Sink>(&self, sink: &mut K) -> Result<(), DeviceFault> {
+        write_graph(self, sink)
+    }
+
+    fn show<K: Sink>(&self, sink: &mut K) -> Result<(), DeviceFault> {
+        let network = self.network();
+        let summary = GraphSummary {
+            nodes: network.nodes(),
+            arcs: network.arcs(),
+        };
+        summary.show(sink)
     }
 }

@@ -11,7 +11,9 @@ use crate::max::{EndLine, EndLines, MaxInstance};
 use crate::summaries::MaxNodesBuilder;
 use dimacs_lines::{Memory, Source};
 use dimacs_network::{CapacityArc, ForwardStar, Network, OfCapacityArcs, PlainArcs};
-use dimacs_records::{Builder, Context, CountedReading, ReadError, Record, TextKind, read_counted};
+use dimacs_records::{
+    Builder, Context, CountedReading, ReadError, Record, Text, TextKind, read_counted,
+};
 use std::alloc::Global;
 use std::marker::{Model, PhantomData};
 
@@ -144,4 +146,10 @@ pub fn read_plain_max<S: Source>(
     ensures faults { CountsRead result (S.faults source.old) (S.faults source.new) }
 {
     read_counted::<MaxBuilder<PlainArcs<CapacityArc>>, S>(alloc, source)
+}
+
+impl<N: OfCapacityArcs + Drop> Text for MaxInstance<N> {
+    fn read<S: Source>(alloc: Global, source: &mut S) -> Result<Self, ReadError> {
+        read_counted::<MaxBuilder<N>, S>(alloc, source)
+    }
 }

@@ -2,12 +2,15 @@
 
 ghost use Rattle.std.specs.Prelude.{◌≡◌, ◌<◌, ◌^◌, length, option_map, slice_get};
 ghost use Rattle.dimacs_lines.specs.Puts.{Puts};
-ghost use Rattle.dimacs_instance.specs.{MaxFlows.{MaxValue}, MaxTexts.{SpellsMax, canonical_max, max_arc, nodes_by_id}};
+ghost use Rattle.dimacs_records.specs.declared.kinds.TextKind.TheVariants as kinds;
+ghost use Rattle.dimacs_instance.specs.MaxFlows.{MaxValue};
+ghost use Rattle.dimacs_instance.specs.MaxTexts.{SpellsMax, canonical_max, max_arc, nodes_by_id, shown_max};
 
 use crate::max::MaxInstance;
+use crate::summaries::{MaxSummary, Summary};
 use dimacs_lines::{DeviceFault, Sink};
 use dimacs_network::{ArcView, Network};
-use dimacs_records::{End, Record, put_text};
+use dimacs_records::{End, Record, TextKind, Writable, put_text};
 
 /// Writes the canonical text of a maximum flow instance.
 pub fn write_max<N: Network, S: Sink>(max: &MaxInstance<N>, sink: &mut S) -> Result<(), DeviceFault>
@@ -57,5 +60,38 @@ fn arc_record(arc: ArcView) -> Record
         tail: arc.tail,
         head: arc.head,
         cap: arc.cap,
+    }
+}
+
+impl<N: Network> Writable for MaxInstance<N> {
+    ghost kind = { kinds.Max };
+
+    ghost Content = { MaxValue };
+
+    ghost content = { λ m. m };
+
+    ghost spells = { λ text m. SpellsMax text m };
+
+    ghost canonical = { λ m. canonical_max m };
+
+    ghost shown = { λ m. shown_max m };
+
+    fn kind() -> TextKind {
+        TextKind::Max
+    }
+
+    fn write<K: Sink>(&self, sink: &mut K) -> Result<(), DeviceFault> {
+        write_max(self, sink)
+    }
+
+    fn show<K: Sink>(&self, sink: &mut K) -> Result<(), DeviceFault> {
+        let network = self.network();
+        let summary = MaxSummary {
+            nodes: network.nodes(),
+            arcs: network.arcs(),
+            source: self.source(),
+            sink: self.sink(),
+        };
+        summary.show(sink)
     }
 }

@@ -11,7 +11,7 @@ use crate::min::MinInstance;
 use dimacs_lines::{Memory, Source};
 use dimacs_network::{ArcView, ForwardStar, Network, NodeMap, OfCostArcs, PlainArcs};
 use dimacs_records::{
-    Builder, Context, CountedReading, Declared, ReadError, Record, TextKind, read_counted,
+    Builder, Context, CountedReading, Declared, ReadError, Record, Text, TextKind, read_counted,
 };
 use std::alloc::Global;
 use std::marker::{Model, PhantomData};
@@ -153,4 +153,10 @@ pub fn read_plain_min<S: Source>(
     ensures faults { CountsRead result (S.faults source.old) (S.faults source.new) }
 {
     read_counted::<MinBuilder<PlainArcs<ArcView>>, S>(alloc, source)
+}
+
+impl<N: OfCostArcs + Drop> Text for MinInstance<N> {
+    fn read<S: Source>(alloc: Global, source: &mut S) -> Result<Self, ReadError> {
+        read_counted::<MinBuilder<N>, S>(alloc, source)
+    }
 }

@@ -2,14 +2,17 @@
 
 ghost use Rattle.std.specs.Prelude.{◌≡◌, ◌<◌, ◌+◌, ◌^◌, None, Some, pos, if◌then◌else◌, length, option_map, slice_get, ◌≤◌};
 ghost use Rattle.dimacs_lines.specs.{Limits.{most_nodes}, Puts.{Puts}};
+ghost use Rattle.dimacs_records.specs.declared.kinds.TextKind.TheVariants as kinds;
 ghost use Rattle.dimacs_records.specs.{declared.records.Record.TheVariants.{MinNode}, NodeValues.{is_nonzero}};
 ghost use Rattle.dimacs_network.specs.Skips.{Skips};
-ghost use Rattle.dimacs_instance.specs.{MinFlows.{MinValue, supply_of}, MinTexts.{SpellsMin, canonical_min, min_arc}};
+ghost use Rattle.dimacs_instance.specs.MinFlows.{MinValue, supply_of};
+ghost use Rattle.dimacs_instance.specs.MinTexts.{SpellsMin, canonical_min, min_arc, shown_min};
 
 use crate::min::MinInstance;
+use crate::summaries::{MinSummary, Summary};
 use dimacs_lines::{DeviceFault, OutputBuffer, Sink};
 use dimacs_network::{ArcView, Network};
-use dimacs_records::{Record, write_lines, write_record, write_sparse_lines};
+use dimacs_records::{Record, TextKind, Writable, write_lines, write_record, write_sparse_lines};
 
 /// Writes the canonical text of a minimum cost flow instance.
 pub fn write_min<N: Network, S: Sink>(
@@ -65,5 +68,39 @@ fn arc_record(arc: ArcView) -> Record
         low: arc.low,
         cap: arc.cap,
         cost: arc.cost,
+    }
+}
+
+impl<N: Network> Writable for MinInstance<N> {
+    ghost kind = { kinds.Min };
+
+    ghost Content = { MinValue };
+
+    ghost content = { λ m. m };
+
+    ghost spells = { λ text m. SpellsMin text m };
+
+    ghost canonical = { λ m. canonical_min m };
+
+    ghost shown = { λ m. shown_min m };
+
+    fn kind() -> TextKind {
+        TextKind::Min
+    }
+
+    fn write<K: Sink>(&self, sink: &mut K) -> Result<(), DeviceFault> {
+        write_min(self, sink)
+    }
+
+    fn show<K: Sink>(&self, sink: &mut K) -> Result<(), DeviceFault> {
+        let network = self.network();
+        let sums = self.supply_sums();
+        let summary = MinSummary {
+            nodes: network.nodes(),
+            arcs: network.arcs(),
+            supplied: sums.supplied,
+            demanded: sums.demanded,
+        };
+        summary.show(sink)
     }
 }
