@@ -23,7 +23,7 @@ pub(crate) fn read<V: Text, P: Source>(alloc: Global, source: &mut P) -> Result<
     ensures reads { (a : List ℕ) → P.coming source.old ≡ Some a → ReadsOne V.content (text_spells V.kind V.spells a) result }
     ensures faults { CountsUnread result (P.faults source.old ∷ []) (P.faults source.new ∷ []) }
     ensures faultless { IfOk result (λ value. ¬ HasFault V.kind (P.coming source.old)) }
-    ensures lawful { IfOk result (λ value. V.lawful (V.content value)) }
+    ensures lawful { IfOk result (λ value. V.lawful value) }
 {
     match V::read(alloc, source) {
         Ok(value) => Ok(value),
@@ -61,7 +61,7 @@ pub(crate) fn read_two<V: Text, W: Text, P: Source, Q: Source>(
         → ReadsTwo V.content W.content (text_spells V.kind V.spells a) (text_spells W.kind W.spells b) result }
     ensures faults { CountsUnread result (P.faults first.old ∷ Q.faults second.old ∷ []) (P.faults first.new ∷ Q.faults second.new ∷ []) }
     ensures stops_at_first { HasFault V.kind (P.coming first.old) → second.new ≡ second.old }
-    ensures lawful { IfOk result (λ values. V.lawful (V.content values.0) × W.lawful (W.content values.1)) }
+    ensures lawful { IfOk result (λ values. V.lawful values.0 × W.lawful values.1) }
 {
     let value = read(alloc, first)?;
     let other = read(alloc, second)?;
@@ -82,7 +82,7 @@ pub(crate) fn read_placed<E: Place, W: Text, P: Source, Q: Source>(
     ensures fixed { IfOk result (λ values. E.fixed values.0.place ≡ E.fixed place) }
     ensures faults { CountsUnread result (P.faults first.old ∷ Q.faults second.old ∷ []) (P.faults first.new ∷ Q.faults second.new ∷ []) }
     ensures stops_at_first { HasFault kinds.Solution (P.coming first.old) → second.new ≡ second.old }
-    ensures lawful { IfOk result (λ values. W.lawful (W.content values.1)) }
+    ensures lawful { IfOk result (λ values. W.lawful values.1) }
 {
     let placed = place_solution(alloc, place, first)?;
     let certificate = read(alloc, second)?;
