@@ -5,7 +5,7 @@ use Rattle.std.specs.Prelude.{IsErrAnd}
 use Rattle.dimacs_judging.specs.{declared.verdict.JudgeError.{JudgeError}, Tests.{Row, AllClear}}
 use Rattle.dimacs_judging.proofs.Firsts.{AllOneWay, none_first, one_first}
 use Rattle.dimacs_arrays.specs.{declared.error.Array.{Array}, declared.error.ArrayError.{ArrayError}}
-use Rattle.dimacs_arrays.specs.{declared.lengths.ArrayLength.{ArrayLength}, inside.Answers.{Spells, TestsLengths}}
+use Rattle.dimacs_arrays.specs.{declared.lengths.ArrayLength.{ArrayLength}, inside.Answers.{Spells}}
 use Rattle.dimacs_arrays.specs.Answers.{AnswersArrays, first_misfit, of_judge}
 use Rattle.dimacs_judging.specs.declared.verdict.JudgeError.TheVariants as judged
 use Rattle.dimacs_arrays.specs.declared.error.ArrayError.TheVariants as errors
@@ -41,16 +41,6 @@ misfit_after [] more e = refl
 misfit_after (l ∷ lengths) more e = after_by (l.found == l.wanted) l.array (first_misfit lengths) (first_misfit (lengths ++ more)) (first_misfit more) (misfit_after lengths more) e
 
 module _ {X : Type 0} (lengths : List ArrayLength) (limits : List Row) (lawful : Type 0) (answers : Result X JudgeError → Type 0) where
-  --   an array has a wrong length
-  pub tells_misfit : (error : ArrayError) → TestsLengths lengths (Err error) → (result : Result X ArrayError) → IsErrAnd result (λ e. e ≡ error) → AnswersArrays lengths limits lawful answers result
-  tells_misfit error outcome result is = let p = err_from_is_err_and result is in rw (p.1, p.2) (by_error error outcome)
-    where
-      by_error : (error : ArrayError) → TestsLengths lengths (Err error) → AnswersArrays lengths limits lawful answers (Err error)
-      by_error (errors.Length array) outcome = outcome
-      by_error (errors.Limit place reason) outcome = absurd outcome
-      by_error (errors.Refused place reason) outcome = absurd outcome
-      by_error errors.Memory outcome = tt
-
   module _ (fit : first_misfit lengths ≡ None) where
     --     a number is out of range
     pub tells_limit : {I : Type 0} (i : I) (error : ArrayError) → AllOneWay limits → (lawful → AllClear limits) → Spells {X = I} limits i (Err error) → (result : Result X ArrayError) → IsErrAnd result (λ e. e ≡ error)

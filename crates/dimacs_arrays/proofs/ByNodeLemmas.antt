@@ -1,5 +1,5 @@
 -- One more node of an array by node.
-use Rattle.std.proofs.Common.{◌≡◌, inl, inr, ℕ, zero, suc, ◌+◌, ◌<◌, ◌≤◌, ◌==◌, ◌||◌, ◌⊎◌, ◌^◌, List, [], ◌∷◌, length, get_or, map, Option, Some, None, Result, Ok, Err, Bool, true, false, cond, refl, sym, subst, ◌∙◌, ap, add-one, arith}
+use Rattle.std.proofs.Common.{◌≡◌, inl, inr, ℕ, zero, suc, ◌+◌, ◌<◌, ◌≤◌, ◌==◌, ◌||◌, ◌^◌, List, [], ◌∷◌, length, get_or, map, Option, Some, None, Result, Ok, Err, Bool, true, false, cond, refl, sym, ◌∙◌, ap, add-one, arith}
 use Rattle.std.proofs.Math.Path.{fun_ext}
 use mir.Val.{bool_byte}
 use Rattle.std.specs.Prelude.{ℤ, pos, neg_ℤ, ◌+ℤ◌, ◌≤ℤ◌, nat_lt, if◌then◌else◌, unwrap_or, IfNone, IfOk}
@@ -182,26 +182,6 @@ pub record IsLeastUpTo (p : PotentialsValue) (i : ℕ) (least : ℤ) : Type 0 wh
   pub wide : IsWide least
   pub below : (v : ℕ) → IsNode i v → least ≤ℤ potential_of p v
   pub found : 1 ≤ p.nodes → (w : ℕ) × IsNode p.nodes w × (least ≡ potential_of p w)
-
-pub least_first : (p : PotentialsValue) (least : ℤ) → IsWide least → least ≡ potential_of p 1 → IsLeastUpTo p 0 least
-least_first p least wide is = record {
-  wide = wide;
-  below = λ v node. absurd (omega (arith, node.0, node.1));
-  found = λ some. (1, (omega arith, some), is);
-}
-
-pub least_more : (p : PotentialsValue) (i : ℕ) (least next new : ℤ) → next ≡ potential_of p (i + 1) → i < p.nodes → IsWide new → new ≤ℤ least → new ≤ℤ next → (new ≡ least) ⊎ (new ≡ next) → IsLeastUpTo p i least → IsLeastUpTo p (i + 1) new
-least_more p i least next new next_is inside wide less small one is = record {
-  wide = wide;
-  below = λ v node. elim (cases_lt v (i + 1)) [
-    | inl before ↦ (let low = is.below v (node.0, omega (arith, before)) in omega (arith, ints, low, less))
-    | inr last ↦ (let same : v ≡ i + 1 = omega (arith, last, node.1) in subst (λ w. new ≤ℤ potential_of p w) (sym same) (subst (λ n. new ≤ℤ n) next_is small))
-  ];
-  found = λ some. elim one [
-    | inl old ↦ (let (w, node, same) = is.found some in (w, node, old ∙ same))
-    | inr fresh ↦ (i + 1, (omega arith, omega (arith, inside)), fresh ∙ next_is)
-  ];
-}
 
 -- if the least of them becomes the least number of 64 bits, and another doesn't fit
 pub wider_by : (p : PotentialsValue) (least shift : ℤ) → IsLeastOf p least → (least +ℤ shift) ≡ neg_ℤ (pos (2 ^ 63)) → IsWiderBy p shift → IsWider p

@@ -21,7 +21,7 @@ use Rattle.dimacs_judging.proofs.{Firsts.{AllOneWay}, Passing.{costs_clear, cost
 use Rattle.dimacs_judging.proofs.Reasons.{balance_one_way, bound_one_way, cost_one_way}
 use Rattle.dimacs_judging.proofs.RowLists.{all_clear-append, first_after}
 use Rattle.dimacs_judging.proofs.Settling.{error_settles, refused_in_front, refuted_refuses}
-use Rattle.dimacs_decide.specs.{MaxDecision.{DecidesMax}, MinDecision.{DecidesMin}}
+use Rattle.dimacs_decide.specs.{MinDecision.{DecidesMin}}
 use Rattle.dimacs_decide.specs.declared.maximum.MaxDecision.TheVariants as of_max
 use Rattle.dimacs_decide.specs.declared.least.MinDecision.TheVariants as of_min
 use Rattle.dimacs_arrays.specs.declared.certify_max.MaxCertified.TheVariants as max_told
@@ -39,9 +39,6 @@ module _ (i : MaxValue) (x : List ℤ) where
   pub max_feasible : (outcome : MaxCertified) → CertifiesMaxFlow i x outcome → (done : Unit {0}) × FeasibleMax i x
   max_feasible (max_told.Optimal total inside) agrees = (tt, agrees.0.0.feasible)
   max_feasible (max_told.Better y) agrees = (tt, agrees.claimed)
-
-  pub max_better : (y : List ℤ) → FeasibleMax i x → DecidesMax i x (of_max.Better y) → CertifiesMaxFlow i x (max_told.Better y)
-  max_better y feasible outcome = record { claimed = feasible; not_maximum = outcome.0; feasible = outcome.1; greater = outcome.2 }
 
 -- ---- least
 -- potentials stay slack if the same number is added to each

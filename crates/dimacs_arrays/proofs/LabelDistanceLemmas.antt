@@ -62,17 +62,6 @@ place_of (l ∷ ls) v d at = elim (eqb_tells l.id v) [
 ]
 
 module _ (b : BlockValue) (nodes : ℕ) where
-  pub reached_begun : IsNode nodes b.source → AreReachedBy b nodes (slice_set (replicate nodes (pos (2 ^ 63 - 1))) (b.source - 1) (pos 0)) 0
-  reached_begun node =
-      let blank : List ℤ = replicate nodes (pos (2 ^ 63 - 1)) in
-      let there : IsNode (length blank) b.source = (node.0, omega (arith, node.1, length-replicate nodes (pos (2 ^ 63 - 1)))) in
-      record {
-        each = length-set blank (b.source - 1) (pos 0) ∙ length-replicate nodes (pos (2 ^ 63 - 1));
-        source = claim_here blank b.source (pos 0) there ((omega (arith, ints), omega (arith, ints)), λ e. omega (arith, ints, e));
-        named = λ j less. absurd (omega (arith, less));
-        others = λ v apart none. claim_there blank b.source v (pos 0) there apart ∙ none_claimed nodes v;
-      }
-
   module _ (apart : NodesAreDistinct b.labels) (distances : List ℤ) where
     pub reached_more : (n : ℕ) → n < length b.labels → IsNode nodes (at_place b.labels n).id → (at_place b.labels n).id ≢ b.source → IsItem (at_place b.labels n).dist → AreReachedBy b nodes distances n
         → AreReachedBy b nodes (slice_set distances ((at_place b.labels n).id - 1) (at_place b.labels n).dist) (n + 1)

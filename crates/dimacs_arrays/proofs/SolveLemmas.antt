@@ -1,11 +1,9 @@
 -- Solving over arrays.
-use Rattle.std.proofs.Common.{◌≡◌, inl, inr, ℕ, ◌≤◌, List, [], ◌∷◌, All, length, map, get_or, None, Some, ℤ, refl, sym, ap, subst, ◌∙◌, arith}
-use Rattle.std.proofs.{lemmas.Bool.Decides.{eqb_tells}, lemmas.List.Elements.{All-cons, All-head, All-nil}}
-use Rattle.dimacs_lines.specs.Limits.{most_nodes, IsNode}
+use Rattle.std.proofs.Common.{◌≡◌, inl, inr, ℕ, List, [], ◌∷◌, All, length, map, get_or, None, Some, ℤ, refl, sym, ap, subst, ◌∙◌}
+use Rattle.std.proofs.{lemmas.Bool.Decides.{eqb_tells}, lemmas.List.Elements.{All-head}}
 use Rattle.dimacs_network.specs.Arcs.{JoinsNodes, NetworkValue}
-use Rattle.dimacs_records.specs.Ranges.{IsId}
 use Rattle.dimacs_claims.specs.{Cuts.{CutValue}, Labels.{BlockValue, IsBlock, LabelsValue, label, label_in}}
-use Rattle.dimacs_instance.specs.{MinFlows.{MinValue}, QueryTexts.{AreLawful, Sources}}
+use Rattle.dimacs_instance.specs.{MinFlows.{MinValue}, QueryTexts.{Sources}}
 use Rattle.dimacs_judging.specs.{Answers.{block_of}, Cuts.{members}, InfeasibleJudge.{ShowsNoFlow}, Walks.{IsDistance}}
 use Rattle.dimacs_judging.specs.ViolatedSets.{Violated}
 use Rattle.dimacs_decide.specs.{Claims.{claimed_by_node}, Distances.{AreDistancesFrom, AreLabelsOf}}
@@ -21,9 +19,6 @@ pub infeasible_by : (i : MinValue) (set : CutValue) (bytes : List ℕ) → Shows
 infeasible_by i set bytes shown each marks bits = ((subst (Violated i) (sym marks) shown.0.violated, shown.1), each ∙ shown.0.nodes_are, bits)
 
 -- ---- distances from one source
-pub source_lawful : (nodes s : ℕ) → IsNode nodes s → nodes ≤ most_nodes → AreLawful (Sources (s ∷ []))
-source_lawful nodes s node few = record { few = omega arith; ids = All-cons IsId s [] (node.0, omega (arith, node.1, few)) (All-nil _) }
-
 pub one_source : (blocks : List BlockValue) (s : ℕ) → map block_source blocks ≡ distinct_after [] (s ∷ []) → (b : BlockValue) × (blocks ≡ b ∷ []) × (b.source ≡ s)
 one_source [] s is = let f : [] ≡ s ∷ [] = is in absurd (cc)
 one_source (b ∷ []) s is = (b, refl, ap (λ xs. get_or xs 0 0) is)

@@ -6,7 +6,7 @@ use Rattle.dimacs_lines.specs.declared.device.DeviceFault.{DeviceFault}
 use Rattle.dimacs_arrays.specs.{declared.error.ArrayError.{ArrayError}, declared.solution.ClaimedFlow.{ClaimedFlow}}
 use Rattle.dimacs_fill.specs.{declared.error.FillError.{FillError}, declared.error.FillError.TheVariants.{Unread, Node}}
 use Rattle.dimacs_fill.specs.Filling.{ReadsArcsInto, ReadsFitting, ReadsInto}
-use Rattle.dimacs_c.specs.{ArrayTexts.{value_read}, Calls.{Handed, handed}, Reading.{AnswersFilled, AnswersRead}}
+use Rattle.dimacs_c.specs.{ArrayTexts.{value_read}, Calls.{Handed}, Reading.{AnswersFilled, AnswersRead}}
 use Rattle.dimacs_c.specs.{inside.Printed.{value_if}, inside.Reading.{EndsUnfilled, EndsUnread}}
 use Rattle.dimacs_c.proofs.ArrayLemmas.{IsSet, none_by}
 
@@ -22,9 +22,6 @@ arcs_memory kind text spells size gets error (Ok v, reads, is, got) = absurd (cc
 arcs_memory kind text spells size gets error (Err other, reads, is, got) = (Err Memory, tt, refl, tt)
 
 module _ {W : Type 0} (reads sets : Result W ReadError → Type 0) (text : List ℕ) where
-  pub was_read : (sizes : W) → reads (Ok sizes) → sets (Ok sizes) → (out : List ℕ) (exit_status needed : ℕ) → exit_status ≡ 0 → needed ≡ 0 → AnswersRead reads sets text exit_status (handed out out needed)
-  was_read sizes holds set out exit_status needed status none = (Ok sizes, holds, status, none_by (handed out out needed) (record { needed = none; unchanged = refl }), set)
-
   pub was_unread : (error : ReadError) → reads (Err error) → reads (Err Memory) → sets (Err error) → sets (Err Memory) → (exit_status : ℕ) (h : Handed ℕ) → EndsUnread text error exit_status h → AnswersRead reads sets text exit_status h
   was_unread (Refused place reason) holds memory set cleared exit_status h (inl ends) = (Err (Refused place reason), holds, ends.0, ends.1, set)
   was_unread (Refused place reason) holds memory set cleared exit_status h (inr ends) = (Err Memory, memory, ends.0, none_by h ends.1, cleared)
@@ -42,9 +39,6 @@ pub fill_memory : {V W : Type 0} (kind : TextKind) (text : List ℕ) (spells : V
 fill_memory kind text spells fills kept error (answer, reads, is, same) = (Err Memory, tt, refl, same)
 
 module _ {W : Type 0} (reads sets : Result W FillError → Type 0) (text : List ℕ) where
-  pub was_filled : (sizes : W) → reads (Ok sizes) → sets (Ok sizes) → (out : List ℕ) (exit_status needed : ℕ) → exit_status ≡ 0 → needed ≡ 0 → AnswersFilled reads sets text exit_status (handed out out needed)
-  was_filled sizes holds set out exit_status needed status none = (Ok sizes, holds, status, none_by (handed out out needed) (record { needed = none; unchanged = refl }), set)
-
   pub unfilled : (error : FillError) → reads (Err error) → reads (Err (Unread Memory)) → sets (Err error) → sets (Err (Unread Memory)) → (exit_status : ℕ) (h : Handed ℕ) → EndsUnfilled text error exit_status h
       → AnswersFilled reads sets text exit_status h
   unfilled (Unread (Refused place reason)) holds memory set cleared exit_status h (inl ends) = (Err (Unread (Refused place reason)), holds, ends.0, ends.1, set)

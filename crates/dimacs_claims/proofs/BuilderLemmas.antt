@@ -241,9 +241,6 @@ pub labelled_again : (labelled : FinSet nat_cmp) (blocks front : List BlockValue
 labelled_again labelled blocks front b id is fresh are =
     rw (insert_removed labelled id (are.last front b is id ∙ (or_parts (b.source == id) _ (sym (some_if (b.source == id) (pos 0) (distance_in b.labels id)) ∙ fresh)).1)) are
 
-pub begun_has_label : (labelled : FinSet nat_cmp) (blocks front : List BlockValue) (b : BlockValue) (id : ℕ) → AreLabelled labelled blocks → blocks ≡ front ++ b ∷ [] → ((b.source == id) || contains labelled id) ≡ is_some (label b id)
-begun_has_label labelled blocks front b id are is = ap (λ t. (b.source == id) || t) (are.last front b is id) ∙ sym (some_if (b.source == id) (pos 0) (distance_in b.labels id))
-
 pub take_before : {X : Type 0} (xs : List X) (x : X) (n : ℕ) → n ≡ length xs → take n (xs ++ x ∷ []) ≡ xs
 take_before xs x n is = rw is (take-append-le (length xs) xs (x ∷ []) (omega arith) ∙ take_all (length xs) xs (omega arith))
 

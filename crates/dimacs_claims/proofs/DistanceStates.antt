@@ -2,12 +2,12 @@
 use Rattle.std.proofs.Common.{◌≡◌, ℕ, ◌==◌, ◌≤◌, ◌∷◌, ◌++◌, [], List, Bool, true, false, inl, inr, Some, None, map, refl, ap, sym, ◌∙◌, subst, arith}
 use Rattle.std.proofs.{lemmas.Bool.{eq-eqb, le-ltb}, lemmas.List.Elements.{All-nil, All-pop, All-push}}
 use Rattle.std.specs.{Prelude.{ℤ, ◌||◌, is_none, not, Result, Ok, Err, OnOk, OnErr}, List.{All}}
-use Rattle.dimacs_records.specs.{declared.kinds.TextKind.TheVariants.{Labels, Distances}, Spelling.{kind_of}}
+use Rattle.dimacs_records.specs.{declared.kinds.TextKind.TheVariants.{Distances}, Spelling.{kind_of}}
 use Rattle.dimacs_records.specs.{declared.order.Context.{Context}, declared.records.Record.{Record}}
 use Rattle.dimacs_records.specs.declared.records.Record.TheVariants.{LabelsBlock, LabelsNode, DistancesProblem, DistancesBlock, DistancesNode}
 use Rattle.dimacs_records.specs.Blocks.{block_in, is_labelled, is_past, is_past_block}
 use Rattle.dimacs_records.specs.Readings.{LineRecord, numbered, records_of}
-use Rattle.dimacs_records.specs.Tests.{Passes, PassesEnd, end_context_of, context_after}
+use Rattle.dimacs_records.specs.Tests.{Passes, end_context_of, context_after}
 use Rattle.dimacs_records.proofs.CanonicalLaws.{numbered_all}
 use Rattle.dimacs_claims.specs.{declared.block.Label.{Label}, DistanceTexts.{AreBare, GivesDistances, IsBare, bare}}
 use Rattle.dimacs_claims.specs.Labels.{BlockValue, IsBlock, LabelsValue, with_block, with_label}
@@ -34,10 +34,6 @@ pub bare_end_context_by_records : (b : LabelsBegun) → end_context b ≡ end_co
 bare_end_context_by_records b =
     let rs = labels_begun_records b in
     rw (bare_problem_in rs, bare_counted_in rs, bare_short rs) (end_context_by_records b)
-
--- distances that pass the tests at the end pass them as labels
-pub whole_passes : (e : Context) → PassesEnd Distances e → PassesEnd Labels e
-whole_passes e p = record { problem = p.problem; ends = p.ends; finished = p.finished; value = refl }
 
 pub gives_distances : (begun : LabelsBegun) (labels : LabelsValue) → ((rs : List LineRecord) → records_of rs ≡ labels_begun_records begun → GivesLabels rs labels) → AreBare labels
     → (rs : List LineRecord) → records_of rs ≡ map bare (labels_begun_records begun) → GivesDistances rs labels

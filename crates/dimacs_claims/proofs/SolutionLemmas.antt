@@ -2,7 +2,7 @@
 use Rattle.std.proofs.Common.{◌≡◌, ℕ, suc, ◌≤◌, ◌∷◌, ◌++◌, [], List, Bool, true, false, Option, Some, None, Result, Ok, Err, length, map, ◌+◌, refl, ap, sym, ◌∙◌, arith, append_assoc}
 use Rattle.std.proofs.{lemmas.Int.{ints}, lemmas.List.{append-nil, length-append, length-map, map-append}}
 use Rattle.std.proofs.lemmas.List.Elements.{All-nil, All-cons, All-head, All-map, All-tail}
-use Rattle.std.specs.{Prelude.{ℤ, pos, neg_ℤ, ◌^◌, codes, is_some, IfOk, IsErrAnd, ◌↔◌}, List.{All, list_any}}
+use Rattle.std.specs.{Prelude.{ℤ, pos, neg_ℤ, ◌^◌, codes, is_some, IfOk, IsErrAnd}, List.{All, list_any}}
 use Rattle.std.specs.Result.{result_map_both}
 use Rattle.dimacs_lines.specs.{Lines.{lines}, Limits.{most_lines}, Number.{IsWithin}}
 use Rattle.dimacs_records.specs.{declared.records.Record.{Record}, declared.faults.ReadError.{ReadError}}
@@ -287,10 +287,6 @@ module _ (holds : List Entry → Type 0) (rs : List LineRecord) where
         others_are = map-append entry_line es (e ∷ []) ∙ (ap (λ t. t ++ entry_line e ∷ []) among.others_are ∙ append_assoc among.before among.after (entry_line e ∷ []));
         all_are = ap (λ t. t ++ entry_line e ∷ []) among.all_are ∙ append_assoc among.before (on_line v.line (value_record v.value) ∷ among.after) (entry_line e ∷ []);
       }
-
-  -- if two places stand for the same entries, so do their readings
-  pub same_placed : (value : Option ValueLine) (other : List Entry → Type 0) → ((es : List Entry) → holds es ↔ other es) → StandsForSolution value holds rs ↔ StandsForSolution value other rs
-  same_placed value other same = ((λ h. (h.0, (same h.0).0 h.1, h.2)), (λ h. (h.0, (same h.0).1 h.1, h.2)))
 
 -- a solution whose entries were kept
 pub kept_solution : {W : Type 0} (value : W → ℤ) (value_line : W → ℕ) (entries : W → List Entry) (noted : Result SolutionValue ReadError) (w : W) → AnswersAlike (λ s x. IsPlaced (value x) (value_line x) (λ kept. entries x ≡ kept) s) noted (Ok w)

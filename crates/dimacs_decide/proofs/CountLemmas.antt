@@ -51,9 +51,6 @@ module _ (test after : ℕ → Bool) (at : ℕ) (others : (v : ℕ) → v ≢ at
 zero_is : (n : ℕ) → n ≡ 0 → (n == 0) ≡ true
 zero_is n none = eq-eqb n 0 none
 
-pub some_zero : (number : ℕ → ℕ) (at n : ℕ) → at < n → number at ≡ 0 → 1 ≤ count_below (λ v. number v == 0) n
-some_zero number at n h none = count_some (λ v. number v == 0) at n h (zero_is (number at) none)
-
 pub all_zero : (number : ℕ → ℕ) (n : ℕ) → ((v : ℕ) → v < n → number v ≡ 0) → count_below (λ v. number v == 0) n ≡ n
 all_zero number n none = count_all (λ v. number v == 0) n (λ v h. zero_is (number v) (none v h))
 

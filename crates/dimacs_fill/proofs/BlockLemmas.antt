@@ -2,7 +2,7 @@
 use Rattle.std.proofs.Common.{◌≡◌, ◌≢◌, inl, inr, ℕ, ℤ, pos, ◌+◌, ◌-◌, ◌<◌, ◌≤◌, ◌==◌, ◌⊎◌, ◌^◌, List, [], ◌∷◌, ◌++◌, All, length, get_or, map, take, drop, true, false, cond, is_some, Option, None, Some, refl, sym, ap, ◌∙◌, arith}
 use Rattle.std.proofs.{lemmas.Bool.{cases_eq, cases_lt, ne_eqb}, lemmas.Bool.Decides.{eqb_tells}}
 use Rattle.std.proofs.Math.ListN.{get_or-append}
-use Rattle.std.proofs.lemmas.List.{drop_more, ext_get_or, get_or-append_right, get_or-drop, get_or-set_other, get_or-set_same, get_or-take, length-append, length-drop, length-set, length-take, take-append-drop, take_all, take_more}
+use Rattle.std.proofs.lemmas.List.{drop_more, ext_get_or, get_or-append_right, get_or-drop, get_or-set_other, get_or-set_same, get_or-take, length-append, length-drop, length-set, length-take, take-append-drop, take_more}
 use Rattle.std.proofs.lemmas.List.Elements.{All-contains_itself, All-get_or, All-head, All-tail, All-weaker}
 use Rattle.std.proofs.lemmas.List.FromFn.{get_or-map-range_with_len, length-map-range_with_len}
 use Rattle.std.specs.{Prelude.{Contains, if◌then◌else◌, slice_set}, List.{range_with_len}}
@@ -126,6 +126,3 @@ module _ (nodes : ℕ) (b : BlockValue) (lawful : IsBlock nodes b) (n : ℕ) (in
 -- ---- no labels, and all
 pub no_labels : (b : BlockValue) (v : ℕ) → (if b.source == v then pos 0 else pos (2 ^ 63 - 1)) ≡ item_of (label (first_labels b 0) v)
 no_labels b v = elim (eqb_tells b.source v) [ inl same ↦ rw same.0 refl | inr apart ↦ rw apart.0 refl ]
-
-pub all_labels : (b : BlockValue) (n : ℕ) → length b.labels ≤ n → first_labels b n ≡ b
-all_labels b n over = ap (λ (labels : List Label). record { source = b.source; radius = b.radius; labels = labels }) (take_all n b.labels over)

@@ -1,7 +1,7 @@
 -- Arrays that get item after item.
-use Rattle.std.proofs.Common.{◌≡◌, ◌∙◌, ◌++◌, ◌∷◌, ◌<◌, ◌≤◌, ◌-◌, inl, inr, ℕ, List, [], refl, ap, sym, length, take, drop, map, arith}
+use Rattle.std.proofs.Common.{◌≡◌, ◌∙◌, ◌++◌, ◌∷◌, ◌≤◌, ◌-◌, inl, inr, ℕ, List, [], refl, ap, sym, length, take, drop, map, arith}
 use Rattle.std.proofs.lemmas.Bool.{cases_lt}
-use Rattle.std.proofs.lemmas.List.{drop-drop, drop-set-lt, length-append, length-map, length-set, map-append, set_past, take-append-drop, take-append-le, take_all, take_more_set}
+use Rattle.std.proofs.lemmas.List.{drop-drop, length-append, length-map, length-set, map-append, set_past, take-append-drop, take-append-le, take_all, take_more_set}
 use Rattle.std.specs.{Prelude.{slice_set}, Borrow.{MutBor}}
 use Rattle.dimacs_network.specs.declared.network.ArcView.{ArcView}
 use Rattle.dimacs_fill.specs.{declared.arc_reading.ArcColumns.{ArcColumns}, Filling.{filled}}
@@ -35,12 +35,6 @@ module _ {X : Type 0} where
       sym (take-append-drop (length items) new)
       ∙ ap (λ front. front ++ drop (length items) new) (begins ∙ ap (λ n. take n items) long)
       ∙ ap (λ back. take (length old) items ++ back) rest
-
-  pub keeps_set : (old new : MutBor (List X)) (at place : ℕ) (x : X) → at < place → new.now ≡ slice_set old.now at x → KeepsFrom place old new
-  keeps_set old new at place x before is = record {
-    long = ap length is ∙ length-set old.now at x;
-    rest = ap (drop place) is ∙ drop-set-lt place old.now at x before;
-  }
 
   further : (place more : ℕ) (old new : List X) → place ≤ more → drop place new ≡ drop place old → drop more new ≡ drop more old
   further place more old new no_less same =

@@ -10,7 +10,7 @@ use Rattle.dimacs_records.specs.{declared.records.Record.TheVariants.{MaxArc, Ma
 use Rattle.dimacs_records.specs.Tests.{Passes, PassesEnd, end_context_of, context_after}
 use Rattle.dimacs_network.specs.{declared.network.ArcView.{ArcView}, Arcs.{JoinsNodes}, KeptArcs.{capacity_arc}}
 use Rattle.dimacs_instance.specs.{MaxFlows.{HasCapacityAlone, MaxValue}, MaxTexts.{GivesMax, max_arc}}
-use Rattle.dimacs_instance.specs.MaxReading.{MaxBegun, MaxCount, context, end_context, count_of, end_records, max_begun_records, AreNodes, EndsAreDistinct, IsMaxBegun, IsMaxCountedBy}
+use Rattle.dimacs_instance.specs.MaxReading.{MaxBegun, MaxCount, context, end_context, end_records, max_begun_records, AreNodes, EndsAreDistinct, IsMaxBegun, IsMaxCountedBy}
 use Rattle.dimacs_instance.specs.{inside.MaxReading.{AreEnds}, Summaries.{SumsUpMax, GivesSummary}}
 use Rattle.dimacs_instance.specs.declared.max.ends.EndLines.{EndLines}
 use Rattle.dimacs_instance.specs.declared.max.ends.EndLines.TheVariants.{Neither, One, Both}
@@ -31,10 +31,6 @@ counted_none nodes declared nodes_few arcs_few = record {
   records = refl;
   counts = refl;
 }
-
--- a state that keeps the arcs is also one that counts them
-pub counted_begun : (b : MaxBegun) → IsMaxBegun b → IsMaxCountedBy (count_of b) (max_begun_records b)
-counted_begun b is = record { begun = b; is_begun = is; records = refl; counts = refl }
 
 module _ (c : MaxCount) (rs : List Record) (counted : IsMaxCountedBy c rs) where
   pub counted_by_records : (r : Record) → kind_of r ≡ Max → context c r ≡ context_after rs r

@@ -1,9 +1,9 @@
 -- Building minimum cost flow instances keeps their laws.
-use Rattle.std.proofs.Common.{◌≡◌, ◌≤◌, ◌<◌, ◌+◌, ◌++◌, ◌∷◌, [], ℕ, List, Bool, true, false, None, Some, cond, length, refl, sym, ◌∙◌, ap, ◌==◌, arith}
-use Rattle.std.proofs.{lemmas.List.{length-append}, lemmas.List.Elements.{All-nil, All-push}}
+use Rattle.std.proofs.Common.{◌≡◌, ◌≤◌, ◌+◌, [], ℕ, List, Bool, true, false, None, Some, cond, refl, sym, ◌∙◌, ap, ◌==◌, arith}
+use Rattle.std.proofs.{lemmas.List.Elements.{All-nil}}
 use Rattle.std.specs.{Prelude.{ℤ, pos, if◌then◌else◌, Result, Ok, Err, OnOk, OnErr}, List.{All}}
 use Rattle.std.specs.{Ordering.{int_eq, nat_cmp}, FinMap.{FinMap, empty, entries, get, insert, remove}}
-use Rattle.dimacs_lines.specs.Limits.{most_count, most_nodes, IsNode}
+use Rattle.dimacs_lines.specs.Limits.{most_nodes, IsNode}
 use Rattle.dimacs_network.proofs.Entries.{All-empty, All-entries, All-get, All-insert}
 use Rattle.dimacs_records.specs.{NodeValues.{without_zeros}, Ranges.{IsWhole}}
 use Rattle.dimacs_records.proofs.{NameLemmas.{isnt_zero}, ZeroLemmas.{get-removed, without_zeros-insert}}
@@ -22,15 +22,6 @@ empty_min nodes few = record {
 }
 
 module _ (m : MinValue) (law : IsMin m) where
-  pub min_with_arc : (a : ArcView) → JoinsNodes m.nodes a → HasBounds a → length m.arcs < most_count → IsMin (record m { arcs = m.arcs ++ a ∷ [] })
-  min_with_arc a joined bounds room = record {
-    nodes_few = law.nodes_few;
-    arcs_few = omega (arith, length-append m.arcs (a ∷ []), room);
-    supplied = law.supplied;
-    joined = All-push (JoinsNodes m.nodes) m.arcs a law.joined joined;
-    bounds = All-push HasBounds m.arcs a law.bounds bounds;
-  }
-
   removed_at : (id other : ℕ) (v : ℤ) (b : Bool) → cond b None (get m.supplies other) ≡ Some v → IsSupply m.nodes (other, v)
   removed_at id other v true e = absurd (cc)
   removed_at id other v false e = All-get (IsSupply m.nodes) m.supplies other v law.supplied e

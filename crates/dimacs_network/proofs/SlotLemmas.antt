@@ -1,16 +1,13 @@
 -- The values in slots, by ID.
 use Rattle.std.proofs.Common.{◌≡◌, ◌≢◌, inl, inr, ℕ, ◌+◌, ◌*◌, ◌/◌, ◌%◌, ◌-◌, ◌<◌, ◌≤◌, List, [], ◌++◌, length, replicate, set, get_or, refl, sym, ◌∙◌, ap, arith, get_or-set_same, get_or-set_other}
 use Rattle.std.proofs.lemmas.Bool.{cases_eq, cases_lt}
-use Rattle.std.proofs.lemmas.List.{get_or_append_left, get_or-append_right, get_or_past, get_or-replicate, length-replicate, length-set}
+use Rattle.std.proofs.lemmas.List.{get_or_append_left, get_or-append_right, get_or_past, get_or-replicate, length-replicate}
 use Rattle.dimacs_network.specs.{declared.node_table.TheConstants.{NO_PAGE}, Slots.{number_of, place_of, slot_value}}
 use Rattle.dimacs_network.specs.inside.Slots.{IsDirectory, SameNumbers}
 
 pub place_of-number : (directory : List ℕ) (id : ℕ) → place_of directory id ≡ number_of directory id * 64 + id % 64
 unfolding place_of
 place_of-number directory id = omega arith
-
-pub no_pages : IsDirectory [] 0
-no_pages = record { short = omega arith; whole = refl; numbers_fit = omega arith; allocated = λ i some. absurd (some refl); distinct = λ i j below same. absurd (omega (arith, below)) }
 
 -- the same directory numbers give the same places
 pub place_of-same : (old new : List ℕ) → SameNumbers old new → (id : ℕ) → place_of new id ≡ place_of old id
@@ -91,13 +88,6 @@ module _ (directory : List ℕ) (slots id : ℕ) (is : IsDirectory directory slo
   elsewhere : (i : ℕ) → i ≢ id / 64 → get_or longer i NO_PAGE ≡ get_or directory i NO_PAGE
   elsewhere i apart = get_or-set_other directory (id / 64) i number NO_PAGE apart
 
-  -- no other page had the number, and none a greater one
-  other_number : (i : ℕ) → i ≢ id / 64 → get_or directory i NO_PAGE ≢ number
-  other_number i off same = elim (cases_eq (get_or directory i NO_PAGE) NO_PAGE) [
-    | inl none ↦ omega (arith, same, none, room)
-    | inr some ↦ omega (arith, same, is.allocated i some, is.whole)
-  ]
-
   taken_before : (i : ℕ) → i ≢ id / 64 → 64 * get_or longer i NO_PAGE < slots + 64 → 64 * get_or directory i NO_PAGE < slots
   taken_before i off below = elim (cases_eq (get_or directory i NO_PAGE) NO_PAGE) [
     | inl none ↦ absurd (omega (arith, below, elsewhere i off, none, room, is.whole))
@@ -107,27 +97,6 @@ module _ (directory : List ℕ) (slots id : ℕ) (is : IsDirectory directory slo
   pub page_place : place_of longer id < slots + 64
   unfolding place_of
   page_place = omega (arith, at_page (id / 64) refl, is.whole)
-
-  pub page_numbered : IsDirectory longer (slots + 64)
-  page_numbered = record {
-    short = rw length-set is.short;
-    whole = omega (arith, is.whole);
-    numbers_fit = omega (arith, is.whole, room);
-    allocated = λ i some. elim (cases_eq i (id / 64)) [
-      | inl same ↦ omega (arith, at_page i same, is.whole)
-      | inr off ↦ omega (arith, elsewhere i off, is.allocated i (λ none. some (elsewhere i off ∙ none)))
-    ];
-    distinct = λ i j below same. elim (cases_eq i (id / 64)) [
-      | inl here ↦ elim (cases_eq j (id / 64)) [
-        | inl there ↦ here ∙ sym there
-        | inr off ↦ absurd (other_number j off (sym (elsewhere j off) ∙ sym same ∙ at_page i here))
-      ]
-      | inr off ↦ elim (cases_eq j (id / 64)) [
-        | inl there ↦ absurd (other_number i off (sym (elsewhere i off) ∙ same ∙ at_page j there))
-        | inr away ↦ is.distinct i j (taken_before i off below) (sym (elsewhere i off) ∙ same ∙ elsewhere j away)
-      ]
-    ];
-  }
 
   module _ {T : Type 0} (blank : T) (values more : List T) (size : length values ≡ slots) (all_blank : (i : ℕ) → get_or more i blank ≡ blank) where
     stays : (i : ℕ) → get_or (values ++ more) i blank ≡ get_or values i blank

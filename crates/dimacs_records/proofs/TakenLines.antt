@@ -2,10 +2,9 @@
 use Rattle.std.proofs.Common.{ℕ, ◌<◌, ◌≤◌, ◌+◌, ◌++◌, ◌∷◌, [], List, Result, Ok, Err, arith}
 use Rattle.std.proofs.{lemmas.List.Elements.{All-nil, All-push, All-weaker}, lemmas.List.{length-append}}
 use Rattle.std.specs.Prelude.{OnOk}
-use Rattle.dimacs_lines.specs.Limits.{most_lines}
 use Rattle.dimacs_records.specs.{declared.kinds.TextKind.{TextKind}, declared.records.Record.{Record}}
 use Rattle.dimacs_records.specs.declared.faults.TakeError.{TakeError}
-use Rattle.dimacs_records.specs.Readings.{LineRecord, on_line, AreBefore, IsGivenByLines, IsOfKind, HasTaken}
+use Rattle.dimacs_records.specs.Readings.{LineRecord, on_line, AreBefore, IsOfKind, HasTaken}
 
 abbrev IsSpelled : TextKind → LineRecord → Type 0
 IsSpelled kind r = IsOfKind kind r.spells
@@ -39,10 +38,3 @@ pub one_taken_or_not : (kind : TextKind) (number : ℕ) (r : Record) (old new : 
     → OnOk result ((rs : List LineRecord) → old rs → AreBefore number rs → new (rs ++ on_line number r ∷ [])) → OnOk result (HasTaken kind number old → HasTaken kind (number + 1) new)
 one_taken_or_not kind number r old new (Ok done) is taken = one_taken kind number r old new is taken
 one_taken_or_not kind number r old new (Err error) is taken = tt
-
--- the value that a reading gives at the end
-pub given_by_lines : {V : Type 0} (kind : TextKind) (gives : List LineRecord → V → Type 0) (v : V) (count : ℕ) (stands_for : List LineRecord → Type 0) → count ≤ most_lines
-    → ((rs : List LineRecord) → stands_for rs → gives rs v) → HasTaken kind (count + 1) stands_for → IsGivenByLines kind gives v
-given_by_lines kind gives v count stands_for few given taken =
-    let (rs, stands, are) = taken_before kind (count + 1) (most_lines + 1) stands_for (omega (arith, few)) taken in
-    (rs, given rs stands, are)

@@ -35,11 +35,6 @@ last_name g (suc n) [] None most is = refl
 last_name g (suc n) [] (Some w) most is = absurd cc
 last_name g (suc n) (x ∷ names) last most is = last_name g n names last (omega (arith, most)) is
 
-pub three_arguments : {A : Type 0} (f : A → List ℕ) (arguments : List A) (a b c : A) (x y z : List ℕ) → 3 ≤ length arguments → length arguments < 4 → a ≡ get_or arguments 0 a → b ≡ get_or arguments 1 b → c ≡ get_or arguments 2 c
-    → x ≡ f a → y ≡ f b → z ≡ f c → map f arguments ≡ x ∷ y ∷ z ∷ []
-three_arguments f (p ∷ q ∷ r ∷ []) a b c x y z least most first second third is_x is_y is_z = sym (rw (is_x, is_y, is_z, first, second, third) refl)
-three_arguments f arguments a b c x y z least most first second third is_x is_y is_z = absurd (omega (arith, least, most))
-
 -- a claim is read after the instance, except for `Infeasible`
 pub reads_two : (kind : JudgeKind) → kind ≢ judges.Infeasible → certify_reads kind ≡ 2
 reads_two judges.Infeasible other = absurd (other refl)

@@ -1,6 +1,5 @@
 -- The outcomes of certifying.
-use Rattle.std.proofs.Common.{◌≡◌, ◌≢◌, ◌∙◌, ℕ, ℤ, List, [], ◌∷◌, Ok, Err, refl, sym, subst, ap, inl, inr, length}
-use Rattle.std.specs.Prelude.{codes}
+use Rattle.std.proofs.Common.{◌≡◌, ◌∙◌, ℕ, ℤ, List, [], ◌∷◌, Ok, Err, refl, sym, subst, ap, inl, inr, length}
 use Rattle.dimacs_claims.specs.{Cuts.{CutValue, SpellsCut, canonical_cut}, Labels.{LabelsValue}}
 use Rattle.dimacs_claims.specs.{LabelTexts.{SpellsLabels, canonical_labels}, declared.solution.Solution.{Solution}}
 use Rattle.dimacs_claims.specs.Potentials.{PotentialsValue, SpellsPotentials, canonical_potentials}
@@ -8,7 +7,7 @@ use Rattle.dimacs_claims.specs.SolutionTexts.{SolutionValue, canonical_solution,
 use Rattle.dimacs_network.specs.Arcs.{NetworkValue}
 use Rattle.dimacs_instance.specs.{MaxFlows.{MaxValue, IsMax}, MinFlows.{MinValue}}
 use Rattle.dimacs_records.specs.{declared.faults.At.{At}, declared.reasons.Reason.{Reason}}
-use Rattle.dimacs_records.specs.declared.reasons.Reason.TheVariants.{Feasible, NodesDiffer, NotLeast, NotMaximum}
+use Rattle.dimacs_records.specs.declared.reasons.Reason.TheVariants.{Feasible, NotLeast, NotMaximum}
 use Rattle.dimacs_judging.specs.{declared.verdict.JudgeError.{JudgeError}, declared.verdict.Where.{Where}}
 use Rattle.dimacs_judging.specs.{InfeasibleJudge.{ShowsNoFlow}, MaxJudge.{ShowsMaximum, max_claim_rows}}
 use Rattle.dimacs_judging.specs.{MinJudge.{ShowsLeast, min_claim_rows}, Optimum.{Least, Maximum}}
@@ -17,7 +16,7 @@ use Rattle.dimacs_judging.proofs.Firsts.{none_first}
 use Rattle.dimacs_decide.specs.{CertifiedMax.{CertifiesMax}, CertifiedMin.{CertifiesMin}}
 use Rattle.dimacs_decide.specs.CertifiedPaths.{AreAllDistances, AreLabelsOfAll, CertifiesPaths}
 use Rattle.dimacs_runs.specs.{declared.status.Status.{Status}, Outputs.{WritesAlike, report_of}}
-use Rattle.dimacs_runs.specs.{declared.status.Status.TheVariants.{Done, Refused, GaveUp}, Refusals.{refusal_line}}
+use Rattle.dimacs_runs.specs.{declared.status.Status.TheVariants.{Done, Refused, GaveUp}}
 use Rattle.dimacs_runs.specs.Certified.{CertificateOr, CertifiesDistances, CertifiesInfeasible, CertifiesLeast, CertifiesMaximum, IsCheaperText, IsCutText, IsFeasibleText, IsGreaterText, IsPotentialsText, IsSetText, uncertified}
 use Rattle.dimacs_runs.specs.Verdicts.{distances_line, failure_line}
 use Rattle.dimacs_runs.specs.inside.Outcomes.{MayCertify, with_text, judge_stop, outcome_of}
@@ -144,16 +143,6 @@ module _ (i : MinValue) where
   no_solution_feasible says = better_writes set_apart [] says
 
 module _ (g : NetworkValue) (d : LabelsValue) where
-  -- the distances are of a graph with another number of nodes
-  pub other_nodes_certify : d.nodes ≢ g.nodes → MayCertify (CertifiesDistances g d) (Ok (with_text output_texts.Nothing (reports.Fault kinds.Distances start NodesDiffer)))
-  other_nodes_certify other = ((inl (other, refl)), alike)
-    where
-      alike : (s : Status) (out : List (List ℕ)) → CertifiesDistances g d s out → (s ≡ Refused) × (report_of out ≡ refusal_line (codes "distances") 0 0 NodesDiffer)
-      alike Done out h = absurd (other h.0)
-      alike Refused out (inl h) = (refl, ap report_of h.1)
-      alike Refused out (inr h) = absurd (other h.0)
-      alike GaveUp out h = absurd h
-
   -- labels show that the distances are right
   pub labels_certify : (labels : LabelsValue) (sources : ℕ) → sources ≡ length d.blocks → d.nodes ≡ g.nodes → AreAllDistances g d.blocks × AreLabelsOfAll g d.blocks labels
       → SpellsLabels (canonical_labels labels) labels → MayCertify (CertifiesDistances g d) (Ok (with_text (output_texts.Labels labels) (reports.Distances sources)))
