@@ -80,7 +80,7 @@ impl Cut {
         self.ids.contains(id)
     }
 
-    /// The first node from `from` on that may be in the set; `end` if there is none before it.
+    /// Goes from `from` over nodes that aren't in the set, at most to `end`.
     #[inline]
     pub fn next(&self, from: u32, end: u32) -> u32
         requires { from ≤ end }

@@ -71,7 +71,7 @@ impl Potentials {
         self.values.get(id).unwrap_or(0)
     }
 
-    /// The first node from `from` on whose potential may not be 0; `end` if there is none before it.
+    /// Goes from `from` over nodes whose potentials are 0, at most to `end`.
     #[inline]
     pub fn next(&self, from: u32, end: u32) -> u32
         requires { from ≤ end }

@@ -41,8 +41,7 @@ pub(crate) fn imbalances<N: Network>(
     Ok(table)
 }
 
-/// The first node from `from` on that may have a supply. It isn't before `known`, so that a loop doesn't look for the same
-/// node twice.
+/// As `next_supply`; `known` if that isn't before `from`, so that a loop doesn't look for the same node twice.
 #[inline(always)]
 fn later_supply<N: Network>(instance: &MinInstance<N>, known: u32, from: u32, end: u32) -> u32
     requires from { from ≤ end }

@@ -252,7 +252,7 @@ fn potentials_of(
     Ok(potentials)
 }
 
-/// The first node from `from` on whose height may not be 0; `end` if there is none before it.
+/// Goes from `from` over nodes whose heights are 0, at most to `end`.
 #[inline(always)]
 fn next_label(labels: &NodeTable<HeightLabel>, from: u32, end: u32) -> u32
     requires { from ≤ end }

@@ -136,7 +136,7 @@ impl<N: Network> MinInstance<N> {
         self.supplies.get(id).unwrap_or(0)
     }
 
-    /// The first node from `from` on that may have a supply; `end` if there is none before it.
+    /// Goes from `from` over nodes without a supply, at most to `end`.
     #[inline]
     pub fn next_supply(&self, from: u32, end: u32) -> u32
         requires { from ≤ end }

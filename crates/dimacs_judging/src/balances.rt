@@ -24,7 +24,7 @@ pub(crate) trait NodeBalances {
     fn of(&self, node: u32) -> i128
         ensures { result ≡ balance self.now node };
 
-    /// The first node from `from` on whose balance may not be 0; `end` if there is none before it.
+    /// Goes from `from` over nodes whose balances are 0, at most to `end`.
     fn next(&self, from: u32, end: u32) -> u32
         requires { from ≤ end }
         ensures { Skips (λ v. balance self.now v ≡ pos 0) from end result };
@@ -66,7 +66,7 @@ impl Balances {
         self.sums.get(node)
     }
 
-    /// The first node from `from` on whose balance may not be 0; `end` if there is none before it.
+    /// Goes from `from` over nodes whose balances are 0, at most to `end`.
     #[inline(always)]
     pub fn next(&self, from: u32, end: u32) -> u32
         requires { from ≤ end }

@@ -98,7 +98,7 @@ pub trait Demands {
     fn demand_at(&self, node: u32) -> Option<i64>
         ensures { result ≡ demand self.now node };
 
-    /// The first node from `from` on that may demand a balance other than 0; `end` if there is none before it.
+    /// Goes from `from` over nodes that demand no balance other than 0, at most to `end`.
     fn next_demand(&self, from: u32, end: u32) -> u32
         requires { from ≤ end }
         ensures { Skips (λ v. AsksNothing (demand self.now v)) from end result };
@@ -155,8 +155,7 @@ pub(crate) fn balances_hold<N: Network, B: NodeBalances, D: Demands>(
     Ok(())
 }
 
-/// The first node from `from` on that may demand a balance other than 0: `known` if that is no earlier, so that a loop
-/// doesn't look for the same node twice.
+/// As `next_demand`; `known` if that isn't before `from`, so that a loop doesn't look for the same node twice.
 #[inline(always)]
 fn later_demand<D: Demands>(demands: &D, known: u32, from: u32, end: u32) -> u32
     requires from { from ≤ end }

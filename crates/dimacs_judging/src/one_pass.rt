@@ -33,7 +33,7 @@ pub(crate) trait HasPotentials {
     fn potential_at(&self, node: u32) -> i128
         ensures { result ≡ potential self.now node };
 
-    /// The first node from `from` on whose potential may not be 0; `end` if there is none before it.
+    /// Goes from `from` over nodes whose potentials are 0, at most to `end`.
     fn next(&self, from: u32, end: u32) -> u32
         requires { from ≤ end }
         ensures { Skips (λ v. potential self.now v ≡ pos 0) from end result };
@@ -123,7 +123,7 @@ pub(crate) trait NodeStates {
     fn state_at(&self, node: u32) -> NodeState
         ensures { result ≡ state self.now node };
 
-    /// The first node from `from` on whose balance may not be 0; `end` if there is none before it.
+    /// Goes from `from` over nodes whose balances are 0, at most to `end`.
     fn next(&self, from: u32, end: u32) -> u32
         requires { from ≤ end }
         ensures { Skips (λ v. (state self.now v).balance ≡ pos 0) from end result };

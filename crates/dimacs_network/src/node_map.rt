@@ -50,7 +50,7 @@ impl<T: Copy> NodeMap<T> {
         self.values.get(id)
     }
 
-    /// The first node from `from` on that may have a value; `end` if there is none before it.
+    /// Goes from `from` over nodes without a value, at most to `end`.
     #[inline]
     pub fn next(&self, from: u32, end: u32) -> u32
         requires { from ≤ end }

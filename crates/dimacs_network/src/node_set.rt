@@ -49,7 +49,7 @@ impl NodeSet {
         has_bit(byte_at(&self.bytes, id), id)
     }
 
-    /// The first node from `from` on that may be in the set; `end` if there is none before it.
+    /// Goes from `from` over nodes that aren't in the set, at most to `end`.
     #[inline]
     pub fn next(&self, from: u32, end: u32) -> u32
         requires { from ≤ end }
@@ -111,7 +111,7 @@ fn byte_at(bytes: &[u8], id: u32) -> u8
     }
 }
 
-/// The first node from `from` on whose byte has a node; `end` if there is none before it.
+/// The same, byte by byte.
 #[inline(never)]
 fn next_byte(bytes: &[u8], from: u32, end: u32) -> u32
     requires { from ≤ end }

@@ -157,7 +157,7 @@ impl<T: Copy> NodeTable<T> {
         }
     }
 
-    /// The first ID from `from` on whose page is allocated; `end` if there is none before it.
+    /// Goes from `from` over IDs whose values are blank, at most to `end`.
     #[inline]
     pub fn next(&self, from: u32, end: u32) -> u32
         requires { from ≤ end }
@@ -214,7 +214,7 @@ impl<T: Copy> NodeTable<T> {
 impl NodeTable<i128> {
     ghost use Rattle.dimacs_network.specs.Tables.{value_of};
 
-    /// The first ID from `from` on whose number may not be 0; `end` if there is none before it.
+    /// Goes from `from` over IDs whose numbers are 0, at most to `end`.
     #[inline]
     pub fn next_nonzero(&self, from: u32, end: u32) -> u32
         requires { from ≤ end }

@@ -54,7 +54,7 @@ impl WideMap {
         (number < NONE).then_some(number)
     }
 
-    /// The first node from `from` on that may have a number; `end` if there is none before it.
+    /// Goes from `from` over nodes without a number, at most to `end`.
     #[inline]
     pub fn next(&self, from: u32, end: u32) -> u32
         requires { from ≤ end }
