@@ -1,6 +1,6 @@
 -- Building minimum cost flow instances keeps their laws.
 use Rattle.std.proofs.Common.{◌≡◌, ◌≤◌, ◌+◌, [], ℕ, List, Bool, true, false, None, Some, cond, refl, sym, ◌∙◌, ap, ◌==◌, arith}
-use Rattle.std.proofs.{lemmas.List.Elements.{All-nil}}
+use Rattle.std.proofs.lemmas.List.Elements.{All-nil}
 use Rattle.std.specs.{Prelude.{ℤ, pos, if◌then◌else◌, Result, Ok, Err, OnOk, OnErr}, List.{All}}
 use Rattle.std.specs.{Ordering.{int_eq, nat_cmp}, FinMap.{FinMap, empty, entries, get, insert, remove}}
 use Rattle.dimacs_lines.specs.Limits.{most_nodes, IsNode}

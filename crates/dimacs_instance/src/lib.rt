@@ -15,13 +15,9 @@ pub use dimacs_network::{
     ArcEnds, ArcView, BoundsAndCost, CapacityArc, ForwardStar, MAX_ARCS, Network, PlainArcs,
     StoredArc, WeightArc,
 };
-pub use graph::{
-    Graph, GraphReading, PlainGraphReading, read_graph, read_plain_graph, write_graph,
-};
-pub use max::{MaxInstance, MaxReading, PlainMaxReading, read_max, read_plain_max, write_max};
-pub use min::{
-    MinInstance, MinReading, PlainMinReading, SupplySums, read_min, read_plain_min, write_min,
-};
+pub use graph::{Graph, GraphReading, read_graph, read_plain_graph, write_graph};
+pub use max::{MaxInstance, MaxReading, read_max, read_plain_max, write_max};
+pub use min::{MinInstance, MinReading, SupplySums, read_min, read_plain_min, write_min};
 pub use queries::{LawfulQueries, Queries, QueriesReading, read_queries, write_queries};
 pub use summaries::{
     GraphNodesReading, GraphSummary, MaxNodesReading, MaxSummary, MinNodes, MinNodesReading,

@@ -27,7 +27,7 @@ mod widening_list;
 
 pub use adjacency_lists::{AdjacencyLists, Side};
 pub use arc_index::ArcIndex;
-pub use arcs::{ArcEnds, BoundsAndCost, CapacityArc, ShortBoundsAndCost, StoredArc, WeightArc};
+pub use arcs::{ArcEnds, BoundsAndCost, CapacityArc, StoredArc, WeightArc};
 pub use dense_table::{DenseTable, has_dense_ids};
 pub use forward_star::ForwardStar;
 pub use list_iter::ListIter;

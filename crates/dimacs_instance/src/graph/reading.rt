@@ -19,9 +19,6 @@ use std::marker::{Model, PhantomData};
 /// Reads the records of a graph.
 pub type GraphReading = CountedReading<GraphBuilder<ForwardStar<WeightArc>>>;
 
-/// The same, without an index of its arcs.
-pub type PlainGraphReading = CountedReading<GraphBuilder<PlainArcs<WeightArc>>>;
-
 /// A graph while its text is read: the arcs after the problem line.
 #[derive(Drop)]
 pub struct GraphBuilder<N: OfWeightArcs> {

@@ -20,9 +20,6 @@ use std::marker::{Model, PhantomData};
 /// Reads the records of a maximum flow instance.
 pub type MaxReading = CountedReading<MaxBuilder<ForwardStar<CapacityArc>>>;
 
-/// The same, without an index of its arcs.
-pub type PlainMaxReading = CountedReading<MaxBuilder<PlainArcs<CapacityArc>>>;
-
 /// A maximum flow instance while its text is read: at most two node lines after the problem line, then arcs.
 #[derive(Drop)]
 pub struct MaxBuilder<N: OfCapacityArcs> {

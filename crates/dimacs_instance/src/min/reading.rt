@@ -19,9 +19,6 @@ use std::marker::{Model, PhantomData};
 /// Reads the records of a minimum cost flow instance.
 pub type MinReading = CountedReading<MinBuilder<ForwardStar<ArcView>>>;
 
-/// The same, without an index of its arcs.
-pub type PlainMinReading = CountedReading<MinBuilder<PlainArcs<ArcView>>>;
-
 /// A minimum cost flow instance while its text is read: node lines after the problem line, then arcs.
 #[derive(Drop)]
 pub struct MinBuilder<N: OfCostArcs> {
