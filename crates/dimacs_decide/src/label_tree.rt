@@ -109,7 +109,7 @@ impl<'a, C: DistanceClaim> LabelTree<'a, C> {
             return Ok(self.claim.of(from).is_none());
         }
         while let Some(node) = self.path.pop() {
-            self.place(nodes, node)?;
+            self.add_label(nodes, node)?;
         }
         Ok(true)
     }
@@ -145,7 +145,7 @@ impl<'a, C: DistanceClaim> LabelTree<'a, C> {
 
     /// Adds the label of a node with a distance, if it has none yet. Its predecessor has to be labelled.
     #[inline(always)]
-    fn place(&mut self, nodes: u32, node: u32) -> Result<(), Memory>
+    fn add_label(&mut self, nodes: u32, node: u32) -> Result<(), Memory>
         requires proposed { IsProposed nodes (C.claimed self.old.claim.now) (pred_by_node self.old.predecessors.now) }
         requires tree { IsLabelTree nodes self.old.block.source (C.claimed self.old.claim.now) (pred_by_node self.old.predecessors.now)
             self.old.block (value_of self.old.labelled) }

@@ -47,27 +47,27 @@ loop-node-init g c =
       not_labelled = rw same (start_off claim pred labelled c.args.from path end c.in_ok-end.ensures.path c.in_ok-end.ensures.off);
     }
 
-pub place-requires-clause-proposed : goal.place-requires-clause-proposed
-place-requires-clause-proposed g c =
+pub add_label-requires-clause-proposed : goal.add_label-requires-clause-proposed
+add_label-requires-clause-proposed g c =
     let so_far = c.loop-node.invariant in
     rw (so_far.same_claim, so_far.same_pred) c.requires.proposed
 
-pub place-requires-clause-tree : goal.place-requires-clause-tree
-place-requires-clause-tree g c =
+pub add_label-requires-clause-tree : goal.add_label-requires-clause-tree
+add_label-requires-clause-tree g c =
     let so_far = c.loop-node.invariant in
     let old = c.args.self.now in
     rw (so_far.same_claim, so_far.same_pred) (subst (λ s. IsLabelTree c.args.nodes s (g.C.DistanceClaim.claimed old.claim.now) (pred_by_node old.predecessors.now) c.loop-node.self.block (value_of c.loop-node.self.labelled)) (sym so_far.tree.source) so_far.tree)
 
-pub place-requires-clause-distance : goal.place-requires-clause-distance
-place-requires-clause-distance g c =
+pub add_label-requires-clause-distance : goal.add_label-requires-clause-distance
+add_label-requires-clause-distance g c =
     let so_far = c.loop-node.invariant in
     let old = c.args.self.now in
     let claim = g.C.DistanceClaim.claimed old.claim.now in
     let pred = pred_by_node old.predecessors.now in
     rw so_far.same_claim (taken claim pred (value_of c.loop-node.self.labelled) c.args.from c.loop-node.self.path.items c.pop.new.self.items c.in-Some.node c.in-Some.ensures.items so_far.path so_far.once so_far.not_labelled).1
 
-pub place-requires-clause-next : goal.place-requires-clause-next
-place-requires-clause-next g c =
+pub add_label-requires-clause-next : goal.add_label-requires-clause-next
+add_label-requires-clause-next g c =
     let nodes = c.args.nodes in
     let first = c.args.self.now in
     let claim = g.C.DistanceClaim.claimed first.claim.now in
@@ -84,15 +84,15 @@ place-requires-clause-next g c =
     λ l same. rw (so_far.same_claim, so_far.same_pred, so_far.tree.source) (next_label nodes c.args.self.now.block.source claim pred b labelled so_far.tree c.args.from l (λ v less has. so_far.keeps v (c.requires.earlier v less has)) some not_labelled
     (subst (λ u. LeadsBack pred u c.args.from) (sym same) (path_leads claim pred c.args.from front node goes.0)))
 
-pub place-requires-clause-labelled : goal.place-requires-clause-labelled
-place-requires-clause-labelled g c =
+pub add_label-requires-clause-labelled : goal.add_label-requires-clause-labelled
+add_label-requires-clause-labelled g c =
     let so_far = c.loop-node.invariant in
     let old = c.args.self.now in
     rw so_far.same_pred (taken (g.C.DistanceClaim.claimed old.claim.now) (pred_by_node old.predecessors.now) (value_of c.loop-node.self.labelled) c.args.from c.loop-node.self.path.items c.pop.new.self.items c.in-Some.node c.in-Some.ensures.items so_far.path so_far.once so_far.not_labelled).2
 
 pub loop-node-smaller : goal.loop-node-smaller
 loop-node-smaller g c =
-    rw c.place.ensures.path (omega (arith, ap length c.in-Some.ensures.items, length-append c.pop.new.self.items (c.in-Some.node ∷ [])))
+    rw c.add_label.ensures.path (omega (arith, ap length c.in-Some.ensures.items, length-append c.pop.new.self.items (c.in-Some.node ∷ [])))
 
 pub loop-node-preserved : goal.loop-node-preserved
 loop-node-preserved g c =
@@ -100,19 +100,19 @@ loop-node-preserved g c =
     let claim = g.C.DistanceClaim.claimed first.claim.now in
     let pred = pred_by_node first.predecessors.now in
     let labelled = value_of c.loop-node.self.labelled in
-    let after = value_of c.place.new.self.labelled in
+    let after = value_of c.add_label.new.self.labelled in
     let so_far = c.loop-node.invariant in
     let old = c.loop-node.self.path.items in
     let front = c.pop.new.self.items in
     let node = c.in-Some.node in
-    let placed = c.in_ok-place.ensures.placed in
+    let placed = c.in_ok-add_label.ensures.placed in
     let goes = taken claim pred labelled c.args.from old front node c.in-Some.ensures.items so_far.path so_far.once so_far.not_labelled in
     record {
-      same_claim = c.place.ensures.claim ∙ so_far.same_claim;
-      same_pred = c.place.ensures.predecessors ∙ so_far.same_pred;
-      tree = rw (so_far.same_claim, so_far.same_pred, so_far.tree.source) at c.in_ok-place.ensures.tree;
+      same_claim = c.add_label.ensures.claim ∙ so_far.same_claim;
+      same_pred = c.add_label.ensures.predecessors ∙ so_far.same_pred;
+      tree = rw (so_far.same_claim, so_far.same_pred, so_far.tree.source) at c.in_ok-add_label.ensures.tree;
       keeps = λ v h. placed_keeps labelled after node placed v (so_far.keeps v h);
-      path = rw c.place.ensures.path (node, goes.0, placed.0);
-      once = rw c.place.ensures.path (root_apart claim pred labelled c.args.from old front node c.in-Some.ensures.items so_far.path so_far.once so_far.not_labelled).0;
-      not_labelled = rw c.place.ensures.path (still_not_labelled claim pred labelled c.args.from old front node c.in-Some.ensures.items so_far.path so_far.once so_far.not_labelled after placed);
+      path = rw c.add_label.ensures.path (node, goes.0, placed.0);
+      once = rw c.add_label.ensures.path (root_apart claim pred labelled c.args.from old front node c.in-Some.ensures.items so_far.path so_far.once so_far.not_labelled).0;
+      not_labelled = rw c.add_label.ensures.path (still_not_labelled claim pred labelled c.args.from old front node c.in-Some.ensures.items so_far.path so_far.once so_far.not_labelled after placed);
     }

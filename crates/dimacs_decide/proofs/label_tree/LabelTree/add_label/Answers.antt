@@ -5,7 +5,7 @@ use Rattle.dimacs_claims.specs.Labels.{IsBlock, IsLabel, IsWithinRadius, with_la
 use Rattle.dimacs_network.specs.Tables.{value_of}
 use Rattle.dimacs_decide.specs.Predecessors.{pred_by_node}
 use Rattle.dimacs_decide.proofs.{LabelTreeLemmas.{grown}, MarkedLemmas.{few, label_if_marked}}
-use Rattle.dimacs_decide.proofs.label_tree.LabelTree.place.Goals as goal
+use Rattle.dimacs_decide.proofs.label_tree.LabelTree.add_label.Goals as goal
 
 pub returns-clause-tree : goal.returns-clause-tree
 returns-clause-tree g c =
