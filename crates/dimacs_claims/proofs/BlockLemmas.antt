@@ -1,6 +1,6 @@
 -- One more label in a block.
 use Rattle.std.proofs.Common.{◌≡◌, ℕ, zero, suc, ◌<◌, ◌∷◌, ◌++◌, [], List, Bool, true, false, cond, Option, Some, None, length, slice_index_or, refl, ap, sym, ◌∙◌, subst, arith, inl, inr, ◌⊎◌}
-use Rattle.std.proofs.{lemmas.Bool.{eqb-true, eq-eqb, false_from_ne_true}, lemmas.List.{length-append}}
+use Rattle.std.proofs.{lemmas.Bool.{cond_both, eqb-true, eq-eqb, false_from_ne_true}, lemmas.List.{length-append}}
 use Rattle.std.proofs.{lemmas.Int.{ints}, lemmas.List.Elements.{All-head, All-nil, All-push, All-tail}}
 use Rattle.std.specs.Prelude.{ℤ, pos, int_lt, IfSome, is_some, if◌then◌else◌, ◌==◌, ◌||◌, map}
 use Rattle.std.specs.List.{All, Contains, list_any}
@@ -82,11 +82,9 @@ further m ls v h = (h.0, (suc h.1.0, (omega (arith, h.1.1)), h.1.2), h.2)
 
 label_found : (ls : List Label) (v : ℕ) → is_some (distance_in ls v) ≡ true → LabelOf ls v
 label_found [] v h = absurd (cc)
-label_found (m ∷ ls) v h = by_test (m.id == v) refl (label_found ls v) h
-  where
-    by_test : (c : Bool) → (m.id == v) ≡ c → (is_some (distance_in ls v) ≡ true → LabelOf ls v) → is_some (if c then Some m.dist else distance_in ls v) ≡ true → LabelOf (m ∷ ls) v
-    by_test true e more t = (m, (0, omega arith, refl), eqb-true m.id v e)
-    by_test false e more t = further m ls v (more t)
+label_found (m ∷ ls) v h =
+    cond_both (m.id == v) (Some m.dist) (distance_in ls v) (λ d. is_some d ≡ true → LabelOf (m ∷ ls) v)
+    (λ e t. (m, (0, omega arith, refl), eqb-true m.id v e)) (λ e t. further m ls v (label_found ls v t)) h
 
 or_true : (c b : Bool) → (c ≡ true) ⊎ (b ≡ true) → (c || b) ≡ true
 or_true true b h = refl
@@ -102,11 +100,9 @@ label_there (l ∷ ls) v (suc k) m below e is =
 
 -- a predecessor with a label
 pub has_pred : (b : BlockValue) (l : Label) → is_some (label b l.pred) ≡ true → HasPred b.source b.labels l
-has_pred b l h = by_test (b.source == l.pred) refl h
-  where
-    by_test : (c : Bool) → (b.source == l.pred) ≡ c → is_some (if c then Some (pos 0) else distance_in b.labels l.pred) ≡ true → HasPred b.source b.labels l
-    by_test true e t = inl (sym (eqb-true b.source l.pred e))
-    by_test false e t = inr (label_found b.labels l.pred t)
+has_pred b l h =
+    cond_both (b.source == l.pred) (Some (pos 0)) (distance_in b.labels l.pred) (λ d. is_some d ≡ true → HasPred b.source b.labels l)
+    (λ e t. inl (sym (eqb-true b.source l.pred e))) (λ e t. inr (label_found b.labels l.pred t)) h
 
 pub pred_has_label : (b : BlockValue) (l : Label) → HasPred b.source b.labels l → is_some (label b l.pred) ≡ true
 pred_has_label b l (inl e) = some_if (b.source == l.pred) (pos 0) (distance_in b.labels l.pred) ∙ or_true (b.source == l.pred) _ (inl (eq-eqb _ _ (sym e)))
@@ -123,11 +119,9 @@ is_fresh b l h = (
     not_both t = let s = some_if (b.source == l.id) (pos 0) (distance_in b.labels l.id) in absurd (cc)
 
 pub fresh_has_none : (b : BlockValue) (l : Label) → IsFresh b.source b.labels l → is_some (label b l.id) ≡ false
-fresh_has_none b l h = false_from_ne_true _ (λ t. by_test (b.source == l.id) refl t)
-  where
-    by_test : (c : Bool) → (b.source == l.id) ≡ c → is_some (if c then Some (pos 0) else distance_in b.labels l.id) ≡ true → ⊥
-    by_test true e t = h.0 (sym (eqb-true b.source l.id e))
-    by_test false e t = let m = label_found b.labels l.id t in h.1 m.0 m.1 m.2
+fresh_has_none b l h =
+    false_from_ne_true _ (cond_both (b.source == l.id) (Some (pos 0)) (distance_in b.labels l.id) (λ d. is_some d ≡ true → ⊥)
+    (λ e t. h.0 (sym (eqb-true b.source l.id e))) (λ e t. let m = label_found b.labels l.id t in h.1 m.0 m.1 m.2))
 
 -- a block with one more label
 pub block_push : (nodes : ℕ) (b : BlockValue) (l : Label) → IsBlock nodes b → IsLabel nodes l → length b.labels < most_count → is_some (label b l.id) ≡ false → is_some (label b l.pred) ≡ true → IsWithinRadius b.radius l.dist → IsBlock nodes (with_label b l)

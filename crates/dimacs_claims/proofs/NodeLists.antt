@@ -1,6 +1,6 @@
 -- Lists of IDs, and the IDs from 1 on that pass a test.
 use Rattle.std.proofs.Common.{◌≡◌, inl, inr, ℕ, zero, suc, ◌<◌, ◌≤◌, ◌+◌, ◌-◌, ◌==◌, ◌||◌, ◌&&◌, List, [], ◌∷◌, ◌++◌, length, map, Option, Some, None, Bool, true, false, cond, refl, sym, ◌∙◌, ap, arith, rules}
-use Rattle.std.proofs.{lemmas.Bool.{eqb-true, cases_lt}, lemmas.Bool.Decides.{nat_tests}}
+use Rattle.std.proofs.{lemmas.Bool.{eqb-true, cases_lt, cond_both}, lemmas.Bool.Decides.{nat_tests}}
 use Rattle.std.proofs.{lemmas.List.{append-nil, map-append}, lemmas.List.Elements.{filter-append, All-nil, All-cons}}
 use Rattle.std.specs.{Prelude.{count_by}, List.{All, filter, list_any, range_with_len}}
 use Rattle.dimacs_records.specs.{declared.records.Record.{Record}, Canonical.{AreLines, records_of_line}}
@@ -48,11 +48,10 @@ count_map p f (x ∷ xs) = count_by-cons p (f x) (map f xs) ∙ ap (λ n. cond (
 -- a filtered list doesn't have more items that pass
 count_filter : (p q : ℕ → Bool) (xs : List ℕ) → count_by q (filter p xs) ≤ count_by q xs
 count_filter p q [] = omega arith
-count_filter p q (x ∷ xs) = by_test (p x) (count_filter p q xs)
-  where
-    by_test : (b : Bool) → count_by q (filter p xs) ≤ count_by q xs → count_by q (cond b (x ∷ filter p xs) (filter p xs)) ≤ count_by q (x ∷ xs)
-    by_test true rest = omega (arith, rest, count_by-cons q x (filter p xs), count_by-cons q x xs)
-    by_test false rest = omega (arith, rest, count_by-cons q x xs)
+count_filter p q (x ∷ xs) =
+    let rest = count_filter p q xs in
+    cond_both (p x) (x ∷ filter p xs) (filter p xs) (λ ys. count_by q ys ≤ count_by q (x ∷ xs))
+    (λ _. omega (arith, rest, count_by-cons q x (filter p xs), count_by-cons q x xs)) (λ _. omega (arith, rest, count_by-cons q x xs))
 
 -- the IDs from 1 to n that pass
 abbrev pub passing : (ℕ → Bool) → ℕ → List ℕ
@@ -98,11 +97,10 @@ lines_of_passing p line spells n each = record {
 
 length_filter : (p : ℕ → Bool) (a n : ℕ) → length (filter p (range_with_len a n)) ≤ n
 length_filter p a zero = omega arith
-length_filter p a (suc n) = by_test (p a) (length_filter p (a + 1) n)
-  where
-    by_test : (b : Bool) → length (filter p (range_with_len (a + 1) n)) ≤ n → length (cond b (a ∷ filter p (range_with_len (a + 1) n)) (filter p (range_with_len (a + 1) n))) ≤ suc n
-    by_test true rest = omega (arith, rest)
-    by_test false rest = omega (arith, rest)
+length_filter p a (suc n) =
+    let more = filter p (range_with_len (a + 1) n) in
+    let rest = length_filter p (a + 1) n in
+    cond_both (p a) (a ∷ more) more (λ ys. length ys ≤ suc n) (λ _. omega (arith, rest)) (λ _. omega (arith, rest))
 
 pub passing_few : (p : ℕ → Bool) (n : ℕ) → length (passing p n) ≤ n
 passing_few p n = length_filter p 1 n
@@ -113,11 +111,9 @@ none_passing p (x ∷ xs) none = ap (λ b. cond b (x ∷ filter p xs) (filter p 
 
 pub All-passing : (P : ℕ → Type 0) (p : ℕ → Bool) (xs : List ℕ) → ((x : ℕ) → p x ≡ true → P x) → All P (filter p xs)
 All-passing P p [] h = All-nil P
-All-passing P p (x ∷ xs) h = by_test (p x) refl (All-passing P p xs h)
-  where
-    by_test : (b : Bool) → p x ≡ b → All P (filter p xs) → All P (cond b (x ∷ filter p xs) (filter p xs))
-    by_test true e rest = All-cons P x (filter p xs) (h x e) rest
-    by_test false e rest = rest
+All-passing P p (x ∷ xs) h =
+    let rest = All-passing P p xs h in
+    cond_both (p x) (x ∷ filter p xs) (filter p xs) (All P) (λ e. All-cons P x (filter p xs) (h x e) rest) (λ _. rest)
 
 -- an ID is in the filtered list if it passes and is in the list
 listed_passing : (p : ℕ → Bool) (id : ℕ) (xs : List ℕ) → list_any (is_id id) (filter p xs) ≡ (p id && list_any (is_id id) xs)

@@ -1,6 +1,6 @@
 -- The table with a block's labels, and the tight arcs for them.
 use Rattle.std.proofs.Common.{IsTrue, ◌^◌, cond, count_by, is_some, ◌≡◌, ◌≢◌, ◌⊎◌, ◌↔◌, inl, inr, ℕ, suc, zero, ◌+◌, ◌<◌, ◌≤◌, Bool, true, false, List, [], ◌∷◌, ◌++◌, Contains, length, take, drop, get_or, slice_get, Option, Some, None, IfSome, ℤ, pos, ◌+ℤ◌, refl, sym, ap, subst, ◌∙◌, arith}
-use Rattle.std.proofs.{Math.Seq.{drop-cons}, lemmas.Bool.{cases_eq, cases_lt, eq-eqb}}
+use Rattle.std.proofs.{Math.Seq.{drop-cons}, lemmas.Bool.{cases_eq, cases_lt, eq-eqb, false_from_ne_true, true_from_ne_false}}
 use Rattle.std.proofs.{lemmas.Bool.Decides.{eqb_tells, nat_tests}, lemmas.List.Sums.{count_by-le-length, sum_by-cons}}
 use Rattle.std.proofs.lemmas.Option.{get_or_from_slice_get, slice_get_within}
 use Rattle.std.proofs.lemmas.List.{get_or_default, take-append-drop, take_all, take_more}
@@ -219,10 +219,6 @@ some_tight_for arcs b l (base, labelled, arc) =
     (k, inside, subst (λ (c : ArcView). IsTightFor b c l) same (record { base = base; labelled = labelled; from = arc.from; to = arc.to; adds = arc.adds }))
 
 -- ---- how many pass a test
-not_yes : (t : Bool) → (¬ (t ≡ true)) → t ≡ false
-not_yes true off = absurd (off refl)
-not_yes false off = refl
-
 module _ {X : Type 0} (p q : X → Bool) where
   step_less : (s t : Bool) → (s ≡ true → t ≡ true) → cond s 1 0 ≤ cond t 1 0
   step_less true true so = omega arith
@@ -242,11 +238,8 @@ module _ {X : Type 0} (p q : X → Bool) where
       omega (arith, sum_by-cons (λ z. cond (p z) 1 0) y xs, sum_by-cons (λ z. cond (q z) 1 0) y xs, step_less (p y) (q y) (so y), count_more xs so x (k, omega (arith, inside), is) off on)
 
 count_all : {X : Type 0} (p : X → Bool) (xs : List X) → length xs ≤ count_by p xs → (x : X) → Contains xs x → p x ≡ true
-count_all p xs all x has = by (p x) refl
-  where
-    by : (t : Bool) → p x ≡ t → p x ≡ true
-    by true on = on
-    by false off = absurd (omega (arith, all, count_more p (λ y. true) xs (λ y on. refl) x has off refl, count_by-le-length (λ y. true) xs))
+count_all p xs all x has =
+    true_from_ne_false (p x) (λ off. omega (arith, all, count_more p (λ y. true) xs (λ y on. refl) x has off refl, count_by-le-length (λ y. true) xs))
 
 -- ---- after relaxing an arc
 module _ (a : ArcView) (old new : ℕ → NodeEntry) (b : BlockValue) (relaxes : RelaxesArc a old new) where
@@ -268,7 +261,7 @@ module _ (a : ArcView) (old new : ℕ → NodeEntry) (b : BlockValue) (relaxes :
   ]
 
   unsupported_before : (v : ℕ) → is_supported (new v) ≡ false → is_supported (old v) ≡ false
-  unsupported_before v unsupported = not_yes (is_supported (old v)) (λ supported. let yes = supported_still v supported in cc)
+  unsupported_before v unsupported = false_from_ne_true (is_supported (old v)) (λ supported. let yes = supported_still v supported in cc)
 
   pub labels_still : (c : ArcView) → LabelsSupported b old c → LabelsSupported b new c
   labels_still c node_labels l has tight_for = supported_still l.id (node_labels l has tight_for)
