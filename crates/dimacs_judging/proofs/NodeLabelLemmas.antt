@@ -1,7 +1,8 @@
 -- The table with a block's labels, and the tight arcs for them.
 use Rattle.std.proofs.Common.{IsTrue, ◌^◌, cond, count_by, is_some, ◌≡◌, ◌≢◌, ◌⊎◌, ◌↔◌, inl, inr, ℕ, suc, zero, ◌+◌, ◌<◌, ◌≤◌, Bool, true, false, List, [], ◌∷◌, ◌++◌, Contains, length, take, drop, get_or, slice_get, Option, Some, None, IfSome, ℤ, pos, ◌+ℤ◌, refl, sym, ap, subst, ◌∙◌, arith}
-use Rattle.std.proofs.{Math.Seq.{drop-cons}, lemmas.Bool.{cases_eq, cases_lt, eq-eqb, false_from_ne_true, true_from_ne_false}}
-use Rattle.std.proofs.{lemmas.Bool.Decides.{eqb_tells, nat_tests}, lemmas.List.Sums.{count_by-le-length, sum_by-cons}}
+use Rattle.std.proofs.{Math.Seq.{drop-cons}, lemmas.Bool.Decides.{eqb_tells, nat_tests}}
+use Rattle.std.proofs.lemmas.Bool.{cases_eq, cases_lt, eq-eqb, false_from_ne_true, true_from_ne_false}
+use Rattle.std.proofs.lemmas.List.Sums.{count_by-le-length, sum_by-cons}
 use Rattle.std.proofs.lemmas.Option.{get_or_from_slice_get, slice_get_within}
 use Rattle.std.proofs.lemmas.List.{get_or_default, take-append-drop, take_all, take_more}
 use Rattle.std.proofs.lemmas.List.Elements.{All-cons, All-nil, Contains-append_cases, Contains-get_or}
