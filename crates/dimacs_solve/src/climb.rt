@@ -17,7 +17,7 @@ use std::alloc::Global;
 pub enum MaxFlowAnswer {
     /// A maximum flow, with a tight cut.
     Optimal(Flow, Cut),
-    /// As many flows as the limit were tested, and none is maximum.
+    /// As many better and better flows as the limit aren't maximum.
     GaveUp,
 }
 

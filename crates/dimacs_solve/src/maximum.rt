@@ -15,7 +15,7 @@ use std::alloc::Global;
 pub enum MaxAnswer {
     /// A maximum flow, with an entry for every arc, and a cut that shows it.
     Optimal(Solution, Cut),
-    /// None of the flows within the limit is maximum.
+    /// As many better and better flows as the limit aren't maximum.
     GaveUp,
 }
 
