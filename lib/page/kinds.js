@@ -1,30 +1,30 @@
 // The kinds of text, the commands over them, and what the answers are called.
 
-/** The kinds of text: their names, where each belongs, what its problem line counts, and how it is given. */
-export const FORMATS = {
-    max: {name: "an instance of maximum flow", slot: "instance", claims: ["max"], counts: ["nodes", "arcs"]},
-    min: {name: "an instance of least cost", slot: "instance", claims: ["min", "infeasible"], counts: ["nodes", "arcs"]},
-    gr: {name: "a graph", slot: "instance", claims: ["paths"], counts: ["nodes", "arcs"]},
+/** The kinds of text: their names, where each belongs, which claims are about it, and how it is given. */
+const FORMATS = {
+    max: {name: "an instance of maximum flow", slot: "instance", claims: ["max"]},
+    min: {name: "an instance of least cost", slot: "instance", claims: ["min", "infeasible"]},
+    gr: {name: "a graph", slot: "instance", claims: ["paths"]},
     solution: {name: "a solution", slot: "claim"},
-    query: {name: "queries", slot: "claim", counts: ["queries"], how: ", as p aux sp ss 1 and s 1 on two lines"},
-    distances: {name: "distances", slot: "claim", counts: ["nodes", "sources"]},
-    cut: {name: "a set of nodes", slot: "certificate", counts: ["nodes", "inside"]},
-    pot: {name: "potentials", slot: "certificate", counts: ["nodes", "potentials"]},
-    dist: {name: "labels", slot: "certificate", counts: ["nodes", "sources"], how: " as the certificate, which Solve makes"},
+    query: {name: "queries", slot: "claim", how: ", as p aux sp ss 1 and s 1 on two lines"},
+    distances: {name: "distances", slot: "claim"},
+    cut: {name: "a set of nodes", slot: "certificate"},
+    pot: {name: "potentials", slot: "certificate"},
+    dist: {name: "labels", slot: "certificate", how: " as the certificate, which Solve makes"},
 };
+
+/** What there is to say of a kind; of none if a text has none that is known. */
+export const format = (kind) => FORMATS[kind] ?? {name: "no kind of text that is known here"};
 
 // ---- texts
 
-/** A longer text is shown in part, since it would make the page slow. In bytes. */
-export const MOST_SHOWN = 2 ** 16;
-
-/** The most bytes of a line that is accepted. */
-const MOST_OF_LINE = 2 ** 20;
+/** A longer text can't be typed, and is shown in part, since it would make the page slow. In bytes. */
+export const MOST_TYPED = 2 ** 16;
 
 /** Bytes: the end of a line, the first one of a comment, and the m of "more", which no other answer to a pair has. */
 const NEWLINE = 10, COMMENT = 99, M = 109;
 
-const latin = new TextDecoder("latin1"), unicode = new TextDecoder(), utf8 = new TextEncoder();
+const latin = new TextDecoder("latin1"), unicode = new TextDecoder("utf-8", {ignoreBOM: true});
 
 /** How often a text has a byte. */
 function countOf(byte, bytes) {
@@ -34,49 +34,34 @@ function countOf(byte, bytes) {
 }
 
 /** So many of something. */
-const many = (count, name) => `${count.toLocaleString("en")} ${name}${count === 1 ? "" : "s"}`;
+export const many = (count, name) => `${count.toLocaleString("en")} ${name}${count === 1 ? "" : "s"}`;
 
 /** What is shown of a text, whole lines if it has any, and how much more there is. */
 export function shown(bytes) {
-    const lines = bytes.lastIndexOf(NEWLINE, MOST_SHOWN - 1) + 1;
-    const end = bytes.length <= MOST_SHOWN ? bytes.length : lines || MOST_SHOWN, rest = bytes.subarray(end);
+    const lines = bytes.lastIndexOf(NEWLINE, MOST_TYPED - 1) + 1;
+    const end = bytes.length <= MOST_TYPED ? bytes.length : lines || MOST_TYPED, rest = bytes.subarray(end);
     const count = countOf(NEWLINE, rest) + (rest.at(-1) === NEWLINE ? 0 : 1);
     const more = lines ? many(count, "more line") : many(rest.length, "more byte");
     return {text: unicode.decode(bytes.subarray(0, end)), more: rest.length ? more : ""};
 }
 
-/** The first fields of the first two lines that are neither blank nor comments. */
-function firstRecords(bytes) {
-    const records = [];
-    for (let at = 0, end; at < bytes.length && records.length < 2; at = end) {
-        end = bytes.indexOf(NEWLINE, at) + 1 || bytes.length;
-        if (bytes[at] === COMMENT) continue;  // quicker than by its fields
-        const fields = latin.decode(bytes.subarray(at, Math.min(end, at + MOST_OF_LINE))).trim().split(/\s+/, 6);
-        if (!/^(c|$)/.test(fields[0])) records.push(fields);
-    }
-    return records;
-}
-
-/** The kind of a text by its first record, or null. */
-function kindOf([letter, word = ""] = []) {
+/** The kind by a line's first fields; null if it isn't known, and nothing for a comment or a blank line. */
+function kindOf([letter, word = ""]) {
+    if (/^(c|$)/.test(letter)) return undefined;
     if (letter === "s" || letter === "f") return "solution";
     const kind = {sp: "gr", aux: "query"}[word] ?? word;
     return letter === "p" && Object.hasOwn(FORMATS, kind) ? kind : null;
 }
 
-/** What there is to say of a text. */
-function described(kind, fields, size) {
-    const numbers = fields.slice(kind === "query" ? 4 : 2);
-    const counts = (FORMATS[kind]?.counts ?? []).map((it, i) => `${numbers[i]?.slice(0, 20) ?? "?"} ${it}`);
-    const name = kind ? FORMATS[kind].name : "no kind of text that is known here";
-    return [name, ...counts, size < 10000 ? `${size} bytes` : `${(size / 1e6).toFixed(1)} MB`].join(", ");
-}
-
-/** A text, with the name of the file that it came from. */
-export function textOf(source, file = "") {
-    const bytes = typeof source === "string" ? utf8.encode(source) : source, records = firstRecords(bytes);
-    const kind = kindOf(records[0]), about = bytes.length ? described(kind, records[0] ?? [], bytes.length) : "";
-    return {bytes, file, records, kind, about, bad: "", ...shown(bytes)};
+/** A text with its kind, by its first line that is neither blank nor a comment. */
+export function textOf(bytes) {
+    let kind;
+    for (let at = 0, end; at < bytes.length && kind === undefined; at = end) {
+        end = bytes.indexOf(NEWLINE, at) + 1 || bytes.length;
+        if (bytes[at] === COMMENT) continue;  // quicker than by its fields
+        kind = kindOf(latin.decode(bytes.subarray(at, Math.min(end, at + 2 ** 20))).trim().split(/\s+/, 2));
+    }
+    return {bytes, kind: kind ?? null};
 }
 
 // ---- commands
@@ -90,10 +75,10 @@ const NEEDED = {
 };
 
 /** The command for what is asked, the texts that it reads, and what is missing. A certificate may be left out. */
-export function planned({what, kind, isAlone}, slots) {
-    const [instance, claim, certificate] = NEEDED[kind], given = slots.claim.kind, isSolved = what === "solve";
-    const has = (slot) => slots[slot].bytes.length > 0;
-    const isJudged = !isSolved && !isAlone && has("certificate") && given !== "distances";
+export function planned({what, kind}, texts) {
+    const [instance, claim, certificate] = NEEDED[kind], given = texts.claim.kind, isSolved = what === "solve";
+    const has = (slot) => texts[slot].bytes.length > 0;
+    const isJudged = !isSolved && has("certificate") && given !== "distances";
     const isAsked = kind === "paths" && (isSolved || isJudged || given === "query");
     const name = isAsked ? "query" : claim;
     const reads = [{name: "instance", slot: "instance", wanted: instance}];
@@ -117,58 +102,41 @@ const REASONS = {
     range: "CostRange",
 };
 
-const isOne = (reason, name) => REASONS[name].split(" ").includes(reason);
-
-/** What is wrong where nothing was judged. */
-function faultOf(reason, text) {
-    if (isOne(reason, "unfit")) return "the texts don't fit together";
-    if (isOne(reason, "negative")) return "a weight is negative";
-    const {name, kind, wanted} = text, isMany = name === "query" || name === "distances";
-    const title = `the ${name === "query" ? "queries" : name}`;
-    if (kind && kind !== wanted) return `${title} ${isMany ? "are" : "is"} ${FORMATS[kind].name}`;
-    return `${title} ${isMany ? "have" : "has"} a fault`;
-}
-
 /** What answers to pairs say, of which some may only say that the distance is more than a radius; or nothing. */
-function claimedOfPairs(line, {certificate}, pairs, far) {
-    const [, from, to] = line.split(" "), [problem, block] = certificate?.records ?? [];
+function claimedOfPairs([, from, to, distance], pairs, far) {
     if (far === pairs) return "";
-    if (pairs === 1) return `the distance from ${from} to ${to}`;
-    if (!far) return `the distances of ${many(pairs, "pair")}`;
-    const within = Number(problem[3]) === 1 ? `from ${from} within ${BigInt(block[3])}` : "within their radius";
-    return `the distances ${within}, of ${pairs - far} of ${many(pairs, "pair")}`;
+    if (far) return `the distances for ${pairs - far} of ${many(pairs, "q line")}; the others are beyond a radius`;
+    if (pairs > 1) return `the distances for ${many(pairs, "q line")}`;
+    return distance === "unreachable" ? `no path leads from ${from} to ${to}` : `the distance from ${from} to ${to}`;
 }
 
 /** What a yes says, or nothing. */
-function claimed(line, {judged, printed}) {
-    const [, kind, value, sources] = line.split(" "), texts = Object.fromEntries(judged.map((it) => [it.slot, it]));
-    if (Number(kind)) return claimedOfPairs(line, texts, countOf(NEWLINE, printed), countOf(M, printed));
+function claimed(line, printed) {
+    const fields = line.split(" "), [, kind, value, sources] = fields;
+    if (Number(kind)) return claimedOfPairs(fields, countOf(NEWLINE, printed), countOf(M, printed));
     if (kind === "max") return `the flow of value ${value} is maximum`;
     if (kind === "min") return `the flow of cost ${value} costs least`;
     if (kind === "infeasible") return "no flow is feasible";
-    if (Number(sources) > 1) return `the distances from ${many(Number(sources), "source")}`;
-    return sources === "1" && `the distances from ${Number(texts.claim.records[1][1])}`;
+    const all = value === "ss" ? "the sources of the queries" : many(Number(sources), "source");
+    return Number(sources) > 0 && `the distances from ${all}`;
 }
 
-const open = (heading, isOpen = false) => ({heading, state: "open", isOpen});
-
-/** The heading of an answer, whether it is a yes or a no, and whether a claim may hold without the certificate given. */
+/** The heading of an answer, and whether it is a yes or a no. */
 export function headed(answer) {
-    const {what, command, status, judged, printed} = answer, isSolved = what === "solve";
-    const [line] = shown(printed).text.split("\n");
+    const {what, verb, status, printed} = answer, isSolved = what === "solve";
+    const open = (heading) => ({heading, state: "open"}), [line] = shown(printed).text.split("\n");
     if (status === 0) {
-        const claim = claimed(line, answer);
+        const claim = claimed(line, printed);
         if (!claim) return open(isSolved ? "Nothing was asked" : "Nothing was claimed");
         return isSolved ? open(`Solved: ${claim}`) : {heading: `Yes: ${claim}`, state: "yes"};
     }
     if (status !== 1) return open("Undecided: the solver reached its limit, or the cost is out of range");
-    const [, place, ...more] = line.split(" "), reason = more.pop(), isJudged = command.startsWith("judge");
-    const isUnfit = isOne(reason, "unfit") && place !== "certificate";
-    if (isOne(reason, "wrong") || (reason === "NoTightArc" && !isJudged)) {
-        return {heading: "No: the answer is wrong", state: "no"};
-    }
-    if (isOne(reason, "range")) return open("Undecided: the cost is out of range");
-    if (isOne(reason, "notShown") && !isUnfit) return open("Not shown: this certificate doesn't show it", true);
-    const fault = faultOf(reason, judged.find((it) => it.name === place));
-    return open(`${isSolved ? "Not solved" : "Nothing was judged"}: ${fault}`, place === "certificate");
+    const [, place, ...more] = line.split(" "), reason = more.pop();
+    const is = (name) => REASONS[name].split(" ").includes(reason), isUnfit = is("unfit") && place !== "certificate";
+    const isMissed = reason === "NoTightArc" && verb !== "judge";
+    if (is("wrong") || isMissed) return {heading: "No: the answer is wrong", state: "no"};
+    if (is("range")) return open("Undecided: the cost is out of range");
+    if (is("notShown") && !isUnfit) return open("Not shown: this certificate doesn't show it");
+    const fault = is("negative") ? "a weight is negative" : `there is a fault in the ${place}`;
+    return open(`${isSolved ? "Not solved" : "Nothing was judged"}: ${isUnfit ? "the texts don't fit together" : fault}`);
 }

@@ -1,18 +1,17 @@
-// The page: keeps the texts, shows them and the answers, and asks the worker.
-import {FORMATS, MOST_SHOWN, headed, planned, shown, textOf} from "./kinds.js";
+// The page: what its slots hold, the worker that is asked, and its answers.
+import {factsOf, read} from "./files.js";
+import {MOST_TYPED, format, headed, many, planned, shown, textOf} from "./kinds.js";
 
 const $ = (id) => document.getElementById(id);
-const SLOTS = ["instance", "claim", "certificate"], QUOTES = "button.quote";
-const PROVED = "Every function that decides here is proved. Its translation to WebAssembly, this page and your browser aren't.";
+const PROVED = "Every function that decides here is proved. Its translation to WebAssembly and this page aren't.";
 const UNPROVED = "This page was built of code that is not proved.";
-const TITLE = document.title;
-const NO_SUM = "no SHA-256, which a browser computes for pages from a file, https or localhost";
 
-/** The text in each slot, and at which change it came. */
-const slots = Object.fromEntries(SLOTS.map((slot) => [slot, {...textOf(""), at: 0}]));
+/** Where each slot stands, its file, and at which act it was filled. One without a file holds what stands in its area. */
+const panes = Object.fromEntries([...document.querySelectorAll("[data-slot]")].map((it) => [it.dataset.slot, it]));
+const SLOTS = Object.keys(panes), files = {}, filled = {};
 
-/** The answer that is shown, how often texts or the claim have changed, and what is under way. */
-let answered = null, changes = 0, running = false, reading = 0;
+/** The answer that is shown, whether one is computed, how often files are read, one after the other, and the acts so far. */
+let answered = null, running = false, reading = 0, queue = Promise.resolve(), acts = 0;
 
 function element(name, properties, ...inside) {
     const it = Object.assign(document.createElement(name), properties);
@@ -21,19 +20,18 @@ function element(name, properties, ...inside) {
 }
 
 const button = (onclick, ...inside) => element("button", {type: "button", onclick}, ...inside);
-
-/** The name of a file, whose letters may run from right to left. */
-const bdi = (name) => element("bdi", {}, name);
+const row = (...inside) => element("div", {className: "row"}, ...inside);
+const bdi = (name) => element("bdi", {}, name);  // a file's name, whose letters may run from right to left
+const preview = (text, ariaLabel = "") => element("pre", {tabIndex: 0, ariaLabel}, text);
 
 // ---- the worker
 
-/** The worker, and what ends the wait for its answer, or for a file. */
-let worker = null, stopped = () => {}, halted = new AbortController();
+/** The worker, what ends the wait for it, why a run was ended, and what ends the reading of files. */
+let worker = null, halt = () => {}, ended = "", halted = new AbortController();
 
 /** Asks the worker, which answers one request after the other. */
 function ask(what, words) {
     return new Promise((good, bad) => {
-        stopped = bad;
         worker.onmessage = ({data}) => (data.bad ? bad(new Error(data.bad)) : good(data.good));
         worker.onerror = ({message}) => bad(new Error(`No answer: ${message ?? "no worker"}.`));
         worker.postMessage({what, ...words});
@@ -41,207 +39,178 @@ function ask(what, words) {
 }
 
 function startWorker() {
-    if (worker) return null;
-    worker = new Worker(URL.createObjectURL(new Blob([$("worker").textContent], {type: "text/javascript"})));
-    return ask("start", {module: $("module").textContent});
+    if (!worker) {
+        worker = new Worker(URL.createObjectURL(new Blob([$("worker").textContent], {type: "text/javascript"})));
+        worker.started = ask("start", {module: $("module").textContent});
+    }
+    return worker.started;
+}
+
+/** Waits, but no longer than until the run is ended. What was ended has no answer. */
+async function wait(promise) {
+    const got = await Promise.race([promise, new Promise((good) => (halt = good))]);
+    if (ended) throw new Error(ended);
+    return got;
 }
 
 /** Ends a run: the worker can't be asked while it computes. */
+function end(why) {
+    if (!running || ended) return;
+    ended = why;
+    worker.terminate();
+    worker = null;
+    halt();
+}
+
+/** Ends what is under way. */
 function stop() {
     halted.abort();
     halted = new AbortController();
-    if (!running) return;
-    worker.terminate();
-    worker = null;
-    stopped(new Error(answered ? "It was stopped before it was explained." : "Stopped: undecided."));
+    end(answered ? "It was stopped before it was explained." : "Stopped: undecided.");
 }
 
-// ---- files
+// ---- what the slots hold
 
-/** Texts of more bytes are refused: an array of bytes can't be longer everywhere. */
-const MOST_BYTES = 2 ** 31 - 1;
-const TOO_LONG = "it has more than 2 GB, which is too much for this page. Use the command dimacs";
+/** What the slots hold now: this is what is judged. */
+function held() {
+    const typed = (slot) => textOf(new TextEncoder().encode($(slot)?.value));
+    return Object.fromEntries(SLOTS.map((it) => [it, files[it] ?? typed(it)]));
+}
 
-/** How compressed files begin. Those by gzip are unpacked. */
-const PACKED = {gzip: "\x1f\x8b", bzip2: "BZh", xz: "\xfd7zXZ", zstd: "(\xb5/\xfd", zip: "PK\x03\x04"};
+/** Puts a file into a slot, or a text into a new area, in which no key undoes what was there before. */
+function put(slot, file, text = "") {
+    const {title, like} = panes[slot].dataset;
+    const action = (name, act) => Object.assign(button(act, name), {ariaLabel: `${name}: ${title}`});
+    const type = (some) => (put(slot, null, some), $(slot).focus());
+    const onchange = ({target}) => target.files.length && give([...target.files], slot);
+    const actions = [action("Open a file", () => element("input", {type: "file", onchange}).click())];
+    const isTypable = file?.text && file.bytes.length <= MOST_TYPED && !file.text.includes("\ufffd");
+    if (isTypable) actions.push(action("Edit", () => type(file.text)));
+    if (file) actions.push(action("Remove", () => type("")));
+    const area = {value: text, placeholder: like, spellcheck: false, autocapitalize: "off", autocomplete: "off"};
+    const place = file ? preview(file.text) : element("textarea", area);
+    Object.assign(place, {id: slot, ariaLabel: title}).setAttribute("aria-describedby", `about-${slot}`);
+    [files[slot], filled[slot]] = [file, acts];
+    panes[slot].replaceChildren(row(element("h2", {}, title), ...actions), place, $(`about-${slot}`));
+    changed();
+}
 
-/** What is wrong with a file, in words for the reader. */
-class Unreadable extends Error {}
+/** After any change of a slot or of the claim: an answer to what was there goes, and none to it comes any more. */
+function changed() {
+    head("", "");
+    end("Stopped: a text or the claim was changed.");
+    ready();
+}
 
-async function gathered(stream) {
-    const parts = [], reader = stream.getReader();
-    for (let length = 0; ; ) {
-        const {done, value} = await reader.read();
-        if (done) return new Uint8Array(await new Blob(parts).arrayBuffer());
-        length += value.length;
-        if (length > MOST_BYTES) throw new Unreadable(TOO_LONG);
-        parts.push(value);
+/** Takes files that came at once. Several, or one beside the slots, go where their kinds belong. */
+async function take(list, slot, signal) {
+    const found = [], taken = [];
+    for (const it of list) found.push(await read(it, signal));
+    acts++;
+    for (const it of found.sort((one, other) => Boolean(other.kind) - Boolean(one.kind))) {
+        const free = ["claim", "instance", "certificate"].find((one) => !taken.includes(one));
+        const at = (list.length === 1 && slot) || format(it.kind).slot || free || "claim";
+        put(at, {...it, note: taken.includes(at) && "Another file that came with it is left out"});
+        taken.push(at);
     }
 }
 
-/** The stream of a file, which shows how much has gone through. */
-function watched(file, signal) {
-    let passed = 0;
-    const watch = new TransformStream({
-        transform(chunk, to) {
-            passed += chunk.length;
-            $("progress").value = passed / file.size;
-            $("doing").replaceChildren("Reading ", bdi(file.name));
-            to.enqueue(chunk);
-        },
-    });
-    return file.stream().pipeThrough(watch, {signal});
-}
-
-async function contentOf(file, signal) {
-    if (file.size > MOST_BYTES) throw new Unreadable(TOO_LONG);
-    const head = String.fromCharCode(...new Uint8Array(await file.slice(0, 6).arrayBuffer()));
-    const packed = Object.keys(PACKED).find((it) => head.startsWith(PACKED[it]));
-    if (!packed) return gathered(watched(file, signal));
-    if (packed === "gzip") return gathered(watched(file, signal).pipeThrough(new DecompressionStream("gzip")));
-    throw new Unreadable(`it is packed by ${packed}: unpack it first. Only .gz is unpacked here`);
-}
-
-/** The text of a file; an empty one, and what is wrong, if it can't be read. */
-async function read(file, signal) {
-    const name = file.name.replace(/[\p{Cc}\p{Zl}\p{Zp}]/gu, "\ufffd");
-    try {
-        const bytes = await contentOf(file, signal);
-        return {...textOf(bytes, name), bad: bytes.length ? "" : "it is empty"};
-    } catch (why) {
-        const broken = why instanceof TypeError && "it can't be unpacked: it isn't whole, or no .gz file";
-        const own = signal.aborted ? "it was stopped" : why instanceof Unreadable ? why.message : broken;
-        return {...textOf("", name), bad: own || "it can't be read: it isn't a file, or has changed"};
-    }
-}
-
-/** Where a file goes: where its kind belongs, or if that isn't known, its name, or where no other came with it. */
-function slotOf({kind, file}, at) {
-    const kinds = [kind, ...file.split(".").reverse()].map((it) => FORMATS[it]?.slot);
-    return kinds.find(Boolean) ?? SLOTS.find((it) => slots[it].at !== at) ?? SLOTS[0];
-}
-
-/** Takes files that came at once. Several, or one beside the texts, go where their kinds belong. */
-async function give(files, slot) {
-    const at = changed(), {signal} = halted, texts = [];
+/** Files are read in the order in which they come, and meanwhile nothing can be typed. */
+function give(list, slot) {
+    const focused = document.activeElement?.closest("[data-slot]")?.dataset.slot, {signal} = halted;
     reading++;
-    ready();
-    for (const it of files) texts.push(await read(it, signal));
-    texts.sort((one, other) => Boolean(other.kind) - Boolean(one.kind));
-    for (const it of texts) put((texts.length === 1 && slot) || slotOf(it, at), it, at);
-    reading--;
-    ready();
+    changed();
+    const failed = ({message}) => head(`The files can't be taken: ${message}`, "open");
+    queue = queue.then(() => take(list, slot, signal)).catch(failed).finally(() => {
+        reading--;
+        ready();
+        if (focused) $(focused).focus({preventScroll: true});
+    });
 }
 
-// ---- texts
-
-/**
- * Puts a text into its slot, unless another one came after the change `at`. With another instance the last one's
- * certificate goes.
- */
-function put(slot, text, at) {
-    const last = slots[slot], {certificate} = slots;
-    if (last.at > at) return;
-    hold(slot, text, at);
-    if (last.at === at && last.file) $(`about-${slot}`).append(" Not ", bdi(last.file), ", which came with it.");
-    const isNext = slot === "instance" && last.bytes.length > 0 && last.at !== at;
-    if (!isNext || !certificate.bytes.length || certificate.at === at) return;
-    hold("certificate", {...textOf(""), about: "The last instance's certificate was removed"}, at);
+/** What is typed. A text that gets too long for an area is given as a file. */
+function typed(slot, ...parts) {
+    filled[slot] = ++acts;
+    if (new Blob(parts).size > MOST_TYPED) give([new File(parts, "pasted text")], slot);
+    else changed();
 }
 
-/** Keeps a text in its slot, and shows what there is to say of it. */
-function hold(slot, it, at) {
-    const {file, bytes, kind, text, more, bad} = it, area = $(slot), place = $(`about-${slot}`);
-    const isOther = kind && FORMATS[kind].slot !== slot, claims = FORMATS[kind]?.claims ?? [];
-    slots[slot] = {...it, at};
-    if (area.value !== text) area.value = text;
-    if (file) area.scrollTop = 0;
-    area.readOnly = more !== "";
-    const notes = [bad || it.about, isOther && "It doesn't belong here", more && `Not shown: ${more}`].filter(Boolean);
-    place.dataset.first ??= place.textContent;
-    place.replaceChildren(...(file ? [bdi(file), ": "] : []), notes.length ? `${notes.join(". ")}.` : place.dataset.first);
-    place.classList.toggle("bad", Boolean(bad || isOther || (file && !kind)));
-    if (slot === "certificate" && bytes.length) $("more").open = true;
-    if (slot === "instance" && claims.length && !claims.includes($("kind").value)) $("kind").value = claims[0];
-    ready();
+/** Takes files, and long pastes, which take a browser minutes. Where one may type it takes other texts by itself. */
+function come(event) {
+    const {type, target} = event, {value, selectionStart, selectionEnd} = target;
+    const data = event.dataTransfer ?? event.clipboardData, text = type === "paste" ? data.getData("text/plain") : "";
+    const slot = target.closest?.("[data-slot]")?.dataset.slot, isTyped = target.localName === "textarea";
+    const isOfFiles = data.types.includes("Files") && !data.types.includes("text/html");  // which a picture has
+    if (isOfFiles && type !== "dragover") give([...data.files], slot);
+    if (isTyped && !isOfFiles && text.length <= MOST_TYPED) return;
+    if (isTyped && !isOfFiles) typed(slot, value.slice(0, selectionStart), text, value.slice(selectionEnd));
+    event.preventDefault();
 }
 
-/** Takes files, or a text for an area that can't take it by itself. */
-function take(event, {files}, slot, text) {
-    const isOwn = slot && text && (text.length > MOST_SHOWN || $(slot).readOnly);
-    if (files.length) give([...files], slot);
-    else if (isOwn) put(slot, textOf(text), changed());
-    if (files.length || isOwn) event.preventDefault();
+// ---- what can be done
+
+/** Says what a slot holds, and what Check reads there. */
+function describe(slot, {bytes, kind, file, facts, bad, note, more}, wanted) {
+    const isEmpty = !file && !bytes.length, place = $(`about-${slot}`);
+    const wrong = wanted ? `It doesn't belong here: Check reads ${format(wanted).name}` : "Check doesn't read it";
+    const tip = kind !== wanted && (kind || !wanted) && wrong, size = facts ?? many(bytes.length, "byte");
+    const old = slot === "certificate" && filled[slot] < filled.instance && "It was here before the instance changed";
+    const told = [format(kind).name, size, more && `Not shown: ${more}`, note, tip, old];
+    const said = isEmpty ? panes[slot].dataset.hint : `${(bad ? [bad] : told).filter(Boolean).join(". ")}.`;
+    place.replaceChildren(...(file ? [bdi(file), ": "] : []), said);
+    place.classList.toggle("bad", !isEmpty && Boolean(bad || note || tip || old || (file && !kind)));
 }
 
-/** A paste makes a text of what is there. One that is shown in part it only replaces as a whole. */
-function pasted(event, slot) {
-    const {value, selectionStart: from, selectionEnd: to, readOnly} = $(slot), {clipboardData} = event;
-    const isPart = readOnly && to - from < value.length, added = clipboardData.getData("text/plain");
-    take(event, clipboardData, slot, !isPart && added && value.slice(0, from) + added + value.slice(to));
-}
-
-// ---- progress
-
-/** Offers what can be done now, and says what it needs. */
+/** Says what the slots hold, offers what can be done, and says what it needs. */
 function ready() {
-    const isBusy = running || reading > 0, needs = [];
-    for (const what of ["check", "solve"]) {
-        const {missing} = planned({what, kind: $("kind").value}, slots);
-        if (missing) needs.push(`${what === "check" ? "Check" : "Solve"} needs ${missing}.`);
-        $(what).disabled = Boolean(missing);
-        $(what).setAttribute("aria-disabled", isBusy);
+    const texts = held(), kind = $("kind"), {claims = []} = format(texts.instance.kind), needs = [];
+    for (const it of kind.options) it.disabled = claims.length > 0 && !claims.includes(it.value);
+    if (kind.selectedOptions[0].disabled) [kind.value] = claims;
+    for (const it of [$("check"), $("solve")]) {
+        const {missing} = planned({what: it.id, kind: kind.value}, texts);
+        it.disabled = Boolean(missing);
+        it.ariaDisabled = running || reading > 0;
+        if (missing) needs.push(`${it.textContent} needs ${missing}.`);
     }
     $("needs").textContent = needs.join(" ");
-    $("stop").hidden = $("progress").hidden = !isBusy;
-    if (!isBusy) $("doing").textContent = "";
-}
-
-function watch() {
-    const begun = performance.now();
-    $("progress").removeAttribute("value");
-    return setInterval(() => {
-        const seconds = Math.floor((performance.now() - begun) / 1000);
-        if (seconds > 0) $("doing").textContent = `Computing: ${seconds} s`;
-    }, 300);
+    const {reads} = planned({what: "check", kind: kind.value}, texts);
+    for (const it of SLOTS) describe(it, texts[it], reads.find(({slot}) => slot === it)?.wanted);
+    $("stop").hidden = !running && !reading;
+    $("given").inert = reading > 0;
+    $("doing").textContent = running ? "Computing .." : reading > 0 ? "Reading .." : "";
 }
 
 // ---- the answer
 
-/** A quoted line with its field marked, as the marks below it say. A press shows it where it stands. */
-function quoted(line, marks, place, number) {
-    const begin = marks.lastIndexOf(" ") + 1, end = marks.length;
-    const field = marks ? [element("mark", {}, line.slice(begin, end))] : [];
-    const parts = [line.slice(0, begin), ...field, line.slice(end)];
-    const found = place && answered.state !== "past" && lineIn(place.text, number);
-    if (!found) return element("p", {className: "quote"}, ...parts);
-    const show = (isPressed) => select($(place.slot), found, isPressed);
-    return Object.assign(button(() => show(true), ...parts), {className: "quote", show});
+/** A text that the program wrote, and how much of it isn't shown. */
+function written(bytes, title) {
+    const {text, more} = shown(bytes);
+    return [preview(text, title), ...(more ? [element("p", {className: "about"}, `and ${more}`)] : [])];
 }
 
-/** The lines that explain an answer. */
-function explained(text, judged) {
-    const names = [...judged.map((it) => it.name), "certificate", "better", "flow"];
-    return [...text.matchAll(/([^\n]*)\n(?:( *\^+)\n)?/g)].map(([, line, marks = ""]) => {
-        const [, name, number] = /^(\w+):(\d+): /.exec(line) ?? [], place = judged.find((it) => it.name === name);
-        return names.includes(name) ? quoted(line, marks, place, Number(number)) : element("p", {}, line);
+/** A press of this selects a line where it stands in its slot, if it is shown there; or null. */
+function leadTo(slot, number) {
+    const place = $(slot), lines = (place.value ?? place.textContent).split("\n"), line = lines[number - 1];
+    const begin = lines.slice(0, number - 1).join("\n").length + (number > 1), end = begin + line?.length;
+    return line && button(() => {
+        place.focus();
+        if (files[slot]) getSelection().setBaseAndExtent(place.firstChild, begin, place.firstChild, end);
+        else place.setSelectionRange(begin, end);
+        place.scrollTop = (number - 4) * (place.scrollHeight / lines.length);
     });
 }
 
-/** Where a line of a text stands in its area, in which each carriage return ends a line; null if it isn't shown. */
-function lineIn(text, number) {
-    const lines = text.split("\n"), before = lines.slice(0, number - 1), line = lines[number - 1];
-    const inArea = (...some) => some.join("\n").replace(/\r\n?/g, "\n").length;
-    return line === undefined ? null : [inArea(...before, ""), inArea(...before, line.trimEnd())];
-}
-
-/** Selects a line in its area. */
-function select(area, [begin, end], isPressed) {
-    const rowsTo = (at) => area.value.slice(0, at).split("\n").length;
-    if (isPressed) area.closest("details")?.setAttribute("open", "");
-    if (isPressed) area.focus();
-    area.setSelectionRange(begin, end);
-    area.scrollTop = Math.max(0, (rowsTo(begin) - 4) * (area.scrollHeight / rowsTo(area.value.length)));
+/** The lines that explain an answer. One that quotes a text leads there, with its field marked, as the marks below say. */
+function explained(text, judged) {
+    return [...text.matchAll(/([^\n]*)\n(?:( *)(\^+)\n)?/g)].map(([, line, before, marks]) => {
+        const letters = [...line], begin = letters.splice(0, before?.length ?? letters.length).join("");
+        const field = marks ? [element("mark", {}, letters.splice(0, marks.length).join(""))] : [];
+        const [, name, number] = /^(\w+):(\d+): /.exec(line) ?? [], place = judged.find((it) => it.name === name);
+        const made = (place && leadTo(place.slot, Number(number))) || element("p");
+        made.classList.toggle("quote", Boolean(name));
+        made.append(begin, ...field, letters.join(""));
+        return made;
+    });
 }
 
 function download(name, ...parts) {
@@ -250,82 +219,48 @@ function download(name, ...parts) {
     setTimeout(() => URL.revokeObjectURL(url), 10000);
 }
 
-/** A text that the program wrote, and how much of it isn't shown. */
-function written(bytes, ariaLabel) {
-    const {text, more} = shown(bytes), lines = element("pre", {tabIndex: 0, ariaLabel}, text);
-    return [...(text ? [lines] : []), ...(more ? [element("p", {className: "about"}, `and ${more}`)] : [])];
-}
-
 /** A name for a file of the answer, by that of its instance. */
-function named(ending) {
-    const [{file}] = answered.judged;
-    return `${(file || "instance").replace(/\.gz$/i, "").replace(/\.[^.]*$/, "")}${ending}`;
-}
+const named = (ending) => `${(answered.judged[0].file ?? "instance").replace(/(\.\w+)?(\.gz)?$/i, "")}${ending}`;
 
 function made({name, bytes}, {what, kind, status}) {
     const isOther = what === "check" && status === 1, other = kind === "infeasible" ? "feasible" : "better";
-    const own = name === "solution" ? "The solution" : `What shows it: ${FORMATS[name].name}`;
+    const own = name === "solution" ? "The solution" : `What shows it: ${format(name).name}`;
     const title = isOther ? `A ${other} solution` : own, file = named(`${isOther ? `-${other}` : ""}.${name}`);
-    const use = button(() => put("claim", textOf(bytes, file), changed()), "Use it as the solution");
+    const use = button(() => give([new File([bytes], file)], "claim"), "Use it as the solution");
     const buttons = [button(() => download(file, bytes), "Download ", bdi(file)), ...(name === "solution" ? [use] : [])];
-    const row = element("div", {className: "row"}, element("h3", {}, title), ...buttons);
-    return element("div", {className: "made"}, row, ...written(bytes, title));
-}
-
-function clearAnswer() {
-    answered = null;
-    document.title = TITLE;
-    $("answer").hidden = true;
-    for (const id of ["verdict", "meaning", "line", "judged", "offers", "made"]) $(id).replaceChildren();
-}
-
-/** An answer is of the texts that were judged. After any change it isn't one any more of those that are shown. */
-function changed() {
-    if (!answered) clearAnswer();
-    else head({heading: "Changed since: check again", state: "past"});
-    document.querySelectorAll(QUOTES).forEach((it) => it.replaceWith(element("p", {className: "quote"}, ...it.childNodes)));
-    ready();
-    return ++changes;
-}
-
-function head({heading, state}) {
-    if (answered) answered.state = state;
-    $("answer").className = state;
-    $("verdict").textContent = heading;
-    document.title = `${heading} (dimacs)`;
-    $("answer").hidden = false;
+    return [row(element("h3", {}, title), ...buttons), ...written(bytes, title)];
 }
 
 /** What was judged, in lines: the claim, each text with its sum, what wasn't read, and the command. */
-function judgedIn({what, claim, command, took, judged, unread, sums}) {
-    const time = took < 1000 ? `${Math.ceil(took)} ms` : `${(took / 1000).toFixed(1)} s`;
-    const line = (title, file, about) => [`${title}: `, ...(file ? [bdi(file), ", "] : []), about];
-    const texts = judged.map(({name, file, bytes}, i) => {
-        const packed = /\.gz$/i.test(file) ? "unpacked, " : "", sum = sums[i] ? `SHA-256 ${sums[i]}` : NO_SUM;
-        return line(name, file, `${packed}${bytes.length} bytes, ${sum}`);
-    });
-    const others = unread.map(({file, about}) => line("not read", file, about));
-    return [...(what === "check" ? [[`claim: ${claim}`]] : []), ...texts, ...others, [`by ${command}, in ${time}`]];
+function judgedIn({what, claim, verb, kind, judged, unread}) {
+    const line = (title, file, about) => [`${title}: `, file ? bdi(file) : "typed", `, ${about}`];
+    const texts = judged.map((it) => line(it.name, it.file, it.facts));
+    texts.push(...unread.map((it) => line("not read", it.file, format(it.kind).name)), [`by ${verb}-${kind}`]);
+    return what === "check" ? [[`claim: ${claim}`], ...texts] : texts;
 }
 
-/** Shows an answer, and then what explains it; a reader of the screen hears both at once. */
+/** Puts another answer in the place of the last one: none, or what begins with a heading. */
+function head(heading, className) {
+    const said = element("div", {id: "said", role: "alert"}, element("h2", {id: "verdict"}, heading));
+    $("answer").replaceWith(element("section", {id: "answer", className, ariaLabel: "Answer"}));
+    if (heading) $("answer").append(said);
+    answered = null;
+}
+
+/** Shows an answer, and then what explains it. */
 function answer(got) {
-    const heading = headed(got), solves = button(() => run("solve"), "Solve the queries");
-    const decides = button(() => run("check", true), "Check without this certificate");
-    const offered = heading.isOpen ? [got.command === "judge-paths" ? solves : decides] : [];
-    answered = {...got, ...heading};
-    $("said").setAttribute("aria-busy", "true");
-    head(heading);
-    $("line").replaceChildren(...written(got.printed, "The lines that the command prints"));
-    $("judged").replaceChildren(...judgedIn(got).map((it) => element("li", {}, ...it)));
-    $("offers").replaceChildren(...offered, button(save, "Save this answer"));
-    $("made").replaceChildren(...got.files.map((it) => made(it, got)));
+    const {heading, state} = headed(got);
+    head(heading, state);
+    answered = {...got, heading};
+    const printed = element("div", {id: "line"}, ...written(got.printed, "The lines that the command prints"));
+    const title = row(element("h3", {}, "This answer is about"), button(save, "Save this answer"));
+    const judged = element("ul", {id: "judged"}, ...judgedIn(got).map((it) => element("li", {}, ...it)));
+    $("answer").append(printed, title, judged, ...got.files.flatMap((it) => made(it, got)));
 }
 
 function explain(text) {
     answered.explanation = text;
-    $("meaning").replaceChildren(...explained(text, answered.judged));
-    $("said").setAttribute("aria-busy", "false");
+    $("said").append(element("div", {id: "meaning"}, ...explained(text, answered.judged)));
     $("answer").scrollIntoView({block: "nearest"});
 }
 
@@ -336,84 +271,59 @@ function save() {
     download(named("-answer.txt"), ...parts.filter((it) => it.length).flatMap((it, i) => (i ? ["\n", it] : [it])));
 }
 
-async function run(what, isAlone = false) {
-    const kind = $("kind").value, claim = $("kind").selectedOptions[0].textContent, before = changes;
-    const {missing, ...plan} = planned({what, kind, isAlone}, slots);
+/** Asks about what the slots hold at this moment. */
+async function run(what) {
+    const texts = held(), kind = $("kind").value, claim = $("kind").selectedOptions[0].textContent;
+    const {missing, reads, ...plan} = planned({what, kind}, texts);
     if (running || reading || missing) return;
-    const judged = plan.reads.map((it) => ({...it, ...slots[it.slot]}));
-    const unread = SLOTS.filter((it) => !judged.some(({slot}) => slot === it)).map((it) => slots[it]);
-    running = true;
-    clearAnswer();
+    const given = reads.map((it) => ({...it, ...texts[it.slot]}));
+    const others = SLOTS.filter((it) => !reads.some(({slot}) => slot === it)).map((it) => texts[it]);
+    [running, ended] = [true, ""];
+    head("", "");
     ready();
-    const watching = watch();
     try {
-        await startWorker();
-        const got = await ask("run", {...plan, given: judged.map((it) => it.bytes)});
-        answer({...got, what, kind: plan.kind, claim, judged, unread: unread.filter((it) => it.bytes.length)});
-        if (changes !== before) changed();
-        explain(await ask("explain"));
+        await wait(startWorker());
+        const asked = ask("run", {...plan, given: given.map((it) => it.bytes)});
+        const sums = given.map(async (it) => ({...it, facts: it.facts ?? (await factsOf(it.bytes))}));
+        const [got, ...judged] = await wait(Promise.all([asked, ...sums]));
+        answer({...got, ...plan, what, claim, judged, unread: others.filter((it) => it.bytes.length)});
+        explain(await wait(ask("explain")));
     } catch (why) {
         if (answered) explain(`${why.message}\n`);
-        else head({heading: why.message, state: "open"});
+        else head(why.message, "open");
     }
-    clearInterval(watching);
     running = false;
     ready();
-    for (const it of [...document.querySelectorAll(QUOTES)].reverse()) it.show(false);
-    if (document.activeElement === document.body) $("check").focus({preventScroll: true});
 }
 
 // ---- examples, files and keys
 
 function example({kind, texts}) {
-    clearAnswer();
-    const at = changed();
-    for (const slot of SLOTS) put(slot, textOf(...(texts[slot] ?? [""])), at);
+    acts++;
+    for (const slot of SLOTS) put(slot, null, texts[slot]);
     $("kind").value = kind;
-    ready();
+    changed();
 }
 
-function wire(pane) {
-    const {slot} = pane.dataset, [opens, clears] = pane.querySelectorAll("button");
-    const onchange = ({target: {files}}) => files.length && give([...files], slot);
-    opens.onclick = () => element("input", {type: "file", onchange}).click();
-    clears.onclick = () => put(slot, textOf(""), changed());
-    $(slot).oninput = () => hold(slot, textOf($(slot).value), changed());
-    $(slot).onpaste = (event) => pasted(event, slot);
-    pane.ondragenter = pane.ondragover = () => pane.classList.add("over");
-    pane.ondragleave = pane.ondrop = () => pane.classList.remove("over");
-}
-
-function wireAll() {
-    document.querySelectorAll(".pane").forEach(wire);
-    document.ondragover = (event) => event.preventDefault();
-    document.ondrop = (event) => {
-        const {dataTransfer, target} = event;
-        take(event, dataTransfer, target.closest?.(".pane")?.dataset.slot, dataTransfer.getData("text/plain"));
-    };
+function wire() {
+    for (const it of SLOTS) put(it, null);
+    for (const it of SLOTS) panes[it].oninput = ({target}) => typed(it, target.value);
+    document.ondragover = document.ondrop = document.onpaste = come;
     document.onkeydown = (event) => {
         if (event.key === "Enter" && (event.ctrlKey || event.metaKey)) run("check");
         if (event.key === "Escape") stop();
     };
     $("kind").onchange = changed;
-    $("check").onclick = () => run("check");
-    $("solve").onclick = () => run("solve");
+    for (const it of ["check", "solve"]) $(it).onclick = () => run(it);
     $("stop").onclick = stop;
-    const examples = JSON.parse($("examples-of").textContent);
-    $("examples").append(...examples.map((it) => button(() => example(it), it.title)));
+    for (const it of JSON.parse($("examples-of").textContent)) $("examples").append(button(() => example(it), it.title));
 }
 
-async function start() {
-    wireAll();
-    ready();
-    try {
-        const {version, proved} = await startWorker();
-        $("proof").textContent = `dimacs ${version}. ${proved ? PROVED : UNPROVED}`;
-        $("proof").classList.toggle("warning", !proved);
-        document.documentElement.dataset.ready = Math.round(performance.now());
-    } catch (why) {
-        head({heading: `This browser can't run it: ${why.message}`, state: "open"});
-    }
+function started({version, proved}) {
+    $("proof").textContent = `dimacs ${version}. ${proved ? PROVED : UNPROVED}`;
+    $("proof").classList.toggle("warning", !proved);
+    document.documentElement.dataset.ready = Math.round(performance.now());
 }
 
-start();
+wire();
+startWorker().then(started, ({message}) => head(`This browser can't run it: ${message}`, "open"));

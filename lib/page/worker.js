@@ -16,6 +16,9 @@ function called({verb, kind, certificate, given}) {
     return {status, printed, files: status === GAVE_UP ? [] : files.filter((it) => it.bytes.length)};
 }
 
+/** A line that advises a command, which nobody has here, and what it says before a colon; never one that quotes a text. */
+const ADVICE = /^(?!\w+:\d+: )(?:(.*): )?[^:\n]*\b(?:dimacs [a-z]|(?:judge|certify|solve|spread)-[a-z]).*\n/gm;
+
 /** The lines after those that are printed. The judge says the same of what was made, and sooner than who made it. */
 function explained() {
     const {verb, kind, given, status, printed, made} = last, isPaths = verb === "certify" && kind === "paths";
@@ -23,31 +26,20 @@ function explained() {
     if (status === GAVE_UP) return "";
     const name = status === DONE && !isPaths ? "judge" : verb;
     const better = kind === "infeasible" ? "flow" : "better", isBetter = verb === "certify" && status !== DONE;
-    return explanation(`${name}-${kind}`, [...given, ...made], isBetter ? better : "certificate").slice(printed.length);
-}
-
-/** The SHA-256 of a text; null where the browser doesn't compute it. */
-async function sumOf(bytes) {
-    const sum = await self.crypto?.subtle?.digest("SHA-256", bytes).catch(() => null);
-    return sum ? [...new Uint8Array(sum)].map((it) => it.toString(16).padStart(2, "0")).join("") : null;
+    const lines = explanation(`${name}-${kind}`, [...given, ...made], isBetter ? better : "certificate");
+    return lines.slice(printed.length).replace(ADVICE, (line, before) => (before ? `${before}\n` : ""));
 }
 
 const ANSWERS = {
     async start({module}) {
         const packed = Uint8Array.from(atob(module), (it) => it.charCodeAt(0));
         const plain = new Blob([packed]).stream().pipeThrough(new DecompressionStream("gzip"));
-        const headers = {"content-type": "application/wasm"};
-        const library = new Library(await WebAssembly.compileStreaming(new Response(plain, {headers})));
-        texts = new Texts(library);
-        return {version: library.version, proved: library.proved};
+        const answer = new Response(plain, {headers: {"content-type": "application/wasm"}});
+        texts = new Texts(new Library(await WebAssembly.compileStreaming(answer)));
+        return {version: texts.library.version, proved: texts.library.proved};
     },
 
-    async run(plan) {
-        const begun = performance.now(), sums = plan.given.map(sumOf), answer = called(plan);
-        const took = performance.now() - begun, command = `${plan.verb}-${plan.kind}`;
-        return {...answer, command, took, sums: await Promise.all(sums)};
-    },
-
+    run: async (plan) => called(plan),
     explain: async () => explained(),
 };
 

@@ -59,6 +59,9 @@ async function overSocket(browser) {
     return connection;
 }
 
+/** The keys for a browser's commands, with the control key; those of redo differ. */
+const KEYS = {undo: "z", redo: "y", selectAll: "a", copy: "c", cut: "x", paste: "v"}, CONTROL = "\ue009", SHIFT = "\ue008";
+
 /** A page in Chromium. */
 class ChromiumPage {
     async open(connection, folder) {
@@ -86,13 +89,35 @@ class ChromiumPage {
         return result.value;
     }
 
-    /** Gives a file to the dialog that an act opens. */
-    async choosing(path, act) {
+    /** Gives a file to the dialog that an act opens, and does something before it is read. */
+    async choosing(path, act, before = () => {}) {
         await this.send("Page.setInterceptFileChooserDialog", {enabled: true});
+        const seen = this.connection.events.length;
         await act();
-        const opened = () => this.connection.events.find((it) => it.method === "Page.fileChooserOpened");
+        const opened = () => this.connection.events.slice(seen).find((it) => it.method === "Page.fileChooserOpened");
         while (!opened()) await sleep(50);
+        before();
         await this.send("DOM.setFileInputFiles", {files: [path], backendNodeId: opened().params.backendNodeId});
+    }
+
+    /** Types a text. */
+    async type(text) {
+        await this.send("Input.insertText", {text});
+    }
+
+    /** Makes the browser's own command, such as undo or paste, by the keys for it. */
+    async press(command) {
+        const key = KEYS[command], code = `Key${key.toUpperCase()}`, windowsVirtualKeyCode = key.toUpperCase().charCodeAt(0);
+        const words = {modifiers: 2, key, code, windowsVirtualKeyCode};
+        await this.send("Input.dispatchKeyEvent", {...words, type: "rawKeyDown", commands: [command]});
+        await this.send("Input.dispatchKeyEvent", {...words, type: "keyUp"});
+    }
+
+    /** Drops files, or a text, where a place is, as a hand does. */
+    async dropAt([x, y], files, text) {
+        const items = text === undefined ? [] : [{mimeType: "text/plain", data: text}];
+        const data = {items, files, dragOperationsMask: 1};
+        for (const type of ["dragEnter", "dragOver", "drop"]) await this.send("Input.dispatchDragEvent", {type, x, y, data});
     }
 
     size(width, height) {
@@ -120,6 +145,21 @@ class FirefoxPage {
         const {type, result, exceptionDetails} = await this.connection.send("script.evaluate", asked);
         if (type === "exception") throw new Error(exceptionDetails.text);
         return result.value === undefined ? undefined : JSON.parse(result.value);
+    }
+
+    async type(text) {
+        const actions = [...text].flatMap((value) => [{type: "keyDown", value}, {type: "keyUp", value}]);
+        await this.act(actions.map((it) => (it.value === "\n" ? {...it, value: "\ue007"} : it)));
+    }
+
+    async press(command) {
+        const keys = [CONTROL, ...(command === "redo" ? [SHIFT, "z"] : [KEYS[command]])], up = [...keys].reverse();
+        await this.act([...keys.map((value) => ({type: "keyDown", value})), ...up.map((value) => ({type: "keyUp", value}))]);
+    }
+
+    act(actions) {
+        const keys = [{type: "key", id: "keys", actions}];
+        return this.connection.send("input.performActions", {context: this.context, actions: keys});
     }
 
     size(width, height) {
@@ -155,16 +195,21 @@ async function addressOf(browser) {
     throw new Error(`the browser doesn't answer: ${printed.slice(-600)}`);
 }
 
-/** Starts a browser, opens an empty page, and ends it after `use`, which gets a folder for downloads too. */
+/** Starts a browser, opens an empty page, and ends it after `use`, which gets a folder for downloads too; or if it hangs. */
 export async function withPage(kind, program, use) {
     const {words, connect, Page} = BROWSERS[kind], room = mkdtempSync(join(tmpdir(), "browser-"));
     const stdio = ["ignore", "ignore", "pipe", "pipe", "pipe"], env = {...process.env, HOME: room};
     const browser = spawn(program, words(room), {stdio, env, detached: true});
+    const guard = setTimeout(() => {
+        process.kill(-browser.pid, "SIGKILL");
+        throw new Error("the browser hangs");
+    }, 20 * 60 * 1000);
     try {
         const page = new Page();
         await page.open(await connect(browser), room);
         return await use(page, room);
     } finally {
+        clearTimeout(guard);
         const ended = new Promise((good) => browser.on("exit", good));
         process.kill(-browser.pid, "SIGTERM");
         await ended;

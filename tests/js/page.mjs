@@ -1,140 +1,13 @@
 // Uses the page in a browser as a person does: page.mjs PAGE chromium|firefox PROGRAM. The last line counts what passed
 // and what failed.
 import assert from "node:assert/strict";
-import {createHash} from "node:crypto";
-import {existsSync, readFileSync, writeFileSync} from "node:fs";
+import {readFileSync, rmSync, writeFileSync} from "node:fs";
 import {createServer} from "node:http";
-import {join, resolve} from "node:path";
-import {pathToFileURL} from "node:url";
+import {join} from "node:path";
+import {gzipSync} from "node:zlib";
 import {counted, countedAll, finished} from "../../lib/test/cases.mjs";
-import {until, withPage} from "./browser.mjs";
-
-const [, , file, kind, program] = process.argv;
-
-// ---- what a person does
-
-const quoted = JSON.stringify;
-const button = (text) => `[...document.querySelectorAll("button")].find((it) => it.textContent.startsWith(${quoted(text)}))`;
-const element = (id) => `document.getElementById(${quoted(id)})`;
-const text = (id) => `${element(id)}.textContent`;
-const settled = `${element("stop")}.hidden`;
-const CHOSEN = (slot) => `((it) => it.value.slice(it.selectionStart, it.selectionEnd))(${element(slot)})`;
-
-/** An expression that types a text, or chooses a claim. */
-const typing = (id, content, event = "input") => `void ((it) => {
-    it.value = ${quoted(content)};
-    it.dispatchEvent(new Event(${quoted(event)}, {bubbles: true}));
-})(${element(id)})`;
-
-/** Expressions for files, by their names: each has a text, bytes, or parts that an expression gives. */
-const files = (named) => `[${Object.entries(named).map(([name, content]) => {
-    const bytes = Array.isArray(content) ? `[new Uint8Array(${quoted(content)})]` : `[${quoted(content)}]`;
-    return `new File(${content.parts ?? bytes}, ${quoted(name)})`;
-})}]`;
-
-const pause = (person) => person.page.evaluate("new Promise((good) => setTimeout(good, 200))");
-
-class Person {
-    constructor(page, folder) {
-        this.page = page;
-        this.folder = folder;
-    }
-
-    async open(url) {
-        await this.page.load(url);
-        await until(this.page, "document.documentElement.dataset.ready");
-    }
-
-    click(name) {
-        return this.page.evaluate(`void ${button(name)}.click()`);
-    }
-
-    async example(name) {
-        await this.click(name);
-        await this.read();
-    }
-
-    /** Waits until what was given is read. */
-    async read() {
-        await until(this.page, settled);
-    }
-
-    /** Types texts, by the places where they belong; all others are empty. */
-    async write(texts, claim) {
-        if (claim) await this.choose(claim);
-        const all = claim ? {instance: "", claim: "", certificate: "", ...texts} : texts;
-        for (const [slot, content] of Object.entries(all)) await this.page.evaluate(typing(slot, content));
-        if (claim) await this.choose(claim);
-    }
-
-    /** Drops files on a text or beside all, or pastes. */
-    async give(event, filled, slot) {
-        const place = slot ? element(slot) : "document.body";
-        await this.page.evaluate(`(async () => {
-            const dataTransfer = new DataTransfer(), more = {bubbles: true, cancelable: true, dataType: "text/plain"};
-            ${filled};
-            const data = dataTransfer.getData("text/plain");  // what Firefox pastes
-            ${place}.dispatchEvent(new ${event}, {...more, dataTransfer, clipboardData: dataTransfer, data}));
-        })()`);
-        await this.read();
-    }
-
-    drop(named, slot) {
-        return this.give(`DragEvent("drop"`, `for (const it of ${files(named)}) dataTransfer.items.add(it)`, slot);
-    }
-
-    paste(expression, slot) {
-        return this.give(`ClipboardEvent("paste"`, `dataTransfer.setData("text/plain", ${expression})`, slot);
-    }
-
-    /** Opens a file by the system's dialog. */
-    async openFile(path) {
-        await this.page.choosing(path, () => this.click("Open a file"));
-        await this.read();
-    }
-
-    /** Presses a button that asks for an answer, and gives it. */
-    async ask(name) {
-        await this.page.evaluate(`void (${element("answer")}.hidden = true, ${button(name)}.click())`);
-        return this.answered();
-    }
-
-    /** Waits for an answer, and gives it. */
-    async answered() {
-        await until(this.page, `!${element("answer")}.hidden && ${settled}`);
-        return this.answer();
-    }
-
-    /** What the page shows: the answer, what stands in the texts and beside them, and whether Check is off. */
-    answer() {
-        const all = (selector) => `[...document.querySelectorAll(${quoted(selector)})].map((it) => it.textContent)`;
-        const of = (make) => `Object.fromEntries(["instance", "claim", "certificate"].map((it) => [it, ${make}]))`;
-        return this.page.evaluate(`({verdict: ${text("verdict")}, state: ${element("answer")}.className,
-            lines: ${text("line")}, line: document.querySelector("#line pre")?.textContent.trimEnd() ?? "",
-            meaning: ${text("meaning")}, marked: ${all(".quote")}, fields: ${all(".quote mark")},
-            judged: ${all("#judged li")}, titles: ${all(".made h3")}, needs: ${text("needs")},
-            isOff: ${element("check")}.disabled, values: ${of("document.getElementById(it).value")},
-            about: ${of("document.getElementById(`about-${it}`).textContent")}})`);
-    }
-
-    async clear(slot) {
-        await this.page.evaluate(`void document.querySelector('[data-slot="${slot}"] [aria-label^=Clear]').click()`);
-    }
-
-    choose(kind) {
-        return this.page.evaluate(typing("kind", kind, "change"));
-    }
-
-    async downloaded(name) {
-        await this.click(`Download ${name}`);
-        return this.saved(name);
-    }
-
-    async saved(name) {
-        for (let tries = 0; tries < 600 && !existsSync(join(this.folder, name)); tries++) await pause(this);
-        return readFileSync(join(this.folder, name), "latin1");
-    }
-}
+import {until} from "./browser.mjs";
+import {button, element, file, inBrowser, inPane, kind, pause, quoted, settled, sums, typing} from "./person.mjs";
 
 // ---- what is tested. Networks and their answers were worked out by hand.
 
@@ -146,34 +19,34 @@ const FLOW = "s 4\nf 1 2 4\n";
 const GRAPH = "p sp 2 1\na 1 2 5\n", LABELS = "p dist 2 1\nt 1 1\nd 2 5 1\n", NEAR = "p dist 2 1\nt 1 0 0\n";
 const PAIR = "p aux sp p2p 1\nq 1 2\n", PAIRS = "p aux sp p2p 2\nq 1 1\nq 1 2\n";
 const EXAMPLES = new URL("../../examples", import.meta.url).pathname;
+const exampleFiles = (names) => Object.fromEntries(names.split(" ").map((it) => [it, readFileSync(`${EXAMPLES}/${it}`, "utf8")]));
 const CUT = "p cut 5 3\nu 1\nu 2\nu 3\n";  // the only minimum cut of the example
 
-const FAULT = "Nothing was judged: the instance has a fault", UNFIT = "Nothing was judged: the texts don't fit together";
+const FAULT = "Nothing was judged: there is a fault in the instance", UNFIT = "Nothing was judged: the texts don't fit together";
 const UNSHOWN = "Not shown: this certificate doesn't show it", UNCLAIMED = "Nothing was claimed";
-const NO = "No: the answer is wrong";
+const OTHER = "It doesn't belong here: Check reads", NO = "No: the answer is wrong", ROAD = "road.gr road.query road.dist";
 
-/** Of examples: what is pressed, the heading, the line, what explains it, and a file that is handed out. */
-const OF_EXAMPLES = [
-    ["a maximum flow", "Check", "Yes: the flow of value 12 is maximum", "v max 12", /4 \+ 8 = 12/, "pipes.cut", CUT],
-    ["a flow that can grow", "Check", NO, "x solution 2 2 NotMaximum", /s 10.*s 12/, "pipes-better.solution", /^s 12\n/],
-    ["a flow of least cost", "Check", "Yes: the flow of cost 55 costs least", "v min 55", /55/],
-    ["a flow of least cost", "Solve", "Solved: the flow of cost 55 costs least", "v min 55", /55/, "freight.solution", /^s 55\n/],
-    ["no feasible flow", "Check", "Yes: no flow is feasible", "v infeasible", /its supply: 5/],
-    ["no feasible flow", "Solve", "Solved: no flow is feasible", "v infeasible", /its supply: 5/],
-    ["distances", "Check", "Yes: the distances from 2 sources", "v sp distances 2", /140 \+ 80 \+ 97 \+ 101/],
-    ["queries and labels", "Check", "Yes: the distances of 3 pairs", "v 1 5 1400\nv 1 6 unreachable\nv 6 3 1400", /1400/],
-    ["queries and labels", "Solve", "Solved: the distances of 3 pairs", "v 1 5 1400\nv 1 6 unreachable\nv 6 3 1400", /1400/],
-    ["a fault in a text", "Check", FAULT, "x instance 12 4 BadNumber", /instance:12: a 3 4 {2}500\.5/],
+/** Of files or an example: its claim, what is pressed, the heading, the line, what explains it, a file that is handed out. */
+const OF_FILES = [
+    ["pipes.max pipes.solution", "max", "Check", "Yes: the flow of value 12 is maximum", "v max 12", /4 \+ 8 = 12/, "pipes.cut", CUT],
+    ["a flow that can grow", "max", "Check", NO, "x solution 2 2 NotMaximum", /s 10.*s 12/, "instance-better.solution", /^s 12\n/],
+    ["a flow of least cost", "min", "Check", "Yes: the flow of cost 55 costs least", "v min 55", /55/],
+    ["freight.min", "min", "Solve", "Solved: the flow of cost 55 costs least", "v min 55", /55/, "freight.solution", /^s 55\n/],
+    ["no feasible flow", "infeasible", "Check", "Yes: no flow is feasible", "v infeasible", /its supply: 5/],
+    ["no feasible flow", "infeasible", "Solve", "Solved: no flow is feasible", "v infeasible", /its supply: 5/],
+    ["distances", "paths", "Check", "Yes: the distances from 2 sources", "v sp distances 2", /140 \+ 80 \+ 97 \+ 101/],
+    [ROAD, "paths", "Check", "Yes: the distances for 3 q lines", "v 1 5 1400\nv 1 6 unreachable\nv 6 3 1400", /1400/],
+    [ROAD, "paths", "Solve", "Solved: the distances for 3 q lines", "v 1 5 1400\nv 1 6 unreachable\nv 6 3 1400", /1400/],
+    ["road-faulty.gr road.distances", "paths", "Check", FAULT, "x instance 12 4 BadNumber", /instance:12: a 3 4 {2}500\.5/],
 ];
 
 /** Of typed texts: the claim, the instance, the claim's text, the certificate, and the heading. */
 const TYPED = [
     ["max", MAX.replace("4\n", "4.5\n"), FLOW, "", FAULT],
-    ["max", MAX, "s 4\nf 1 2\n", "", "Nothing was judged: the solution has a fault"],
-    ["max", MAX, FLOW, "p cut 2 1\nu 3\n", "Nothing was judged: the certificate has a fault"],
-    ["max", FLOW, MAX, "", "Nothing was judged: the instance is a solution"],
-    ["max", MAX, "p distances 2 0\n", "", "Nothing was judged: the solution is distances"],
-    ["max", GRAPH, FLOW, "", "Nothing was judged: the instance is a graph"],
+    ["max", MAX, "s 4\nf 1 2\n", "", "Nothing was judged: there is a fault in the solution"],
+    ["max", MAX, FLOW, "p cut 2 1\nu 3\n", "Nothing was judged: there is a fault in the certificate"],
+    ["max", FLOW, MAX, "", FAULT],
+    ["max", MAX, "p distances 2 0\n", "", "Nothing was judged: there is a fault in the solution"],
     ["max", MAX, "s 4\nf 2 1 4\n", "", NO],
     ["min", MIN, "s 10\nf 1 2 2\n", "p pot 2 1\ny 1 9\n", UNSHOWN],
     ["min", DEAR, `s 0\nf 1 2 ${MANY}\n`, "", "Undecided: the cost is out of range"],
@@ -186,27 +59,33 @@ const TYPED = [
     ["paths", GRAPH, "p aux sp p2p 0\n", "p dist 2 0\n", UNCLAIMED],
     ["paths", GRAPH, PAIR, NEAR, UNCLAIMED],
     ["paths", GRAPH, PAIR, LABELS, "Yes: the distance from 1 to 2"],
-    ["paths", GRAPH, PAIRS, NEAR, "Yes: the distances from 1 within 0, of 1 of 2 pairs"],
-    ["paths", GRAPH, PAIRS, "p dist 2 2\nt 1 0 0\nt 2 0 0\n", "Yes: the distances within their radius, of 1 of 2 pairs"],
-    ["paths", GRAPH, "p aux sp ss 1\ns 1\n", LABELS, "Yes: the distances from 1"],
-    ["paths", GRAPH, "p distances 2 1\nt +01 1\nd 2 5\n", "", "Yes: the distances from 1"],
+    ["paths", GRAPH, PAIRS, NEAR, "Yes: the distances for 1 of 2 q lines; the others are beyond a radius"],
+    ["paths", GRAPH, "p aux sp p2p 1\nq 2 1\n", "p dist 2 1\nt 2 0\n", "Yes: no path leads from 2 to 1"],
+    ["paths", GRAPH, "c\np aux sp ss 2\ns 1\n s +01\n", LABELS, "Yes: the distances from the sources of the queries"],
+    ["paths", GRAPH, "p aux sp p2p 2\nq 1 2\nq 1 2\n", LABELS, "Yes: the distances for 2 q lines"],
+    ["paths", GRAPH, "p distances 2 1\nt +01 1\nd 2 5\n", "", "Yes: the distances from 1 source"],
 ];
 
 const BROKEN = [31, 139, 8, 0, 1, 2], ONE = "an instance of maximum flow";
-const ZIPPED = `[await new Response(new Blob([${quoted(MAX)}]).stream().pipeThrough(new CompressionStream("gzip"))).blob()]`;
+const ZIPPED = [MAX.slice(0, 9), MAX.slice(9)].map((it) => gzipSync(it)), MEMBERS = [...Buffer.concat(ZIPPED)];
+const CHOSEN = "((it) => it.value.slice(it.selectionStart, it.selectionEnd))(document.activeElement)";
+const UNPACKED = new RegExp(`: an instance of maximum flow\\. ${sums(MEMBERS, MAX)}\\.$`);
 const HUGE = "Array(33).fill(new Blob([new Uint8Array(2 ** 26)]))";
 
 /** Files dropped on a text or beside all: what is said of one of the texts, and what Check needs then. */
 const DROPPED = {
-    "a packed claim": ["claim", {"student17.sol.zip": [80, 75, 3, 4]}, "claim", /^student17\.sol\.zip: .* zip/, "a solution"],
+    "a packed claim": ["claim", {"student17.sol.zip": [80, 75, 3, 4]}, "claim", /^student17\.sol\.zip: no kind of text /, ""],
     "a broken instance": [null, {"new.max.gz": BROKEN, "new.sol": "s 1\n"}, "instance", /^new\.max\.gz: it can't be/, ONE],
     "a broken solution": [null, {"a.sol.gz": BROKEN, "b.max": MAX}, "claim", /^a\.sol\.gz: it can't/, "a solution"],
     "an empty file": ["claim", {"empty.sol": ""}, "claim", /^empty\.sol: it is empty/, "a solution"],
     "more than 2 GB": ["instance", {"big.max": {parts: HUGE}}, "instance", /^big\.max: it has more than 2 GB/, ONE],
-    "two solutions": [null, {"a.sol": FLOW, "b.sol": "s 5\n"}, "claim", /^b\.sol: a .*\. Not a\.sol, which came with it/, ""],
+    "two solutions": [null, {"a.sol": FLOW, "b.sol": "s 5\n"}, "claim", /^b\.sol: a .*\. Another file that came with it is left out/, ""],
     "a name with lines": ["claim", {"a\nv max 12.sol": FLOW}, "claim", /^a\ufffdv max 12\.sol: a solution/, ""],
-    "an instance last": [null, {"a.sol": FLOW, "b.max": MAX}, "instance", /^b\.max: an .* flow, 2 nodes, 1 arcs/, ""],
-    "a .gz": ["instance", {"one.max.gz": {parts: ZIPPED}}, "instance", /^one\.max\.gz: an .* flow, 2 nodes, 1 arcs/, ""],
+    "an instance last": [null, {"a.sol": FLOW, "b.max": MAX}, "instance", /^b\.max: an .* flow\. \d/, ""],
+    "what gzip packed in two members": ["instance", {"one.max": MEMBERS}, "instance", UNPACKED, ""],
+    "two members that aren't whole": ["instance", {"one.max": MEMBERS.slice(0, -1)}, "instance", /one\.max: it can't be unp/, ONE],
+    "other bytes after a member": ["instance", {"one.max": [...MEMBERS, 10]}, "instance", /one\.max: it can't be unpacked/, ONE],
+    "a text named .gz": ["instance", {"one.max.gz": MAX}, "instance", new RegExp(`flow\\. ${sums(MAX)}\\.$`), ""],
 };
 
 /** A path of 40,000 nodes whose arcs weigh 7. */
@@ -221,7 +100,7 @@ const TESTS = {
         await person.drop({"path.gr": PATH_GRAPH, "path.query": PATH_PAIRS, "path.dist": PATH_LABELS});
         await person.page.evaluate(`void ${element("check")}.focus()`);
         const {verdict, line, lines} = await person.ask("Check"), rest = PATH - 1 - line.split("\n").length;
-        assert.equal(verdict, "Yes: the distances of 39,999 pairs");
+        assert.equal(verdict, "Yes: the distances for 39,999 q lines");
         assert.ok(PATH_LINES.startsWith(`${line}\n`));
         assert.ok(lines.endsWith(`and ${rest.toLocaleString("en")} more lines`), lines.slice(-90));
         assert.equal(await person.page.evaluate("document.activeElement.id"), "check");
@@ -229,37 +108,41 @@ const TESTS = {
         if (!person.downloads) return;
         const saved = await person.saved("path-answer.txt");
         assert.ok(saved.startsWith(`${verdict}\n\n${PATH_LINES}\n1 -> 2: 7\n`));
-        assert.match(saved, /\n\nclaim: .*\ninstance: path\.gr, \d+ bytes, SHA-256 .*\n[^]*\n\ndimacs .*\n$/);
+        assert.match(saved, /\n\nclaim: .*\ninstance: path\.gr, [\d,]+ bytes, SHA-256 .*\n[^]*\n\ndimacs .*\n$/);
     },
     "an answer is of the texts that were judged": async (person) => {
         const changes = {
             typing: () => person.write({claim: "s 11\n"}),
             "another claim": () => person.choose("min"),
             "another file": () => person.drop({"one.max": MAX}, "instance"),
-            "clearing a text": () => person.clear("claim"),
+            "a file of the same name and text": () => person.drop(exampleFiles("pipes.solution"), "claim"),
+            "another example": () => person.click("a flow that can grow"),
+            "removing a file": () => person.beside("claim", "Remove"),
+            "editing a file": () => person.beside("claim", "Edit"),
         };
         for (const [name, change] of Object.entries(changes)) {
-            await person.example("a maximum flow");
+            await person.write({}, "max");
+            await person.drop(exampleFiles("pipes.max pipes.solution"));
             assert.match((await person.ask("Check")).verdict, /^Yes/, name);
             await change();
             const {verdict, state} = await person.answer();
-            assert.deepEqual([verdict, state], ["Changed since: check again", "past"], name);
-            assert.doesNotMatch(await person.page.evaluate("document.title"), /Yes/, name);
+            assert.deepEqual([verdict, state], [undefined, ""], name);
         }
     },
     "an answer to what was changed meanwhile": async (person) => {
-        await person.example("a flow that can grow");
-        await person.page.evaluate(`(${button("Check")}.click(), ${typing("claim", "s 1\n")})`);
-        assert.match((await person.answered()).verdict, /^Changed since/);
-        assert.equal(await person.page.evaluate(`document.querySelectorAll("button.quote").length`), 0);
+        for (const change of [typing("claim", "s 1\n"), typing("kind", "max", "change"), `${inPane("claim", "Edit")}.click()`]) {
+            await person.write({}, "max");
+            await person.drop(exampleFiles("pipes.max pipes.solution"));
+            await person.page.evaluate(`void (${button("Check")}.click(), ${change})`);
+            const {verdict, line, judged} = await person.answered();
+            assert.deepEqual([verdict, line, judged], ["Stopped: a text or the claim was changed.", undefined, []]);
+        }
     },
     "what was judged is named": async (person) => {
-        await person.example("a maximum flow");
+        await person.drop(exampleFiles("pipes.max pipes.solution"));
         await person.write({certificate: CUT});
-        const sumOf = (bytes) => createHash("sha256").update(bytes).digest("hex");
-        const line = (title, bytes) => `${title}${bytes.length} bytes, SHA-256 ${sumOf(bytes)}`;
-        const read = (title, name) => line(`${title}: ${name}, `, readFileSync(`${EXAMPLES}/${name}`));
-        const texts = [read("instance", "pipes.max"), read("solution", "pipes.solution"), line("certificate: ", CUT)];
+        const read = (title, name) => `${title}: ${name}, ${sums(readFileSync(`${EXAMPLES}/${name}`))}`;
+        const texts = [read("instance", "pipes.max"), read("solution", "pipes.solution"), `certificate: typed, ${sums(CUT)}`];
         const wanted = ["claim: the flow is maximum", ...texts];
         assert.deepEqual((await person.ask("Check")).judged.slice(0, 4), wanted);
         assert.equal(await person.page.evaluate(`document.querySelector("#judged bdi").textContent`), "pipes.max");
@@ -268,35 +151,109 @@ const TESTS = {
         await person.write({instance: MAX, claim: "s 1\n"}, "max");
         const {verdict, state, judged} = await person.ask("Solve");
         assert.deepEqual([verdict, state], ["Solved: the flow of value 4 is maximum", "open"]);
-        assert.equal(judged[1], "not read: a solution, 4 bytes");
+        assert.equal(judged[1], "not read: typed, a solution");
         await person.write({instance: DEAR}, "min");
         assert.match((await person.ask("Solve")).verdict, /^Undecided: the solver reached its limit, or/);
+        await person.write({instance: GRAPH.replace("5\n", "-5\n"), claim: PAIR, certificate: LABELS}, "paths");
+        assert.equal((await person.ask("Solve")).verdict, "Not solved: a weight is negative");
+        await person.ask("Check");
+        const offered = `[...document.querySelectorAll("#answer button:not(.quote)")].map((it) => it.textContent)`;
+        assert.deepEqual(await person.page.evaluate(offered), ["Save this answer"]);
     },
-    "the lines that are wrong, after carriage returns": async (person) => {
+    "lines and fields that are quoted": async (person) => {
         await person.write({claim: "s 8\nf 1 2 8\nf 2 3 3\nf 2 3 6\n"}, "max");
         await person.drop({"odd.max": PARALLEL.replace("n 1", "c one\rtwo\r\nn 1").replace("5\n", "5\r\n")}, "instance");
         const {marked, line} = await person.ask("Check");
         assert.deepEqual([line, marked], ["x arc 3 AboveCap", ["instance:7: a 2 3 5 ", "solution:4: f 2 3 6"]]);
-        assert.equal(await person.page.evaluate(CHOSEN("instance")), "a 2 3 5");
-        await person.page.evaluate(`void document.querySelectorAll(".quote")[1].click()`);
-        assert.equal(await person.page.evaluate(CHOSEN("claim")), "f 2 3 6");
-        assert.equal(await person.page.evaluate("document.activeElement.id"), "claim");
-        await person.write({instance: `c first\n${MAX}`});
+        for (const [slot, line] of [["instance", "a 2 3 5"], ["claim", "f 2 3 6"]]) {
+            await person.page.evaluate(`void document.querySelectorAll("button.quote")[${Number(slot === "claim")}].click()`);
+            const selected = `[document.activeElement.id, ${slot === "claim" ? CHOSEN : "String(getSelection()).trimEnd()"}]`;
+            assert.deepEqual(await person.page.evaluate(selected), [slot, line]);
+        }
+        await person.drop({"long.max": `${"c a note\n".repeat(9000)}${PARALLEL}`}, "instance");
+        await person.ask("Check");
         assert.equal(await person.page.evaluate(`document.querySelector(".quote").tagName`), "P");
+        await person.write({instance: MAX.replace("a 1", "a \u{1f600}\u{1f600}"), claim: FLOW}, "max");
+        assert.deepEqual((await person.ask("Check")).fields, ["\u{1f600}\u{1f600}"]);
     },
     "a certificate that doesn't show a right flow": async (person) => {
         await person.write({instance: MAX, claim: FLOW, certificate: "p cut 2 2\nu 1\nu 2\n"}, "max");
-        const {verdict, line, state} = await person.ask("Check");
+        const {verdict, line, state, meaning} = await person.ask("Check");
         assert.deepEqual([verdict, line, state], [UNSHOWN, "x node 2 SinkInside", "open"]);
-        const {verdict: next, judged} = await person.ask("Check without this certificate");
-        assert.equal(next, "Yes: the flow of value 4 is maximum");
-        assert.match(judged.join("\n"), /^claim: .*\ninstance: .*\nsolution: .*\nnot read: a set .*\nby certify-max, .*$/);
+        assert.match(meaning, /which may be true all the same/);
+        await person.write({certificate: ""});
+        assert.equal((await person.ask("Check")).verdict, "Yes: the flow of value 4 is maximum");
+    },
+    "no command is advised, and a text that names one is quoted": async (person) => {
+        const rows = [
+            ["max", PARALLEL, "s 8\nf 1 2 8\nf 2 3 5\nf 2 3 3\n", ""],
+            ["min", MIN, "s 5\nf 1 2 1\n", ""],
+            ["max", MAX, FLOW, "p cut 2 2\nu 1\nu 2\n"],
+            ["paths", GRAPH, PAIR, LABELS.replace("5", "6")],
+            ["max", MAX, "dimacs solve-max\n", ""],
+        ];
+        for (const [claim, instance, given, certificate] of rows) {
+            await person.write({instance, claim: given, certificate}, claim);
+            const {meaning, marked} = await person.ask("Check");
+            const others = marked.reduce((rest, it) => rest.replace(it, ""), meaning);
+            assert.doesNotMatch(others, /dimacs [a-z]|-(max|min|paths|infeasible)|run /);
+            assert.equal(marked[0]?.includes("dimacs solve-max"), given.startsWith("dimacs"));
+        }
+    },
+    "a certificate that was there before the instance": async (person) => {
+        const said = /It was here before the instance changed\.$/;
+        const has = async () => said.test((await person.answer()).about.certificate);
+        await person.drop({"a.max": MAX, "a.sol": FLOW, "a.cut": "p cut 2 1\nu 1\n"});
+        await person.write({claim: FLOW});
+        assert.equal(await has(), false);
+        await person.drop({"a.max": MAX}, "instance");
+        assert.equal(await has(), true);
+        await person.drop({"a.cut": "p cut 2 1\nu 1\n"}, "certificate");
+        assert.equal(await has(), false);
+        await person.write({instance: MAX});
+        assert.equal(await has(), true);
+    },
+    "reading that is stopped": async (person) => {
+        const dropping = `new DragEvent("drop", {bubbles: true, dataTransfer})`;
+        const given = `dataTransfer.items.add(new File([${quoted(MAX)}], "a.max")), document.body.dispatchEvent(${dropping})`;
+        for (const stop of [`${button("Stop")}.click()`, `document.dispatchEvent(new KeyboardEvent("keydown", {key: "Escape"}))`]) {
+            await person.write({}, "max");
+            await person.page.evaluate(`((dataTransfer) => void (${given}, ${stop}))(new DataTransfer())`);
+            await person.read();
+            assert.match((await person.answer()).about.claim, /^a\.max: it was stopped\.$/);
+            await person.drop({"a.max": MAX});
+            assert.match((await person.answer()).about.instance, /^a\.max: an instance/);
+        }
+    },
+    "a file that is removed before it is read": async (person) => {
+        const path = join(person.folder, "removed.max");
+        writeFileSync(path, MAX);
+        await person.write({}, "max");
+        if (!person.downloads) return;
+        await person.page.choosing(path, () => person.click("Open a file"), () => rmSync(path));
+        await person.read();
+        assert.match((await person.answer()).about.instance, /^removed\.max: it can't be read/);
+    },
+    "texts that Check doesn't read": async (person) => {
+        const rows = [
+            [{instance: MAX, claim: FLOW, certificate: "p pot 2 1\ny 1 9\n"}, "max", "certificate", `${OTHER} a set of nodes`],
+            [{instance: MAX, claim: CUT}, "max", "claim", `${OTHER} a solution`],
+            [{instance: MIN, claim: FLOW}, "infeasible", "claim", "Check doesn't read it"],
+            [{instance: GRAPH, claim: "p distances 2 0\n", certificate: LABELS}, "paths", "certificate", "Check doesn't read it"],
+        ];
+        for (const [texts, claim, slot, wanted] of rows) {
+            await person.write(texts, claim);
+            assert.ok((await person.answer()).about[slot].endsWith(`. ${wanted}.`), wanted);
+        }
+        await person.choose("max");
+        assert.equal(await person.page.evaluate(`${element("kind")}.value`), "paths");
     },
     "a better and a feasible flow": async (person) => {
         await person.example("a flow that can grow");
         const {titles, fields} = await person.ask("Check");
         assert.deepEqual([titles, fields], [["A better solution"], ["10"]]);
         await person.click("Use it as the solution");
+        await person.read();
         assert.equal((await person.ask("Check")).line, "v max 12");
         await person.write({instance: MIN, claim: "s 10\nf 1 2 2\n"}, "infeasible");
         const feasible = await person.ask("Check");
@@ -316,7 +273,7 @@ const TESTS = {
             assert.deepEqual([needs, isOff], [wanted, wanted.includes("Check")]);
         }
     },
-    "texts that a browser puts back": async (person) => {
+    "no text that a browser puts back": async (person) => {
         await person.write({instance: MIN, claim: FLOW}, "infeasible");
         await person.page.load("about:blank");
         await person.page.evaluate("void history.back()");
@@ -325,29 +282,28 @@ const TESTS = {
         assert.equal(isOff, values.instance === "");
         assert.equal(await person.page.evaluate(`${element("kind")}.value`), isOff ? "max" : "infeasible");
     },
-    "a certificate of the last instance goes": async (person) => {
-        for (const change of [() => person.drop({"one.max": MAX}, "instance"), () => person.clear("instance")]) {
-            await person.example("queries and labels");
-            await change();
-            const {values, about} = await person.answer();
-            assert.deepEqual([values.certificate, about.certificate], ["", "The last instance's certificate was removed."]);
-        }
-        await person.drop({"one.cut": "p cut 2 1\nu 1\n", "one.max": MAX, "one.solution": FLOW});
-        assert.match((await person.ask("Check")).judged.at(-1), /^by judge-max/);
-    },
     "a long paste": async (person) => {
         await person.write({instance: "c before after\n", claim: ""}, "max");
         await person.page.evaluate(`${element("instance")}.setSelectionRange(9, 15)`);
         await person.paste(`"\\n" + ("c" + " 78 letters".repeat(7) + "\\n").repeat(2 ** 14) + ${quoted(MAX)}`, "instance");
-        const {values, about} = await person.answer();
+        const {values, typed, about} = await person.answer();
         assert.ok(values.instance.startsWith("c before \nc 78") && values.instance.length <= 2 ** 16);
-        assert.match(about.instance, /^an instance of maximum flow, 2 nodes, 1 arcs, .*\. Not shown: [\d,]+ more lines\.$/);
-        assert.ok(await person.page.evaluate(`${element("instance")}.readOnly`));
+        assert.equal(typed.instance, undefined);
+        assert.match(about.instance, /^pasted text: an instance of maximum flow\. .*\. Not shown: [\d,]+ more lines\.$/);
         await person.paste(`"lost"`, "instance");
         assert.equal((await person.ask("Solve")).line, "v max 4");
-        await person.page.evaluate(`${element("instance")}.select()`);
-        await person.paste(quoted(PARALLEL), "instance");
-        assert.equal((await person.answer()).values.instance, PARALLEL);
+    },
+    "a text that gets too long to be typed": async (person) => {
+        await person.write({instance: `c${"\u00e9".repeat(2 ** 15)}`, claim: FLOW}, "max");
+        await person.read();
+        const {typed, about} = await person.answer(), editable = `${inPane("instance", "Edit")} !== null`;
+        assert.deepEqual([typed.instance, await person.page.evaluate(editable)], [undefined, false]);
+        assert.match(about.instance, /^pasted text: .*65,537 bytes/);
+        await person.drop({"a.max": `c${"\u00e9".repeat(2 ** 14)}\n${MAX}`}, "instance");
+        await person.beside("instance", "Edit");
+        assert.equal((await person.answer()).typed.instance.length, 2 ** 14 + 2 + MAX.length);
+        await person.drop({"latin.max": [99, 233, 10, ...Buffer.from(MAX)]}, "instance");
+        assert.equal(await person.page.evaluate(editable), false);
     },
     "a run that is stopped, and a file that changes": async (person) => {
         const path = join(person.folder, "changing.max"), escape = `new KeyboardEvent("keydown", {key: "Escape"})`;
@@ -355,7 +311,7 @@ const TESTS = {
         await person.write({instance: MAX, claim: FLOW}, "max");
         if (person.downloads) await person.openFile(path);
         for (const stop of [`${button("Stop")}.click()`, `document.dispatchEvent(${escape})`]) {
-            const solve = `${element("answer")}.hidden = true, ${button("Solve")}.click()`;
+            const solve = `${element("answer")}.replaceChildren(), ${button("Solve")}.click()`;
             await person.page.evaluate(`void (${solve}, await null, ${stop})`);
             assert.equal((await person.answered()).verdict, "Stopped: undecided.");
         }
@@ -363,18 +319,18 @@ const TESTS = {
         assert.equal((await person.ask("Check")).line, "v max 4");
     },
     "keys and labels": async (person) => {
-        await person.example("a maximum flow");
+        await person.drop(exampleFiles("pipes.max pipes.solution"));
         await person.page.evaluate(`void document.dispatchEvent(new KeyboardEvent("keydown", {key: "Enter", ctrlKey: true}))`);
-        const said = `document.querySelector("[role=alert][aria-busy=false]")?.textContent`;
+        const said = `document.querySelector("[role=alert]")?.textContent`;
         await until(person.page, `/^\\s*Yes: [^]*4 [+] 8 = 12/.test(${said}) && ${settled}`);
         const isNamed = `it.getAttribute("aria-label") || it.labels?.length || (it.matches("button") && it.textContent.trim())`;
-        const all = `[...document.querySelectorAll("button, textarea, select, progress")]`;
+        const all = `[...document.querySelectorAll("button, textarea, select, pre")]`;
         const nameless = `${all}.filter((it) => !(${isNamed})).map((it) => it.outerHTML)`;
         assert.deepEqual(await person.page.evaluate(nameless), []);
     },
     "a phone's width": async (person) => {
         await person.page.size(360, 740);
-        for (const name of ["a fault in a text", "distances", "a flow that can grow"]) {
+        for (const name of ["distances", "a flow that can grow"]) {
             await person.example(name);
             await person.ask("Check");
             assert.ok((await person.page.evaluate("document.documentElement.scrollWidth")) <= 360, name);
@@ -383,8 +339,10 @@ const TESTS = {
     },
 };
 
-async function ofExample(person, [name, pressed, heading, line, meaning, made, content]) {
-    await person.example(name);
+async function ofFiles(person, [name, claim, pressed, heading, line, meaning, made, content]) {
+    await person.write({}, claim);
+    await (name.includes(".") ? person.drop(exampleFiles(name)) : person.example(name));
+    await person.choose(claim);
     const answer = await person.ask(pressed);
     assert.deepEqual([answer.verdict, answer.line], [heading, line]);
     assert.equal(answer.state, heading.startsWith("Yes") ? "yes" : heading === NO ? "no" : "open");
@@ -401,7 +359,7 @@ async function ofTyped(person, [claim, instance, given, certificate, heading]) {
 
 /** A file that fails leaves nothing in its place, and no old text is checked instead. */
 async function ofDropped(person, [slot, named, place, about, needed]) {
-    await person.example("a maximum flow");
+    await person.drop(exampleFiles("pipes.max pipes.solution"));
     await person.drop(named, slot);
     const found = await person.answer();
     assert.match(found.about[place], about);
@@ -446,22 +404,19 @@ async function requests(person) {
         }
     }
     await counted("the page from a server", async () => {
-        await person.example("a maximum flow");
-        assert.equal((await person.ask("Check")).line, "v max 12");
+        await person.example("a flow of least cost");
+        assert.equal((await person.ask("Check")).line, "v min 55");
     });
     if (kind === "firefox") return;  // it doesn't open 0.0.0.0
     await counted("a page from a server without https", async () => {
         await person.open(`${address("0.0.0.0")}/page`);
-        await person.example("a maximum flow");
+        await person.example("a flow of least cost");
         assert.match((await person.ask("Check")).judged[1], /, no SHA-256, which a browser computes for /);
     });
 }
 
-await withPage(kind, program, async (page, folder) => {
-    const person = Object.assign(new Person(page, folder), {downloads: kind === "chromium"});
-    await page.size(1100, 900);
-    await counted("the page opens from a file", () => person.open(pathToFileURL(resolve(file)).href));
-    for (const row of OF_EXAMPLES) await counted(`${row[1]} of ${row[0]}`, () => ofExample(person, row));
+await inBrowser(async (person) => {
+    for (const row of OF_FILES) await counted(`${row[2]} of ${row[0]}`, () => ofFiles(person, row));
     for (const row of TYPED) await counted(`${row[0]}: ${row[4]}`, () => ofTyped(person, row));
     for (const [name, row] of Object.entries(DROPPED)) await counted(`${name} is dropped`, () => ofDropped(person, row));
     await countedAll(TESTS, person);
