@@ -7,7 +7,8 @@ What a part tests is built by make first. The parts:
   wasm      in node the library's tests, with each call compared with the library for this system, and 2,000 random
             instances; its heap, up to the end of 32-bit addresses; the layer for JavaScript; and the package
   command   the command in node: its statuses, output, files and complaints are those of the program
-  page      the page in Chromium: answers, what explains them, downloads, refused requests
+  page      the page in Chromium: answers, what explains them, downloads, refused requests; and what hands do with it, in
+            Firefox too if it is there
   aarch64   under qemu the library's tests in C
 With --all there are more instances and all runs over the examples, npm installs the package, the program for aarch64 is
 compared as the command is, and there are two parts more:
@@ -266,11 +267,23 @@ def test_command(tests):
 
 
 def test_page(tests):
-    if tests.made("page/dimacs.html"):
+    if tests.made("page/dimacs.html", "dimacs"):
         words = ["node", f"{JS}/page.mjs", f"{tests.build}/page/dimacs.html", "chromium", "chromium"]
         tests.counted("the page in Chromium", run(*words))
+        test_hands(tests, words[2], "chromium", "chromium", [], 144)
+        if shutil.which("firefox-esr") and socket_flags() is not None:
+            test_hands(tests, words[2], "firefox", "firefox-esr", socket_flags(), 48)
+        else:
+            print("the page isn't tried in Firefox: no firefox-esr, or no node with WebSocket")
         tests.expect("the page has at most 450 KB", os.path.getsize(words[2]) <= 450_000)
         test_reasons(tests)
+
+
+def test_hands(tests, page, kind, browser, flags, count):
+    """What hands do: so many acts, in about a minute, and with --all ten times as many."""
+    count = count * 10 if tests.is_all else count
+    words = ["node", *flags, f"{JS}/hands.mjs", page, kind, browser, f"{tests.build}/dimacs", str(count)]
+    tests.counted(f"hands in {browser}", run(*words))
 
 
 def test_reasons(tests):
@@ -283,7 +296,7 @@ def test_reasons(tests):
 
 
 def test_firefox(tests):
-    flags = next((it for it in ([], ["--experimental-websocket"]) if has_socket(it)), None)
+    flags = socket_flags()
     if flags is None:
         print("left out: firefox: no node with WebSocket")
     elif tests.made("page/dimacs.html"):
@@ -291,8 +304,10 @@ def test_firefox(tests):
         tests.counted("the page in Firefox", run(*words))
 
 
-def has_socket(flags):
-    return run("node", *flags, "-e", "process.exit(globalThis.WebSocket ? 0 : 1)").returncode == 0
+def socket_flags():
+    """The flags by which node has WebSocket, or None."""
+    test = ["-e", "process.exit(globalThis.WebSocket ? 0 : 1)"]
+    return next((it for it in ([], ["--experimental-websocket"]) if run("node", *it, *test).returncode == 0), None)
 
 
 # ---- aarch64 Linux, and Windows
