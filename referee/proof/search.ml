@@ -164,25 +164,32 @@ let min (i : min_instance) (x : flow) =
       ignore (push_all g x (room g x (List.hd path)) path);
       solution_of g x (cost_of g x)
 
-(* One round of Dinic: along shortest paths from the nodes that have to send more to those that send too much. *)
+(* One round of Dinic: along shortest paths from the nodes that have to send more to those that send too much. What comes to a
+   node goes on over all arcs to the next level before the rest goes back, so a long path with many ends is walked once. *)
 let push_round g x more (via, nodes) =
-  let level = Array.make (size g) (-1) and next = Array.copy g.first in
+  let level = Array.make (size g) (-1) and next = Array.copy g.first and into = Array.make (size g) (-1) in
+  let most = Array.make (size g) Z.zero and sent = Array.make (size g) Z.zero in
   Array.iter (fun v -> level.(v) <- if via.(v) = -1 then 0 else level.(from g via.(v)) + 1) nodes;
-  (* From v, with the arcs to it, the last first. *)
-  let rec search source v path =
-    if Z.sign more.(v) < 0 then begin
-      let n = push_all g x (Z.min more.(source) (Z.neg more.(v))) path in
-      more.(source) <- Z.sub more.(source) n;
-      more.(v) <- Z.add more.(v) n;
-      if Z.sign more.(source) > 0 then search source source []
-    end
-    else if next.(v) < g.first.(v + 1) then begin
+  let left v = Z.sub most.(v) sent.(v) in
+  let rec come v r n =
+    let kept = if Z.sign more.(v) < 0 then Z.min n (Z.neg more.(v)) else Z.zero in
+    more.(v) <- Z.add more.(v) kept;
+    most.(v) <- n; sent.(v) <- kept; into.(v) <- r;
+    go_on v
+  and go_on v =
+    if Z.sign (left v) > 0 && next.(v) < g.first.(v + 1) then begin
       let r = g.out.(next.(v)) in
-      if level.(goal g r) = level.(v) + 1 && has_room g x r then search source (goal g r) (r :: path)
-      else (next.(v) <- next.(v) + 1; search source v path)
+      if level.(goal g r) = level.(v) + 1 && has_room g x r then come (goal g r) r (Z.min (left v) (room g x r))
+      else (next.(v) <- next.(v) + 1; go_on v)
     end
-    else match path with [] -> () | r :: path -> let u = from g r in next.(u) <- next.(u) + 1; search source u path in
-  Array.iter (fun v -> if via.(v) = -1 then search v v []) nodes
+    else if into.(v) <> -1 then begin
+      let u = from g into.(v) in
+      push x sent.(v) into.(v);
+      sent.(u) <- Z.add sent.(u) sent.(v);
+      if Z.sign (left v) > 0 then next.(u) <- next.(u) + 1;
+      go_on u
+    end in
+  Array.iter (fun v -> if via.(v) = -1 then (come v (-1) more.(v); more.(v) <- Z.sub more.(v) sent.(v))) nodes
 
 (* A feasible flow, or the set of nodes that can be reached from those that have to send more. *)
 let infeasible (i : min_instance) =
