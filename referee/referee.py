@@ -4,6 +4,7 @@
     referee.py max INSTANCE SOLUTION CUT            referee.py infeasible INSTANCE CUT
     referee.py min INSTANCE SOLUTION POTENTIALS     referee.py paths GRAPH QUERY LABELS
     It needs a certificate. Without one, certify-max and so on of `make referee`'s build/referee/judge make it.
+    What a refusal means: docs/JUDGING.md
 
 It is a transcript of docs/TEXTS.md and docs/JUDGING.md, in their words and order: read it beside them. It was written
 from these two pages alone, by someone who hadn't seen the code of `dimacs`. It is not proved.

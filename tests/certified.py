@@ -96,6 +96,13 @@ def claim(program, command, seed, folder):
     return texts[:2]
 
 
+def canonical(program, command, answer, made, folder):
+    """Whether the program would write this text, which was written with an answer, in the same form."""
+    kind = {"min": "pot", "paths": "dist"}.get(command, "cut") if answer[0] == 0 else "solution"
+    Texts(folder).write("written", made)
+    return run([program, "convert", kind, "written"], folder)[:2] == (0, made)
+
+
 def unproved(command, texts, answer, made):
     """What is wrong with a text that was written with an answer, if anything."""
     if answer[0] == 0:
@@ -123,7 +130,8 @@ def compared(program, judge, cases):
             found[f"{command}: {words[0] if words[:1] == ['v'] else words[-1]}"] += 1
             fault = proved[0] != second[0] and f"the program {proved[0]}, the judge in Coq {second[0]}"
             fault = fault or (proved[1] is None) != (second[1] is None) and f"they write {proved[1]!r} and {second[1]!r}"
-            fault = fault or second[1] is not None and unproved(command, texts, second[0], second[1])
+            fault = fault or second[1] is not None and unproved(command, texts, *second)
+            fault = fault or second[1] is not None and not canonical(program, command, *second, folder) and f"{second[1]!r}"
             if fault:
                 differing.append(f"certify-{command}, {seed}: {fault}, {texts}"[:2000])
     return found, differing
@@ -153,7 +161,7 @@ def wrong_searches(program, count):
             right = certified(program, command, texts, folder)[0]
             for wrong in WRONG:
                 answer, made = certified(judge, command, texts, folder, env=os.environ | {"WRONG": wrong})
-                gave_up = answer == (5, "g search\n", []) or answer[:2] == (2, "") and wrong == "an exception"
+                gave_up = answer == (5, "g search\n", [])
                 noticed[wrong] += gave_up
                 if not gave_up and answer != right or made is not None and (gave_up or unproved(command, texts, answer, made)):
                     failures.append(f"{wrong}: certify-{command}, {number}: {answer}, {made!r} and not {right}, {texts}"[:2000])
@@ -196,4 +204,39 @@ def refused_calls(judge, texts):
                     answer, made, call = refused(words, **{f"REFUSE_{kind}": str(number)})
                 if number <= words.count(" ") or (answer, made) != right[:2]:
                     failures.append(f"{words}, {kind} {number}: {answer}, and not {right}")
+    return runs, failures
+
+
+# ---- limited runs: what is printed, and the limits: kB of memory, too few and enough, or seconds
+
+GONE = 4, "", ["out of memory"]
+PATH = 100_001
+LONG_PATH = f"p min {PATH} {PATH - 1}\nn 1 {PATH - 1}\n" + "".join(f"n {v} -1\n" for v in range(2, PATH + 1))
+LONG_PATH += "".join(f"a {v} {v + 1} 0 {PATH} 1\n" for v in range(1, PATH))
+LIMITED = [
+    ("paths gr many dist", "v 1 1 0\n" * 20_000, "-v", range(12_000, 40_000, 1_000)),
+    ("certify-max max flow made", "v max 1\n", "-v", range(12_000, 40_000, 1_000)),
+    ("certify-infeasible path made", "x instance 0 0 Feasible\n", "-t", [30]),
+]
+
+
+def limited_runs(judge, texts):
+    """How many runs there were with these limits, and what was wrong with which: where memory is gone, nothing is printed
+    or written; a path with a deficit at each node isn't walked once for each."""
+    runs, failures = 0, []
+    with tempfile.TemporaryDirectory(dir=MEMORY) as folder:
+        for name, text in (texts | {"path": LONG_PATH}).items():
+            Texts(folder).write(name, text)
+        for words, printed, kind, limits in LIMITED:
+            whole = (int(printed[0] == "x"), printed, []), "made" in words
+            found = set()
+            for limit in limits:
+                answer = run(["sh", "-c", f'ulimit {kind} {limit}; exec "$@"', "sh", judge, *words.split()], folder)
+                ended = answer, Texts(folder).taken("made") is not None
+                runs += 1
+                found.add(ended == whole)
+                if ended not in (whole, (GONE, False)):
+                    failures.append(f"{words}, {kind} {limit}: {ended}"[:2000])
+            if len(found) != min(len(limits), 2):
+                failures.append(f"{words}, {kind}: never {'too little' if True in found else 'enough'}")
     return runs, failures

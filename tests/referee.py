@@ -6,12 +6,14 @@ texts spoiled_texts.py makes at random, and have to print the same, with the sam
 of a judge was met, and each fault of a text by KIND, letter, field and reason; what wasn't met has failed, but
 LineLimit, which takes 10^12 lines. A fifth as many claims are certified without a certificate, by the program and by the
 judge in Coq (certified.py); its search made wrong, this gives no wrong answer. Then all run with files and outputs that
-fail, and with wrong arguments. At last the referees alone judge the rows of tests/rows.
+fail, and with wrong arguments. At last the referees alone judge the rows of tests/rows, and dimacs-batch takes the judge
+in Coq as its program.
 
 BINARY is the built program; crates/dimacs/out/dimacs by default. Without Coq its judge is left out.
 """
 import collections
 import concurrent.futures
+import csv
 import itertools
 import os
 import shutil
@@ -22,8 +24,8 @@ import tempfile
 import certified
 import scripts
 from certified import Texts, run
-from instances import BINARY, MEMORY
-from rows import rows
+from instances import BINARY, MEMORY, refusing_library
+from rows import TEXTS, Runs, certifiers, rows
 from spoiled_texts import JUDGES, KINDS, judged_texts
 import referee  # the folder of which spoiled_texts.py adds to the path
 
@@ -165,7 +167,8 @@ def certify_all(binary, judge, count, seed):
             found += counts
             failures += differing
     failures += [f"certify-{it}: never met" for it in certified.ANSWERS if not found[it]]
-    parts = [(count, failures), certified.wrong_searches(binary, 24), certified.refused_calls(judge, FILES)]
+    parts = [(count, failures), certified.wrong_searches(binary, 24)]
+    parts += [it(judge, FILES) for it in (certified.refused_calls, certified.limited_runs)]
     return sum(tests for tests, _ in parts), [failure for _, some in parts for failure in some]
 
 
@@ -183,6 +186,7 @@ FILES = {
     "min": "p min 1 0\nn 1 1\n",
     "set": "p cut 1 1\nu 1\n",
     "faulty": "p max 2 1\nn 1\n",
+    "long": "c\n" * 1000,
 }
 
 # The arguments, after `judge-` for the program. A folder can be opened, but not read.
@@ -192,9 +196,9 @@ RUNS = [
     *["max max flow cut\udcff", "max \udcff flow cut", "--help", "max max flow --help"],
     *["max absent flow cut", "max max absent cut", "max faulty flow absent", "max absent absent absent"],
     *["max folder flow cut", "max max folder cut", "max faulty folder cut", "max max faulty folder"],
-    *["max absent1 absent2 cut", "max loop flow cut", "paths gr many dist"],
+    *["max absent1 absent2 cut", "max loop flow cut", "max flow/in flow cut", f"max {'a' * 300} flow cut", "paths gr many dist"],
     # Bytes just outside of UTF-8, and just inside.
-    *[f"max {name} flow cut" for name in ["\udce0\udc9f\udcbf", "\udced\udca0\udc80", "\udcf0\udc8f\udcbf\udcbf"]],
+    *[f"max {name} flow cut" for name in ["\udce0\udc9f\udcbf", "\udced\udca0\udc80", "\udcf0\udc8f\udcbf\udcbf", "\udcc1\udcbf"]],
     *[f"max {name} flow cut" for name in ["\udcf4\udc90\udc80\udc80", "\u0800", "\ud7ff", "\U00010000", "\U0010ffff"]],
 ]
 
@@ -203,7 +207,7 @@ CERTIFIED_RUNS = [
     *["max max flow", "max max flow made", "max max zero", "max max zero made", "max max zero zero", "infeasible min made"],
     *["paths gr near made", "max max flow made more", "max max", "infeasible", "infeasible min made more"],
     *["max max flow \udcff", "max max flow folder", "max max zero absent/made", "max faulty flow made"],
-    *["max max absent made", "max max flow /dev/full"],
+    *["max max absent made", "max max flow /dev/full", "max max flow long", "max max zero long", "infeasible min long"],
 ]
 
 # How the shell closes devices, or fills them; `|` is a pipe that nobody reads.
@@ -260,34 +264,65 @@ def judged_rows(second):
 
 # A text without a fault of each kind that comes before another.
 BEFORE = {"solution": ["p max 2 0\nn 1 s\nn 2 t\n"], "pot": ["p min 0 0\n", "s 0\n"], "cut": ["p min 0 0\n"]}
-BEFORE |= {"query": ["p sp 0 0\n"], "dist": ["p sp 0 0\n", "p aux sp ss 0\n"]}
+BEFORE |= {"query": ["p sp 0 0\n"], "distances": ["p sp 0 0\n"], "dist": ["p sp 0 0\n", "p aux sp ss 0\n"]}
+
+
+def plain_refusal(kind, text):
+    """The fault that the referee in Python finds in a text of a kind, or nothing."""
+    try:
+        referee.read(kind, text)
+    except referee.Refused as refused:
+        return str(refused)
+    return ""
 
 
 def refusal_of(second, kind, text):
     """The fault that the judge in Coq finds in a text of a kind, or nothing."""
-    before = BEFORE.get(kind, [])
-    command = "infeasible" if kind == "cut" else next(it for it in JUDGES if kind in JUDGES[it][1])
-    printed = second(command, [*before, text, *[""] * (len(JUDGES[command][1]) - len(before) - 1)])[1]
+    before, command, count = BEFORE.get(kind, []), "certify-paths", 2
+    if kind in KINDS:
+        command = "infeasible" if kind == "cut" else next(it for it in JUDGES if kind in JUDGES[it][1])
+        count = len(JUDGES[command][1])
+    printed = second(command, [*before, text, *[""] * (count - len(before) - 1)])[1]
     words = printed.split()
-    is_fault = len(words) == 5 and words[1] == KINDS[kind][0] and words[2] != "0"
+    is_fault = len(words) == 5 and words[1] == TEXTS[kind] and words[2] != "0"
     return printed.strip("\n") if is_fault and words[4] not in ("ValueDiffers", "UnknownArc", "ArcTwice") else ""
 
 
 def read_rows(second):
     """Each row of a text: its name, the refusal of a referee or nothing, and what it has to be."""
-    for kind in KINDS:
+    for kind, text_name in TEXTS.items():
         for name, text, asked, wanted in rows(kind):
-            try:
-                referee.read(kind, text)
-                refusal = ""
-            except referee.Refused as refused:
-                refusal = str(refused)
             is_refused = asked == "refused" or wanted.startswith("x ")
-            wanted = f"x {KINDS[kind][0]} {wanted}" if asked == "refused" else wanted
+            wanted = f"x {text_name} {wanted}" if asked == "refused" else wanted
             wanted = wanted.strip("\n") if is_refused else ""
-            yield f"{kind}, {name}", refusal, wanted
+            if kind in KINDS:
+                yield f"{kind}, {name}", plain_refusal(kind, text), wanted
             if second:
                 yield f"{kind}, {name}, in Coq", refusal_of(second, kind, text), wanted
+
+
+def certifier_tables(judge):
+    """How many rows of the certifiers there are, and how many fail."""
+    if not judge:
+        return 0, []
+    with tempfile.TemporaryDirectory() as built, tempfile.TemporaryDirectory(dir=MEMORY) as folder:
+        runs = Runs(judge, refusing_library(built), folder)
+        certifiers(runs)
+    return runs.counts.passed + runs.counts.failed, ["a row of a certifier, in Coq"] * runs.counts.failed
+
+
+def compare_batches(binary, judge):
+    """How many rows dimacs-batch makes of the examples, and those in which the judge in Coq as its program differs."""
+    tables = []
+    with tempfile.TemporaryDirectory() as folder:
+        for number, program in enumerate([binary, judge] if judge else []):
+            table = f"{folder}/{number}.csv"
+            words = ["tools/dimacs-batch", "--program", program, "examples", "-o", table]
+            subprocess.run(words, cwd=scripts.TOP, stderr=subprocess.DEVNULL, check=False)
+            with open(table, encoding="utf-8", newline="") as it:
+                tables.append([tuple(row[name] for name in ("command", "verdict", "class")) for row in csv.DictReader(it)])
+    differing = [f"dimacs-batch: {rows[0]}, and by judge {rows[1:]}" for rows in zip(*tables) if len(set(rows)) > 1]
+    return len(tables and tables[0]), differing
 
 
 def judge_tables(judge):
@@ -308,6 +343,7 @@ def main():
     binary = os.path.abspath(binary)
     second = second_judge()
     parts = [compare_all(binary, second, int(count), seed), compare_commands(binary, second), judge_tables(second)]
+    parts += [certifier_tables(second), compare_batches(binary, second)]
     parts += [certify_all(binary, second, int(count) // 5, seed)] if second else []
     failures = [failure for _, some in parts for failure in some]
     for failure in failures:

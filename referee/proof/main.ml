@@ -13,13 +13,11 @@ let usage =
    without a certificate, which is written:\n\
   \    judge certify-max INSTANCE SOLUTION [CUT]  judge certify-infeasible INSTANCE [CUT]\n\
   \    judge certify-min INSTANCE SOLUTION [POTENTIALS]\n\
-  \    judge certify-paths GRAPH DISTANCES [LABELS]"
+  \    judge certify-paths GRAPH DISTANCES [LABELS]\n\
+   What a refusal means: docs/JUDGING.md"
 
-(* The system's numbers of errors, as on Linux. *)
-let numbers =
-  Unix.[ EPERM, 1; ENOENT, 2; ESRCH, 3; EIO, 5; ENXIO, 6; EBADF, 9; EAGAIN, 11; ENOMEM, 12; EACCES, 13; EFAULT, 14;
-         EBUSY, 16; ENODEV, 19; ENOTDIR, 20; EISDIR, 21; EINVAL, 22; ENFILE, 23; EMFILE, 24; ENOTTY, 25; EFBIG, 27;
-         ENOSPC, 28; ESPIPE, 29; EROFS, 30; EPIPE, 32; ENAMETOOLONG, 36; ELOOP, 40; EOVERFLOW, 75; ETIMEDOUT, 110 ]
+(* The system's number of an error. *)
+external number_of : Unix.error -> int = "judge_number_of"
 
 (* f (), again if a signal interrupted it. *)
 let rec again f = try f () with Unix.Unix_error (EINTR, _, _) -> again f
@@ -27,8 +25,7 @@ let rec again f = try f () with Unix.Unix_error (EINTR, _, _) -> again f
 (* f (), or a message that names what failed. *)
 let trying name what f =
   try f () with Unix.Unix_error (error, _, _) ->
-    let number = match error with EUNKNOWNERR n -> n | _ -> Option.value (List.assoc_opt error numbers) ~default:0 in
-    raise (Device (Printf.sprintf "%s: cannot be %s: %s (os error %d)" name what (Unix.error_message error) number))
+    raise (Device (Printf.sprintf "%s: cannot be %s: %s (os error %d)" name what (Unix.error_message error) (number_of error)))
 
 let opened name = name, trying name "opened" (fun () -> again (fun () -> Unix.openfile name [ Unix.O_RDONLY ] 0))
 let bytes = Array.init 256 Z.of_int
@@ -53,9 +50,15 @@ let after_texts command names =
 
 let judge command names = Option.get (Judge.report_of (after_texts command names)), None
 
-(* The first line of the report is printed. The file gets the others, if there are any. *)
+let gave_up = [ [ Judge.Word "g"; Judge.Word "search" ] ]
+
+(* The first line of the report is printed. The file gets the others, if there are any. A search that fails is a wrong one. *)
 let certify command (names, made) =
-  let yes, lines = Option.get (Judge.report_of (Judge.text_ended command (after_texts command names))) in
+  let state = after_texts command names in
+  let yes, lines =
+    try Option.get (Judge.report_of (Judge.text_ended command state)) with
+    | (Out_of_memory | Stack_overflow) as gone -> raise gone
+    | _ -> false, gave_up in
   (yes, [ List.hd lines ]), Option.map (fun name -> name, List.tl lines) made
 
 let rec write (name, file) text from =
@@ -63,14 +66,18 @@ let rec write (name, file) text from =
     write (name, file) text
       (from + trying name "written" (fun () -> again (fun () -> Unix.single_write file text from (Bytes.length text - from))))
 
-let print device lines =
-  let text = Buffer.create 65536 in
+(* The bytes of some lines, in pieces. *)
+let written lines =
+  let text = Buffer.create 65536 and pieces = ref [] in
   let word = function Judge.Word s -> s | Judge.Decimal n -> Z.to_string n in
-  let flush () = write device (Buffer.to_bytes text) 0; Buffer.clear text in
+  let cut () = if Buffer.length text > 0 then pieces := Buffer.to_bytes text :: !pieces; Buffer.clear text in
   List.iter (fun line ->
     Buffer.add_string text (String.concat " " (List.map word line) ^ "\n");
-    if Buffer.length text > 60000 then flush ()) lines;
-  flush ()
+    if Buffer.length text > 60000 then cut ()) lines;
+  cut ();
+  List.rev !pieces
+
+let print device pieces = List.iter (fun piece -> write device piece 0) pieces
 
 let create name =
   name, trying name "created" (fun () -> again (fun () -> Unix.openfile name Unix.[ O_WRONLY; O_CREAT; O_TRUNC ] 0o666))
@@ -97,10 +104,10 @@ let rec is_utf8 s k =
 let run command names =
   match command, names with
   | _ when not (List.for_all (fun name -> is_utf8 name 0) names) -> raise Usage
-  | "max", [ _; _; _ ] -> judge Judge.command_max names
-  | "min", [ _; _; _ ] -> judge Judge.command_min names
-  | "infeasible", [ _; _ ] -> judge Judge.command_infeasible names
-  | "paths", [ _; _; _ ] -> judge Judge.command_paths names
+  | ("max" | "judge-max"), [ _; _; _ ] -> judge Judge.command_max names
+  | ("min" | "judge-min"), [ _; _; _ ] -> judge Judge.command_min names
+  | ("infeasible" | "judge-infeasible"), [ _; _ ] -> judge Judge.command_infeasible names
+  | ("paths" | "judge-paths"), [ _; _; _ ] -> judge Judge.command_paths names
   | "certify-max", _ -> certify (Judge.command_certify_max Search.max) (parted 2 names)
   | "certify-min", _ -> certify (Judge.command_certify_min Search.min) (parted 2 names)
   | "certify-infeasible", _ -> certify (Judge.command_certify_infeasible Search.infeasible) (parted 1 names)
@@ -123,12 +130,18 @@ let status =
     List.iter keep_closed Unix.[ stdin; stdout; stderr ];
     let (yes, lines), file =
       match Array.to_list Sys.argv with _ :: command :: names -> run command names | _ -> raise Usage in
+    let file = Option.map (fun (name, made) -> name, written made) file and output = written lines in
+    (* All is there before any is printed, and room for what printing takes: memory can't be gone between. *)
+    Gc.minor ();
     Option.iter (fun (name, made) -> if made <> [] then print (create name) made) file;
-    print ("standard output", Unix.stdout) lines;
-    if yes then 0 else if lines = [ [ Judge.Word "g"; Judge.Word "search" ] ] then 5 else 1
+    print ("standard output", Unix.stdout) output;
+    if yes then 0 else if lines = gave_up then 5 else 1
   with
   | Usage -> complain 2 ("usage\n" ^ usage)
   | Device message -> complain 3 ("device fault\njudge: " ^ message)
   | Out_of_memory | Stack_overflow -> complain 4 "out of memory"
 
-let () = exit status
+(* What OCaml does before it ends, which isn't needed here, takes memory. *)
+external end_with : int -> unit = "caml_sys_exit"
+
+let () = end_with status

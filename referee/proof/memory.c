@@ -3,6 +3,7 @@
 #include <unistd.h>
 #include <caml/misc.h>
 #include <caml/mlvalues.h>
+#include <caml/unixsupport.h>
 
 static void end(char *message, va_list words)
 {
@@ -16,4 +17,10 @@ value judge_ends_with_4(value unit)
 {
     caml_fatal_error_hook = end;
     return unit;
+}
+
+/* The number of an error that Unix names. */
+value judge_number_of(value error)
+{
+    return Val_int(code_of_unix_error(error));
 }
