@@ -3,7 +3,8 @@
 
 `make referee` has coqc check all files. Then second_proof.v compares the statement of each promise with the text there,
 and no promise may use an axiom. In copies of a file a proof is left out, an axiom is used, a promise is missing or has a
-weaker statement, a test is left out: each has to be found. tests/referee.py compares what the judge answers.
+weaker statement, a test is left out: each has to be found. The search may do nothing but search. tests/referee.py compares
+what the judge answers.
 """
 import os
 import re
@@ -91,6 +92,13 @@ def unstated():
                 yield f"{name} isn't stated in second_proof.v"
 
 
+def impure():
+    """Yields each word of search.ml by which a search that is linked in could print, end, or change what it was given."""
+    code = re.sub(r"\(\*.*?\*\)", "", scripts.read("referee/proof/search.ml"), flags=re.DOTALL)
+    for word in re.findall(r"\w*print\w*|prerr\w*|std\w+|open_\w+|\w*exit|Unix|Obj|Sys|Bytes|unsafe\w*|external", code):
+        yield f"search.ml has {word}"
+
+
 def link_built(folder, but=None):
     """Puts what coqc made of the files into a folder, but of this one."""
     for name in os.listdir(BUILT):
@@ -125,13 +133,13 @@ def main():
         scripts.finish(0, 1)
     with tempfile.TemporaryDirectory() as folder:
         link_built(folder)
-        failures = [*wrong_in(folder), *unstated()]
+        failures = [*wrong_in(folder), *unstated(), *impure()]
     cases = [(file, name, *case) for file, cases in SPOILED.items() for name, case in cases.items()]
     for file, name, *case in cases:
         failures += [f"{file}.v, {name}: {it}" for it in unfound(file, *case)]
     for it in failures:
         print(f"FAILED: {it}")
-    tests = len(stated()[1]) + len(cases) + 1
+    tests = len(stated()[1]) + len(cases) + 2
     scripts.finish(max(tests - len(failures), 0), len(failures))
 
 
