@@ -51,8 +51,8 @@ SPOILED = {
     | {"a certificate isn't tested": (UNPROVED, [("(quick_infeasible i) (true", "(fun _ => None) (true")])},
     "Complete": spoiled(
         "every_infeasible_is_shown a i",
-        "intros I F. destruct (min_keeps_more",
-        [("true_max i s ->\n  exists c", "true_max i s -> a = b ->\n  exists c"), ("K [M V]. destruct (max", "K [M V] _. destruct (max")],
+        "intros I F. destruct (infeasible_is_decided",
+        [("true_max i s ->\n  exists c", "true_max i s -> a = b ->\n  exists c"), ("K T. destruct (max", "K T _. destruct (max")],
     ),
 }
 
