@@ -15,7 +15,7 @@ if [ "$lacking" ]; then
 fi
 
 here=$(cd "$(dirname "$0")" && pwd)
-proofs="Flows Tests Tables Texts Soundness Reading Canonical Quick Judge Certify Certificates Complete"
+proofs="Flows Tests Tables Texts Soundness Reading Canonical Quick Judge Certify Certificates Complete Kernel"
 mkdir -p "$1"
 cd "$1"
 exec 9>lock

@@ -52,14 +52,22 @@ let judge command names = Option.get (Judge.report_of (after_texts command names
 
 let gave_up = [ [ Judge.Word "g"; Judge.Word "search" ] ]
 
-(* The first line of the report is printed. The file gets the others, if there are any. A search that fails is a wrong one. *)
-let certify command (names, made) =
+(* What the search has found, which isn't always a part of the report. *)
+let found = ref []
+let noted lines_of finding = found := lines_of finding; finding
+let flows = noted (function Judge.Shown lines | Judge.Better lines -> lines)
+let labels = noted Fun.id
+
+(* The first line of the report is printed. The file gets the others, if there are any, or by `found-` what was found, for
+   kernel.py. A search that fails is a wrong one. *)
+let certify word command (names, made) =
   let state = after_texts command names in
   let yes, lines =
     try Option.get (Judge.report_of (Judge.text_ended command state)) with
     | (Out_of_memory | Stack_overflow) as gone -> raise gone
     | _ -> false, gave_up in
-  (yes, [ List.hd lines ]), Option.map (fun name -> name, List.tl lines) made
+  let file = if word.[0] = 'f' then List.rev_map (fun line -> [ Judge.Word line ]) (List.rev !found) else List.tl lines in
+  (yes, [ List.hd lines ]), Option.map (fun name -> name, file) made
 
 let rec write (name, file) text from =
   if from < Bytes.length text then
@@ -108,10 +116,14 @@ let run command names =
   | ("min" | "judge-min"), [ _; _; _ ] -> judge Judge.command_min names
   | ("infeasible" | "judge-infeasible"), [ _; _ ] -> judge Judge.command_infeasible names
   | ("paths" | "judge-paths"), [ _; _; _ ] -> judge Judge.command_paths names
-  | "certify-max", _ -> certify (Judge.command_certify_max Search.max) (parted 2 names)
-  | "certify-min", _ -> certify (Judge.command_certify_min Search.min) (parted 2 names)
-  | "certify-infeasible", _ -> certify (Judge.command_certify_infeasible Search.infeasible) (parted 1 names)
-  | "certify-paths", _ -> certify (Judge.command_certify_paths Search.paths) (parted 2 names)
+  | ("certify-max" | "found-max"), _ ->
+      certify command (Judge.command_certify_max (fun i x -> flows (Search.max i x))) (parted 2 names)
+  | ("certify-min" | "found-min"), _ ->
+      certify command (Judge.command_certify_min (fun i x -> flows (Search.min i x))) (parted 2 names)
+  | ("certify-infeasible" | "found-infeasible"), _ ->
+      certify command (Judge.command_certify_infeasible (fun i -> flows (Search.infeasible i))) (parted 1 names)
+  | ("certify-paths" | "found-paths"), _ ->
+      certify command (Judge.command_certify_paths (fun g l -> labels (Search.paths g l))) (parted 2 names)
   | _ -> raise Usage
 
 (* A file that is opened doesn't take the place of a standard device that is closed. *)

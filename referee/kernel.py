@@ -1,0 +1,233 @@
+#!/usr/bin/env python3
+"""Has Coq's kernel check what the judge answers: kernel.py COMMAND FILES.. [--keep FILE.v]
+
+COMMAND and FILES are those of build/referee/judge, which is run first, and needn't be right. Then a file of Coq is written:
+the bytes of the texts, the theorem that this is the answer to them, and what it means. Coq checks it; --keep keeps it.
+So neither extraction nor OCaml, Zarith or main.ml has to be right: only Coq, the definitions, and that these are the bytes.
+
+Prints and writes what the judge does, and ends with its status; with 5 also if the answer isn't accepted, and says so.
+"""
+import hashlib
+import os
+import re
+import shutil
+import subprocess
+import sys
+import tempfile
+import urllib.parse
+
+BUILT = os.path.join(os.path.dirname(os.path.abspath(__file__)), "../build/referee")
+
+# What a search is given, by its command; the texts that each command reads.
+SEARCHES = {"max": "(_ : max_instance) (_ : flow)", "min": "(_ : min_instance) (_ : flow)"}
+SEARCHES |= {"infeasible": "(_ : min_instance)", "paths": "(_ : network) (_ : labelling)"}
+COUNTS = {"max": 3, "min": 3, "infeasible": 2, "paths": 3} | {f"certify-{it}": 2 for it in SEARCHES} | {"certify-infeasible": 1}
+
+# What a yes means, and how that follows from the judge's promise. Of the judge's paths, and of a no, the promise says it.
+FLOW = "exists i s, read {0}_texts first = inr i /\\ read solution_texts second = inr s\n  /\\ {1} i (claimed_flow i s) /\\ {2} = claimed s"
+MEANT = {
+    "max": FLOW.format("max", "maximum", "value i (claimed_flow i s)"),
+    "min": FLOW.format("min", "least", "total_cost (claimed_flow i s)"),
+    "infeasible": "exists i, read min_texts first = inr i /\\ no_flow i",
+    "certify-paths": "exists g l, read graph_texts first = inr g /\\ read distances_texts second = inr l\n"
+    "  /\\ forall c, In c (blocks l) -> are_distances g (start c) (label_in c)",
+}
+PROVED = {"max": "(i & s & ? & R & S & ? & M & V & ?). now exists i, s"}
+PROVED |= {"min": PROVED["max"], "infeasible": "(i & ? & R & ? & N & ?). now exists i"}
+
+# The first line of a file that is kept: no other file is replaced.
+MARK = "(* kernel.py of dimacs has written this file, and Coq has accepted it. *)\n"
+HEAD = """(* It is about these files, by their SHA-256:
+{files}
+   To check it, with the sources of dimacs: make referee; coqc -R build/referee Dimacs {name}
+   Coq prints what the theorem `meaning` below says, and on which axioms it rests: none, but for primitive integers
+   where a text is long or has odd bytes. To believe it read referee/proof/Flows.v, what it says of an instance, and
+   referee/proof/Texts.v, which instance bytes spell. *)
+
+From Coq Require Import Uint63.
+From Dimacs Require Import Kernel.
+Open Scope Z_scope.
+Open Scope string_scope.
+
+"""
+
+# A text of more bytes, or of others than a page shows, is packed: seven bytes in a number. Coq reads that eight times as fast.
+PLAIN, PIECE, LINES = 20_000, 3_500, 200
+is_plain = re.compile(rb"[\t\n -~]*").fullmatch
+
+# What a report is made of: only that goes into the file. And what may be assumed.
+is_report = re.compile(rb"(?:(?:[A-Za-z]+|-?[0-9]+)(?: (?:[A-Za-z]+|-?[0-9]+))*\n)*").fullmatch
+NOTHING_ASSUMED = "Closed under the global context\n"
+INTEGERS = {"Axioms:", "lsr : int -> int -> int", "land : int -> int -> int", "int : Set", "PrimInt63.eqb : int -> int -> bool"}
+
+
+class Failed(Exception):
+    """A status, and the message that goes with it."""
+
+
+def pieces(name, kind, items, join):
+    """Definitions of the pieces of a list, and of the whole."""
+    for number, it in enumerate(items):
+        yield f"Definition {name}{number} : {kind} := {it}.\n"
+    yield f"Definition {name} := {join} [{'; '.join(f'{name}{k}' for k in range(len(items)))}].\n\n"
+
+
+def text_of(name, data):
+    """Definitions of a text's bytes."""
+    parts = [data[k : k + PIECE] for k in range(0, len(data), PIECE)]
+    if len(data) <= PLAIN and is_plain(data):
+        return pieces(name, "text", ['"' + it.decode().replace('"', '""') + '"' for it in parts], "plain")
+    packed = [[hex(int.from_bytes(it[k : k + 7] + b"\1", "little")) for k in range(0, len(it), 7)] for it in parts]
+    return pieces(name, "list int", [f"[{'; '.join(it)}]%uint63" for it in packed], "packed")
+
+
+def printed(line):
+    """A line of a report."""
+    return "[" + "; ".join(f'Word "{it}"' if it.isalpha() else f"Decimal ({it})" for it in line.split()) + "]"
+
+
+def claim(command, texts, status, output, made, found):
+    """The theorem, without its head: found is what the search found, and made what the judge wrote of it."""
+    names, certified = ["first", "second", "third"][: len(texts)], command.startswith("certify-")
+    for name, text in zip(names, texts):
+        yield from text_of(name, text)
+    lines = [printed(it) for it in output.decode().splitlines()]
+    items = [f"[{'; '.join(lines[k : k + LINES])}]" for k in range(0, len(lines), LINES)]
+    yield from pieces("said", "list (list printed)", items, "@concat (list printed)")
+    function, said, given = "command_" + command.replace("-", "_"), "said", "_ " * (len(texts) + 1)
+    if certified:
+        yield from text_of("found", found)
+        kind = command[len("certify-") :]
+        finding = "lines_of found" if kind == "paths" else f"{'Better' if status else 'Shown'} (lines_of found)"
+        yield f"Definition search {SEARCHES[kind]} := {finding}.\n\n"
+        function, given, names = f"({function} search)", f"search {given}", [*names, "[]"]
+        said = "(said ++ map (fun line => [Word line]) (lines_of found))%list" if made else said
+    answer = f"Some ({'false' if status else 'true'}, {said})"
+    yield f"Theorem answer : report_of (run_on {function} [{'; '.join(names)}])\n  = {answer}.\n"
+    yield f"Proof. vm_cast_no_check (eq_refl ({answer})). Qed.\n\n"
+    promise = f"{'no' if status and not certified else 'yes' if certified and not status else 'promise'}_{command.replace('-', '_')} {given}answer"
+    meant = MEANT.get(command, MEANT.get(command[len("certify-") :] if certified else ""))
+    if status or not meant:
+        yield f"Definition meaning := {promise}.\n"
+    else:
+        proof = f"exact ({promise})" if certified else f"destruct ({promise}) as {PROVED[command]}"
+        yield f"Theorem meaning : {meant}.\nProof. {proof}. Qed.\n"
+    yield "Check meaning.\n"
+
+
+def content(name):
+    try:
+        with open(name, "rb") as it:
+            return it.read()
+    except OSError as error:
+        raise Failed(3, f"{name}: cannot be read: {error.strerror} (os error {error.errno})") from error
+
+
+def run_judge(word, folder, count, made):
+    """The judge's status, what it printed, and what it wrote into a file, of the texts in a folder."""
+    words = [f"{BUILT}/judge", word, *"123"[:count], *made]
+    ran = subprocess.run(words, cwd=folder, stdin=subprocess.DEVNULL, capture_output=True, check=False)
+    wrote = b"".join(content(f"{folder}/{it}") for it in made if os.path.exists(f"{folder}/{it}"))
+    if ran.returncode in (3, 4):
+        raise Failed(ran.returncode, ran.stderr.decode(errors="replace").strip())
+    if not is_report(ran.stdout) or wrote and not wrote.endswith(b"\n"):
+        raise Failed(5, f"the judge prints or writes what no report has: {ran.stdout[:200]!a} {wrote[-200:]!a}")
+    if ran.returncode not in (0, 1):
+        raise Failed(5, f"the judge ends with {ran.returncode}: {ran.stdout[:200]!a}")
+    return ran.returncode, ran.stdout, wrote
+
+
+def accepted(folder, size):
+    """What Coq says of Claim.v in a folder. From a second on, it is said how long this takes."""
+    words = ["coqc", "-q", "-R", BUILT, "Dimacs", "Claim.v"]
+    with subprocess.Popen(words, cwd=folder, stdout=subprocess.PIPE, stderr=subprocess.STDOUT) as ran:
+        seconds, said = 1, None
+        while said is None:
+            try:
+                said, _ = ran.communicate(timeout=10 if seconds > 1 else 1)
+            except subprocess.TimeoutExpired:
+                print(f"kernel: Coq checks {size:,} bytes: {seconds} s", file=sys.stderr, flush=True)
+                seconds += 10
+    said = said.decode(errors="replace")
+    if ran.returncode < 0 or re.search("Out of memory|Stack overflow", said):
+        raise Failed(4, f"Coq ended without an answer: {said[-500:]}")
+    if ran.returncode:
+        raise Failed(5, f"Coq doesn't accept the answer: {said[-1000:]}")
+    return said
+
+
+def assumes_nothing_else(said):
+    """Whether Coq printed at its end that a theorem rests on no axiom but primitive integers."""
+    _, begun, last = said.rpartition("Axioms:\n")
+    return set(last.splitlines()) <= INTEGERS if begun else said.endswith(NOTHING_ASSUMED)
+
+
+def parted(words):
+    """The command, the files that it reads, and those that get the certificate and the theorem, or None."""
+    words, keep = list(words), None
+    if "--keep" in words[:-1]:
+        at = words.index("--keep")
+        keep, words[at : at + 2] = words[at + 1], []
+    count = COUNTS.get(words[0] if words else "", -1)
+    made = words[count + 1 :]
+    if "--keep" in words or not 0 <= len(made) <= words[0].startswith("certify-") or len(words) <= count or count < 0:
+        raise Failed(2, f"usage\n{__doc__.splitlines()[0]}\n{__doc__.split(chr(10) * 2)[1]}")
+    if keep and not re.fullmatch(r"[A-Za-z]\w*\.v", os.path.basename(keep), re.ASCII):
+        raise Failed(2, f"{keep}: coqc takes names of letters and digits that end with .v")
+    is_there = keep and os.path.lexists(keep)
+    if is_there and not (os.path.isfile(keep) and content(keep).startswith(MARK.encode())):
+        raise Failed(2, f"{keep}: this file is there, and isn't one that --keep wrote")
+    if keep and os.path.realpath(keep) in map(os.path.realpath, words[1:]):
+        raise Failed(2, f"{keep}: named twice")
+    return words[0], words[1 : count + 1], made[0] if made else None, keep
+
+
+def checked(command, names, certificate, keep, folder):
+    """Has an answer checked, and writes what is asked for; the status, and what the judge printed."""
+    lacking = "coqc: on Debian 12, apt-get install coq" if not shutil.which("coqc") else ""
+    if lacking or not os.path.exists(f"{BUILT}/Kernel.vo") or not os.path.exists(f"{BUILT}/judge"):
+        raise Failed(3, f"there is no {lacking or 'build/referee/judge: make referee builds it'}")
+    texts = [content(it) for it in names]
+    for number, text in enumerate(texts, 1):
+        with open(f"{folder}/{number}", "wb") as it:
+            it.write(text)
+    certified = command.startswith("certify-")
+    status, output, made = run_judge(command, folder, len(texts), ["made"] if certified else [])
+    found = made or certified and run_judge(command.replace("certify", "found"), folder, len(texts), ["found"])[2] or b""
+    files = [f"     {hashlib.sha256(text).hexdigest()}  {urllib.parse.quote(os.fsencode(it))}" for it, text in zip(names, texts)]
+    with open(f"{folder}/Claim.v", "w", encoding="ascii", newline="") as it:
+        it.write(MARK + HEAD.format(files="\n".join(files), name=os.path.basename(keep or "Claim.v")))
+        it.writelines(claim(command, texts, status, output, made, found))
+        it.write("Print Assumptions meaning.\n")
+    try:
+        said = accepted(folder, sum(map(len, texts)) + len(found))
+        if not assumes_nothing_else(said):
+            raise Failed(5, f"the theorem rests on axioms: {said[-500:]}")
+    except Failed as failed:
+        status_, message = failed.args
+        raise Failed(status_, f"{message.strip()}\nkernel: the judge ended with {status}, and printed {output[:200]!a}") from failed
+    for name, source in ((certificate if made else None, "made"), (keep, "Claim.v")):
+        if name:
+            try:
+                shutil.copyfile(f"{folder}/{source}", name)
+            except OSError as error:
+                raise Failed(3, f"{name}: cannot be written: {error.strerror} (os error {error.errno})") from error
+    return status, output.decode()
+
+
+def main():
+    try:
+        with tempfile.TemporaryDirectory() as folder:
+            status, output = checked(*parted(sys.argv[1:]), folder)
+        sys.stdout.write(output)
+        sys.stdout.flush()
+    except Failed as failed:
+        status, message = failed.args
+        print(f"kernel: {message}", file=sys.stderr)
+    except KeyboardInterrupt:
+        status = 130
+    sys.exit(status)
+
+
+if __name__ == "__main__":
+    main()
