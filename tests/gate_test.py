@@ -67,7 +67,7 @@ def counting():
 
 def over_one_crate(place):
     sys.path.insert(0, shutil.copytree(f"{scripts.TOP}/tools", f"{place}/tools"))
-    import edits, kit, sources, texts, try_bodies  # noqa: E401
+    import edits, functions, kit, sources, texts, try_bodies  # noqa: E401
 
     bodies = "".join(f"## {name}\n{lines}\n" for name, lines, _ in rows(BODIES))
     files = {"crates.txt": "dimacs:\n", "crates/dimacs/src/lib.rt": CODE, "crates/dimacs/specs/One.antt": "pub mod One\n"}
@@ -81,6 +81,8 @@ def over_one_crate(place):
     edit = try_bodies.Edit(edits.edits_of("dimacs")[0])
     try_bodies.judge_errors(edit, [": `goal-3` is not in scope", ": the record has no field `goal-4`"])
     yield "a proof that fails by a name alone", edit.result == try_bodies.BAD
+    for block, owner in (("impl Table<i128> {", "Table+i128"), ("impl<T> Number<T> for i32 {", "I32Number")):
+        yield f"the kit's name of {block}", functions.owner_of(block) == owner
 
     built, made_of = [f"{place}/HANDLES"], sources.summed(sources.PROVED)
     sources.note(f"{place}/sources", made_of, built)

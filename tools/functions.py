@@ -47,5 +47,5 @@ def owner_of(block):
         return trait[1]
     parameters, rest = parted(block)
     head, is_of_trait, kind = rest.partition(" for ")
-    names = [[it[0].upper() + it[1:] for it in re.findall(r"\w+", text) if it not in parameters] for text in (kind, head)]
-    return "".join(names[0] + names[1]) if is_of_trait else "+".join(names[1])
+    own, of = ([it for it in re.findall(r"\w+", text) if it not in parameters] for text in (head, kind))
+    return "".join(it[0].upper() + it[1:] for it in of + own) if is_of_trait else "+".join(own)
