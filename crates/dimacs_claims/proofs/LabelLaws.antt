@@ -221,9 +221,12 @@ labels_round_trip labels are few =
     }
 
 -- a text has at least as many lines as the labels that it spells, in either kind
+pub fit_spelled : (kind : TextKind) (gives : List LineRecord → LabelsValue → Type 0) → ((rs : List LineRecord) (labels : LabelsValue) → gives rs labels → length (records_of rs) ≡ length (label_records labels))
+    → (all : List (List ℕ)) (labels : LabelsValue) → SpellsValue kind gives all labels → FitText labels
+fit_spelled kind gives as_many all labels spells =
+    omega (arith, one_a_line kind all spells.by_line 1 spells.spelled.spell, spells.spelled.few, as_many (numbered 1 spells.by_line) labels spells.given, length-map (numbered 1 spells.by_line) (λ (r : LineRecord). r.spells))
+
 pub fit_read : (kind : TextKind) (gives : List LineRecord → LabelsValue → Type 0) → ((rs : List LineRecord) (labels : LabelsValue) → gives rs labels → length (records_of rs) ≡ length (label_records labels))
     → (all : List (List ℕ)) (noted : Result LabelsValue ReadError) → Reads (SpellsValue kind gives all) (Fault kind all) noted → IfOk noted FitText
-fit_read kind gives as_many all (Ok labels) h =
-    let spells = h.0 in
-    omega (arith, one_a_line kind all spells.by_line 1 spells.spelled.spell, spells.spelled.few, as_many (numbered 1 spells.by_line) labels spells.given, length-map (numbered 1 spells.by_line) (λ (r : LineRecord). r.spells))
+fit_read kind gives as_many all (Ok labels) h = fit_spelled kind gives as_many all labels h.0
 fit_read kind gives as_many all (Err error) h = tt

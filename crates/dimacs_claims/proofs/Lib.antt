@@ -2,7 +2,7 @@ pub mod BuilderLemmas
 pub mod BlockLemmas
 pub mod ByIdLemmas
 pub mod CutLemmas
-mod DistanceLaws
+pub mod DistanceLaws
 mod DistanceStates
 pub mod LabelLaws
 pub mod LabelRecords

@@ -218,7 +218,7 @@ lawful_of_records rs s are few h =
     record { value = spelled_value s.value parted.0; entries = spelled_entries s.entries entries; few = omega (arith, count, few) }
 
 -- the solution of spelled lines is lawful
-lawful_given : (all : List (List ℕ)) (by_line : List (Option Record)) (s : SolutionValue) → AreSpelled kinds.Solution all by_line → GivesSolution (numbered 1 by_line) s → IsLawful s
+pub lawful_given : (all : List (List ℕ)) (by_line : List (Option Record)) (s : SolutionValue) → AreSpelled kinds.Solution all by_line → GivesSolution (numbered 1 by_line) s → IsLawful s
 lawful_given all by_line s spelled h =
     lawful_of_records (numbered 1 by_line) s (all_of_kind all by_line 1 spelled.spell) (omega (arith, one_a_line all by_line 1 spelled.spell, spelled.few)) h
 

@@ -1,5 +1,5 @@
 -- The labels of certified distances have as few lines as the distances, so that they fit a text.
-use Rattle.std.proofs.Common.{◌≡◌, ◌≢◌, inl, inr, eqb, ℕ, suc, ◌<◌, ◌≤◌, ◌∷◌, [], List, Bool, true, false, Option, Some, None, Ok, length, take, drop, map, get_or, refl, ap, ap₂, sym, ◌∙◌, subst, arith}
+use Rattle.std.proofs.Common.{◌≡◌, ◌≢◌, inl, inr, eqb, ℕ, suc, ◌<◌, ◌≤◌, ◌∷◌, [], List, Bool, true, false, Option, Some, None, length, take, drop, map, get_or, refl, ap, ap₂, sym, ◌∙◌, subst, arith}
 use Rattle.std.proofs.{Math.Seq.{split_at}, lemmas.Bool.{cases_Bool, eqb-true, ne_eqb}, lemmas.Cmp.{nat_eq_equiv}}
 use Rattle.std.proofs.lemmas.List.{get_or-map, get_or_default, length-append, length-map}
 use Rattle.std.proofs.{lemmas.Map.Keys.{IsDistinct-from_apart}, lemmas.Map.Made.{is_some-lookup}}
@@ -8,11 +8,11 @@ use Rattle.std.specs.{Prelude.{is_some, ◌==◌, ◌||◌}, List.{IsDistinct, f
 use Rattle.std.specs.Option.{IsSome}
 use Rattle.dimacs_lines.specs.{Limits.{IsNode}, Lines.{lines}}
 use Rattle.dimacs_network.specs.Arcs.{NetworkValue}
-use Rattle.dimacs_records.specs.{declared.kinds.TextKind.TheVariants.{Distances}, Faults.{Fault}, Texts.{Reads}}
+use Rattle.dimacs_records.specs.declared.kinds.TextKind.TheVariants.{Distances}
 use Rattle.dimacs_claims.specs.{declared.block.Label.{Label}, DistanceTexts.{GivesDistances, SpellsDistances, bare}}
 use Rattle.dimacs_claims.specs.Labels.{AreLabels, BlockValue, IsBlock, LabelsValue, label, label_in, no_label}
 use Rattle.dimacs_claims.specs.{LabelTexts.{FitText, block_lines, label_line, label_records}, inside.ById.{id_at}}
-use Rattle.dimacs_claims.proofs.{BlockLemmas.{is_some-label, label_id}, ByIdLemmas.{fresh_apart}, LabelLaws.{fit_read}}
+use Rattle.dimacs_claims.proofs.{BlockLemmas.{is_some-label, label_id}, ByIdLemmas.{fresh_apart}, LabelLaws.{fit_spelled}}
 use Rattle.dimacs_judging.specs.{inside.Labels.{block_at}, QueryTests.{HasBlock}}
 use Rattle.dimacs_judging.proofs.BlockNumbers.{block_found}
 use Rattle.dimacs_decide.specs.CertifiedPaths.{AreLabelsOfAll, block_source}
@@ -105,6 +105,6 @@ module _ (g : NetworkValue) (d labels : LabelsValue) (are_distances : AreLabels 
   pub labels_fit : FitText d → FitText labels
   labels_fit fits = omega (arith, fits, fewer_lines labels.blocks d.blocks long fewer_at)
 
--- distances that were read fit a text
-pub distances_fit : (text : List ℕ) (d : LabelsValue) → Reads (SpellsDistances text) (Fault Distances (lines text)) (Ok d) → FitText d
-distances_fit text d reads = fit_read Distances GivesDistances (λ rs other given. ap length given.0 ∙ length-map (label_records other) bare) (lines text) (Ok d) reads
+-- distances that are spelled fit a text
+pub distances_fit : (text : List ℕ) (d : LabelsValue) → SpellsDistances text d → FitText d
+distances_fit text d spells = fit_spelled Distances GivesDistances (λ rs other given. ap length given.0 ∙ length-map (label_records other) bare) (lines text) d spells

@@ -7,6 +7,8 @@ pub mod ReportLemmas
 pub mod SolvingLemmas
 pub mod CertifyingLemmas
 pub mod TextLemmas
+mod TrueClaims
+mod FixedPoint
 pub mod MakingLemmas
 pub mod SpreadLemmas
 mod LabelCounts

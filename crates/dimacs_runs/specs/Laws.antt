@@ -1,14 +1,20 @@
--- The theorems: what runs write with `Done`, the judge's run answers yes.
-use Rattle.std.specs.{Prelude.{ℕ, ◌≡◌, ◌≤◌, ◌⊎◌, List, [], ◌∷◌}, List.{All, Contains}}
+-- The theorems: what runs write with `Done`, the judge's run answers yes; and a claim is certified exactly if it
+-- is true; and a canonical text is converted to itself.
+use Rattle.std.specs.{Prelude.{ℕ, ℤ, ◌≡◌, ◌≤◌, ◌⊎◌, ◌↔◌, List, [], ◌∷◌}, List.{All, Contains}}
 use Rattle.dimacs_claims.specs.{DistanceTexts.{SpellsDistances}, Labels.{BlockValue, LabelsValue}}
-use Rattle.dimacs_claims.specs.LabelTexts.{FitText, canonical_labels}
+use Rattle.dimacs_claims.specs.{LabelTexts.{FitText, canonical_labels}, SolutionTexts.{SolutionValue, SpellsSolution}}
 use Rattle.dimacs_network.specs.Arcs.{NetworkValue}
 use Rattle.dimacs_instance.specs.{Graph.{SpellsGraph}, QueryTexts.{QueriesValue, SpellsQueries}}
+use Rattle.dimacs_instance.specs.{MaxFlows.{MaxValue}, MaxTexts.{SpellsMax}, MinFlows.{MinValue}, MinTexts.{SpellsMin}}
+use Rattle.dimacs_judging.specs.{MaxJudge.{IsMaxClaim}, MinJudge.{IsMinClaim}, Optimum.{Least, Maximum, NoFlow}}
 use Rattle.dimacs_judging.specs.QueryTests.{nodes_asked, sources_asked}
-use Rattle.dimacs_decide.specs.CertifiedPaths.{sources_of}
+use Rattle.dimacs_decide.specs.CertifiedPaths.{AreAllDistances, sources_of}
+use Rattle.dimacs_records.specs.declared.kinds.TextKind.{TextKind}
 use Rattle.dimacs_runs.specs.{declared.jobs.JudgeKind.{JudgeKind}, declared.jobs.SolveJob.{SolveJob}, Solved.{Solved}}
+use Rattle.dimacs_runs.specs.{declared.text.TextForm.TheVariants.{Canonical}, Runs.{Prints}}
 use Rattle.dimacs_runs.specs.{declared.jobs.JudgeKind.TheVariants.{Max, Min, Infeasible, Paths}, Certified.{Certified}}
-use Rattle.dimacs_runs.specs.{declared.status.Status.TheVariants.{Done}, Judged.{Judged, paths_lines}}
+use Rattle.dimacs_runs.specs.{declared.status.Status.{Status}, Judged.{Judged, paths_lines}}
+use Rattle.dimacs_runs.specs.declared.status.Status.TheVariants.{Done}
 use Rattle.dimacs_runs.specs.declared.jobs.JudgeKind.TheVariants as judges
 use Rattle.dimacs_runs.specs.declared.jobs.SolveJob.TheVariants as solves
 
@@ -32,11 +38,29 @@ CertifiedYes judges.Min instance claim certificate report = Judged Min instance 
 CertifiedYes judges.Infeasible instance claim certificate report = Judged Infeasible instance claim certificate Done report
 CertifiedYes judges.Paths graph claim certificate report = PathsJudgedYes graph claim certificate
 
--- with `Done`, `run_certify` writes a certificate by which the judge's run answers yes
+-- with `Done`, `run_certify` writes a certificate by which the judge's run answers yes; of distances, to any queries about
+-- their sources and nodes of the graph
 abbrev pub CertifiedLaw : Type 0
 CertifiedLaw =
     (kind : JudgeKind) (instance claim : List ℕ) (out : List (List ℕ)) → Certified kind instance claim Done out
     → (certificate : List ℕ) × (report : List ℕ) × (out ≡ certificate ∷ report ∷ []) × CertifiedYes kind instance claim certificate report
+
+-- the texts spell an instance and a claim that is true of it
+abbrev pub IsTrueClaim : JudgeKind → List ℕ → List ℕ → Type 0
+IsTrueClaim judges.Max instance claim =
+    (i : MaxValue) × SpellsMax instance i × ((s : SolutionValue) × SpellsSolution claim s × ((x : List ℤ) × IsMaxClaim i s x × Maximum i x))
+IsTrueClaim judges.Min instance claim =
+    (i : MinValue) × SpellsMin instance i × ((s : SolutionValue) × SpellsSolution claim s × ((x : List ℤ) × IsMinClaim i s x × Least i x))
+IsTrueClaim judges.Infeasible instance claim = (i : MinValue) × SpellsMin instance i × NoFlow i
+IsTrueClaim judges.Paths graph claim =
+    (g : NetworkValue) × SpellsGraph graph g × ((d : LabelsValue) × SpellsDistances claim d × ((d.nodes ≡ g.nodes) × AreAllDistances g d.blocks))
+
+-- `run_certify`, if it ends without an error, ends with `Done` exactly if the texts spell an instance and a claim that is
+-- true of it
+abbrev pub TrueClaimLaw : Type 0
+TrueClaimLaw =
+    (kind : JudgeKind) (instance claim : List ℕ) (status : Status) (out : List (List ℕ)) → Certified kind instance claim status out
+    → (status ≡ Done) ↔ IsTrueClaim kind instance claim
 
 -- the judge's run over the instance and what was written answers yes, and prints the same report; labels must have no
 -- more lines than a text may have
@@ -53,3 +77,7 @@ SolvedLaw =
     (job : SolveJob) (instance queries : List ℕ) (out : List (List ℕ)) → Solved job instance queries Done out
     → (claim : List ℕ) × (certificate : List ℕ) × (report : List ℕ) × (out ≡ claim ∷ certificate ∷ report ∷ [])
     × SolvedYes job instance queries claim certificate report
+
+-- what `run_convert` prints with `Done`, it prints of that again
+abbrev pub FixedPointLaw : Type 0
+FixedPointLaw = (kind : TextKind) (bytes out : List ℕ) → Prints Canonical kind bytes Done out → Prints Canonical kind out Done out

@@ -10,7 +10,7 @@ use Rattle.dimacs_runs.proofs.certify_distances.certify_distances.Goals as goal
 pub returns-clause-certifies : goal.returns-clause-certifies
 returns-clause-certifies g c = λ a b first second.
     let read = c.in_ok-graph.ensures.reads a b first second in
-    two_end certifying (text_of kinds.Graph GivesGraph a) (text_of kinds.Distances GivesDistances b) (λ g d. CertifiesDistances g d) c.in_ok-graph.graph c.in_ok-graph.distances (outcome_of c.answer_distances.result) read.0 read.1 (c.answer_distances.ensures.certifies (distances_fit b c.in_ok-graph.distances read.1))
+    two_end certifying (text_of kinds.Graph GivesGraph a) (text_of kinds.Distances GivesDistances b) (λ g d. CertifiesDistances g d) c.in_ok-graph.graph c.in_ok-graph.distances (outcome_of c.answer_distances.result) read.0 read.1 (c.answer_distances.ensures.certifies (distances_fit b c.in_ok-graph.distances read.1.0))
 
 pub returns-clause-faults : goal.returns-clause-faults
 returns-clause-faults g c = counts_none (outcome_of c.answer_distances.result) _ _ c.answer_distances.ensures.no_device c.in_ok-graph.ensures.faults
