@@ -14,6 +14,7 @@ mod infeasible;
 mod judge;
 mod kinds;
 mod labels;
+mod laws;
 mod lines;
 mod max;
 mod min;
@@ -31,3 +32,5 @@ mod texts;
 mod version;
 mod write_instance;
 mod written;
+
+pub use laws::{graph_arrays_come_back, max_arrays_come_back, min_arrays_come_back};
