@@ -6,6 +6,6 @@ mod MinCountLemmas
 mod MinLemmas
 mod MinSupplies
 pub mod MinTextLemmas
-mod QueriesLemmas
+pub mod QueriesLemmas
 mod SummaryLemmas
 mod SupplyLemmas

@@ -1,12 +1,13 @@
--- The theorems: what runs write with `Done`, the judge's run answers yes; and a claim is certified exactly if it
--- is true; and a canonical text is converted to itself.
-use Rattle.std.specs.{Prelude.{ℕ, ℤ, ◌≡◌, ◌≤◌, ◌⊎◌, ◌↔◌, List, [], ◌∷◌}, List.{All, Contains}}
+-- The theorems: what runs write with `Done`, the judge's run answers yes; a claim is certified exactly if it is true; a
+-- canonical text is converted to itself; and with a limit that is great enough no maximum stays unfound.
+use Rattle.std.specs.{Prelude.{ℕ, ℤ, pos, ◌≡◌, ◌≢◌, ◌≤◌, ◌<◌, ◌<ℤ◌, ◌⊎◌, ◌↔◌, List, [], ◌∷◌}, List.{All, Contains}}
 use Rattle.dimacs_claims.specs.{DistanceTexts.{SpellsDistances}, Labels.{BlockValue, LabelsValue}}
 use Rattle.dimacs_claims.specs.{LabelTexts.{FitText, canonical_labels}, SolutionTexts.{SolutionValue, SpellsSolution}}
 use Rattle.dimacs_network.specs.Arcs.{NetworkValue}
 use Rattle.dimacs_instance.specs.{Graph.{SpellsGraph}, QueryTexts.{QueriesValue, SpellsQueries}}
 use Rattle.dimacs_instance.specs.{MaxFlows.{MaxValue}, MaxTexts.{SpellsMax}, MinFlows.{MinValue}, MinTexts.{SpellsMin}}
-use Rattle.dimacs_judging.specs.{MaxJudge.{IsMaxClaim}, MinJudge.{IsMinClaim}, Optimum.{Least, Maximum, NoFlow}}
+use Rattle.dimacs_judging.specs.{Feasible.{value}, MaxJudge.{IsMaxClaim}, MinJudge.{IsMinClaim}}
+use Rattle.dimacs_judging.specs.Optimum.{Least, Maximum, NoFlow}
 use Rattle.dimacs_judging.specs.QueryTests.{nodes_asked, sources_asked}
 use Rattle.dimacs_decide.specs.CertifiedPaths.{AreAllDistances, sources_of}
 use Rattle.dimacs_records.specs.declared.kinds.TextKind.{TextKind}
@@ -14,7 +15,7 @@ use Rattle.dimacs_runs.specs.{declared.jobs.JudgeKind.{JudgeKind}, declared.jobs
 use Rattle.dimacs_runs.specs.{declared.text.TextForm.TheVariants.{Canonical}, Runs.{Prints}}
 use Rattle.dimacs_runs.specs.{declared.jobs.JudgeKind.TheVariants.{Max, Min, Infeasible, Paths}, Certified.{Certified}}
 use Rattle.dimacs_runs.specs.{declared.status.Status.{Status}, Judged.{Judged, paths_lines}}
-use Rattle.dimacs_runs.specs.declared.status.Status.TheVariants.{Done}
+use Rattle.dimacs_runs.specs.declared.status.Status.TheVariants.{Done, GaveUp}
 use Rattle.dimacs_runs.specs.declared.jobs.JudgeKind.TheVariants as judges
 use Rattle.dimacs_runs.specs.declared.jobs.SolveJob.TheVariants as solves
 
@@ -45,15 +46,24 @@ CertifiedLaw =
     (kind : JudgeKind) (instance claim : List ℕ) (out : List (List ℕ)) → Certified kind instance claim Done out
     → (certificate : List ℕ) × (report : List ℕ) × (out ≡ certificate ∷ report ∷ []) × CertifiedYes kind instance claim certificate report
 
+-- the solution's flow is maximum, and has the claimed value
+abbrev pub IsTrueMax : MaxValue → SolutionValue → Type 0
+IsTrueMax i s = (x : List ℤ) × IsMaxClaim i s x × Maximum i x
+
+-- the solution's flow costs least, and that much
+abbrev pub IsTrueMin : MinValue → SolutionValue → Type 0
+IsTrueMin i s = (x : List ℤ) × IsMinClaim i s x × Least i x
+
+-- the claims of all blocks are the distances, in a graph with as many nodes
+abbrev pub AreTrueDistances : NetworkValue → LabelsValue → Type 0
+AreTrueDistances g d = (d.nodes ≡ g.nodes) × AreAllDistances g d.blocks
+
 -- the texts spell an instance and a claim that is true of it
 abbrev pub IsTrueClaim : JudgeKind → List ℕ → List ℕ → Type 0
-IsTrueClaim judges.Max instance claim =
-    (i : MaxValue) × SpellsMax instance i × ((s : SolutionValue) × SpellsSolution claim s × ((x : List ℤ) × IsMaxClaim i s x × Maximum i x))
-IsTrueClaim judges.Min instance claim =
-    (i : MinValue) × SpellsMin instance i × ((s : SolutionValue) × SpellsSolution claim s × ((x : List ℤ) × IsMinClaim i s x × Least i x))
+IsTrueClaim judges.Max instance claim = (i : MaxValue) × SpellsMax instance i × ((s : SolutionValue) × SpellsSolution claim s × IsTrueMax i s)
+IsTrueClaim judges.Min instance claim = (i : MinValue) × SpellsMin instance i × ((s : SolutionValue) × SpellsSolution claim s × IsTrueMin i s)
 IsTrueClaim judges.Infeasible instance claim = (i : MinValue) × SpellsMin instance i × NoFlow i
-IsTrueClaim judges.Paths graph claim =
-    (g : NetworkValue) × SpellsGraph graph g × ((d : LabelsValue) × SpellsDistances claim d × ((d.nodes ≡ g.nodes) × AreAllDistances g d.blocks))
+IsTrueClaim judges.Paths graph claim = (g : NetworkValue) × SpellsGraph graph g × ((d : LabelsValue) × SpellsDistances claim d × AreTrueDistances g d)
 
 -- `run_certify`, if it ends without an error, ends with `Done` exactly if the texts spell an instance and a claim that is
 -- true of it
@@ -81,3 +91,9 @@ SolvedLaw =
 -- what `run_convert` prints with `Done`, it prints of that again
 abbrev pub FixedPointLaw : Type 0
 FixedPointLaw = (kind : TextKind) (bytes out : List ℕ) → Prints Canonical kind bytes Done out → Prints Canonical kind out Done out
+
+-- with a limit above 0 and above a maximum flow's value, `run_solve` doesn't give up
+abbrev pub RunLimitLaw : Type 0
+RunLimitLaw =
+    (instance queries : List ℕ) (limit : ℕ) (i : MaxValue) (best : List ℤ) → SpellsMax instance i → Maximum i best → 0 < limit → value i best <ℤ pos limit
+    → (status : Status) (out : List (List ℕ)) → Solved (solves.Max limit) instance queries status out → status ≢ GaveUp

@@ -1,10 +1,10 @@
-//! Theorems: what runs write is judged yes, a claim is certified exactly if it is true, and a canonical text is converted
-//! to itself.
+//! Theorems: what runs write is judged yes, a claim is certified exactly if it is true, a canonical text is converted to
+//! itself, and a great enough limit is enough.
 //!
 //! The contract of a function here states the theorem. The body is empty on purpose: there is nothing to compute. They
 //! are about `Judged`, which the contract of `run_judge` cites: if it allows the answer yes, it allows no other.
 
-ghost use Rattle.dimacs_runs.specs.Laws.{FixedPointLaw, CertifiedLaw, SolvedLaw, TrueClaimLaw};
+ghost use Rattle.dimacs_runs.specs.Laws.{CertifiedLaw, FixedPointLaw, RunLimitLaw, SolvedLaw, TrueClaimLaw};
 
 /// If `run_certify` ends with `Done`, the judge's run over the instance, the claim and what was written answers yes.
 ///
@@ -30,4 +30,9 @@ pub fn solved_is_judged_yes()
 /// If `run_convert` ends with `Done`, it prints of what it printed the same bytes again.
 pub fn canonical_is_a_fixed_point()
     ensures { FixedPointLaw }
+{}
+
+/// `run_solve` doesn't give up with a limit above 0 and above the greatest value of a flow.
+pub fn enough_limit_never_gives_up()
+    ensures { RunLimitLaw }
 {}

@@ -45,7 +45,10 @@ pub use failure::{CommandError, Failure, FileCall};
 pub use files::Files;
 pub use jobs::{Job, JudgeKind, Request, SolveJob, SpreadKind};
 pub use judge::run_judge;
-pub use laws::{canonical_is_a_fixed_point, certified_is_judged_yes, solved_is_judged_yes, true_claims_are_certified};
+pub use laws::{
+    canonical_is_a_fixed_point, certified_is_judged_yes, enough_limit_never_gives_up,
+    solved_is_judged_yes, true_claims_are_certified,
+};
 pub use report::Report;
 pub use solve::run_solve;
 pub use spread::run_spread;
