@@ -32,8 +32,8 @@ MEANT = {
     "certify-paths": "exists g l, read graph_texts first = inr g /\\ read distances_texts second = inr l\n"
     "  /\\ forall c, In c (blocks l) -> are_distances g (start c) (label_in c)",
 }
-PROVED = {"max": "(i & s & ? & R & S & ? & M & V & ?). now exists i, s"}
-PROVED |= {"min": PROVED["max"], "infeasible": "(i & ? & R & ? & N & ?). now exists i"}
+PROVED = {"max": "(i & s & ? & R & S & ? & M & V & ?). exists i, s. exact (conj R (conj S (conj M V)))"}
+PROVED |= {"min": PROVED["max"], "infeasible": "(i & ? & R & ? & N & ?). exists i. exact (conj R N)"}
 
 # The first line of a file that is kept: no other file is replaced.
 MARK = "(* kernel.py of dimacs has written this file, and Coq has accepted it. *)\n"
@@ -168,9 +168,8 @@ def parted(words):
     if "--keep" in words[:-1]:
         at = words.index("--keep")
         keep, words[at : at + 2] = words[at + 1], []
-    count = COUNTS.get(words[0] if words else "", -1)
-    made = words[count + 1 :]
-    if "--keep" in words or not 0 <= len(made) <= words[0].startswith("certify-") or len(words) <= count or count < 0:
+    count = COUNTS.get(words[0]) if words else None
+    if not count or "--keep" in words or not count < len(words) <= count + 1 + words[0].startswith("certify-"):
         raise Failed(2, f"usage\n{__doc__.splitlines()[0]}\n{__doc__.split(chr(10) * 2)[1]}")
     if keep and not re.fullmatch(r"[A-Za-z]\w*\.v", os.path.basename(keep), re.ASCII):
         raise Failed(2, f"{keep}: coqc takes names of letters and digits that end with .v")
@@ -179,7 +178,7 @@ def parted(words):
         raise Failed(2, f"{keep}: this file is there, and isn't one that --keep wrote")
     if keep and os.path.realpath(keep) in map(os.path.realpath, words[1:]):
         raise Failed(2, f"{keep}: named twice")
-    return words[0], words[1 : count + 1], made[0] if made else None, keep
+    return words[0], words[1 : count + 1], (words[count + 1 :] or [None])[0], keep
 
 
 def checked(command, names, certificate, keep, folder):
