@@ -43,7 +43,7 @@ pub record AreProduced (g : NetworkValue) (q : QueriesValue) (l : LabelsValue) :
   pub unbounded : All (λ b. b.radius ≡ None) l.blocks
   pub sources : map block_source l.blocks ≡ distinct_after [] (sources_asked q)
 
--- labels; or the first node of a query that is too great; or, if there is none, the first arc with a negative weight
+-- labels; or the first node of a query that is too great, else the first arc with a negative weight
 abbrev pub SolvesPaths : NetworkValue → QueriesValue → Result LabelsValue SolveError → Type 0
 SolvesPaths g q (Ok labels) = Clear (query_node_row g.nodes q) × All HasNoNegativeWeight g.arcs × AreProduced g q labels
 SolvesPaths g q (Err (Refused place reason)) = FirstOfRow (query_node_row g.nodes q) place reason

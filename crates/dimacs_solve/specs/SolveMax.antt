@@ -8,7 +8,7 @@ use Rattle.dimacs_solve.specs.{declared.maximum.MaxAnswer.TheVariants.{Optimal, 
 use Rattle.dimacs_solve.specs.declared.error.SolveError.TheVariants.{NegativeWeight, Refused, Memory}
 use Rattle.dimacs_decide.specs.Entries.{IsSolutionOf}
 
--- the solution has an entry for every arc, and the cut shows that its flow is maximum
+-- an entry for every arc, and a cut that shows that the flow is maximum
 abbrev pub IsOptimal : MaxValue → SolutionValue → CutValue → Type 0
 IsOptimal i s cut = IsSolutionOf i.arcs s × ShowsMaximum i s cut
 
