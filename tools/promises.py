@@ -16,7 +16,7 @@ from texts import TOP, read, write
 
 PAGE = f"{TOP}/docs/PROMISES.md"
 ITEM = re.compile(r"^- ([^→\n]*(?:\n  [^→\n]*)*) → (.*\n(?:  .*\n)*)", re.M)
-COUNTED = re.compile(r"[\d,]+( lines without imports,\s)[\d,]+( for the judge `run_judge`,\s)[\d,]+( for the command)")
+COUNTED = re.compile(r"[\d,]+( lines without imports,\s)[\d,]+( for the judge\s`run_judge`,\s)[\d,]+( for the command)")
 LIST = re.compile(r"(?<=<!-- requires -->\n\n)(?:(?:- |  ).*\n)*")
 
 
