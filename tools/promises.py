@@ -71,7 +71,7 @@ def made(page):
 def main():
     page, faults = made(read(PAGE))
     write(PAGE, page)
-    sys.exit("\n".join(faults))
+    sys.exit("\n".join(faults) or None)
 
 
 if __name__ == "__main__":
