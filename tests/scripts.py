@@ -41,7 +41,7 @@ program | 1050   | tests/explain.py {program} 80
 program | 50     | tests/usage.py {program}
 program | 60     | tests/completion.py {program}
 program | 50     | tests/shown_runs.py {program}
-proved  | 6000   | tests/targets.py --build {build}
+proved  | 6290   | tests/targets.py --build {build}
 proved  | 60     | tools/dist.py ; tests/packages.py dist
 build   | 120    | tests/library.py --build {build} Python wheel
 build   | 1040   | tests/library.py --build {build} C++
