@@ -36,12 +36,13 @@ pub(crate) struct Before {
 impl Before {
     fn add(&mut self, line: u64, record: Record) {
         self.has_record = true;
-        if let Record::LabelsBlock { radius, .. } = record {
-            self.radius = radius;
-        }
         match record {
-            Record::LabelsBlock { source, count, .. } | Record::DistancesBlock { source, count } =>
-                self.begin(line, source, count),
+            Record::LabelsBlock {
+                source,
+                count,
+                radius,
+            } => self.begin(line, source, count, radius),
+            Record::DistancesBlock { source, count } => self.begin(line, source, count, None),
             Record::LabelsNode { .. } | Record::DistancesNode { .. } => {
                 self.labelled = self.labelled.saturating_add(1);
             }
@@ -51,10 +52,11 @@ impl Before {
         }
     }
 
-    fn begin(&mut self, line: u64, source: u32, labels: u32) {
+    fn begin(&mut self, line: u64, source: u32, labels: u32, radius: Option<i128>) {
         self.counted = self.counted.saturating_add(1);
         self.block_line = line;
         self.source = source;
+        self.radius = radius;
         self.labels = labels;
         self.labelled = 0;
     }
@@ -73,6 +75,8 @@ pub(crate) struct FaultLine<'a> {
     pub(crate) name: &'static str,
     pub(crate) word: String,
     pub(crate) fields: u64,
+    /// The second field, if it is an ID.
+    id: Option<u32>,
     /// None if the line by itself has a fault.
     pub(crate) record: Option<Record>,
     /// What a text of another kind is, with the kind if it is one here.
@@ -103,6 +107,9 @@ impl<'a> FaultLine<'a> {
             name: field_name(form, at.field),
             word: shortened(alloc, text_at(bytes, at.field))?,
             fields: count_fields(bytes),
+            id: str::from_utf8(text_at(bytes, 2))
+                .ok()
+                .and_then(|id| id.parse().ok()),
             record: None,
             other: found.map(kind_words).or(unread),
             found,
@@ -118,6 +125,11 @@ impl<'a> FaultLine<'a> {
         }
     }
 
+    /// Whether this is a d line of the source of its block.
+    pub(crate) fn is_of_source(&self) -> bool {
+        self.form.starts_with('d') && self.id == Some(self.before.source)
+    }
+
     /// If a line stands twice: the earlier one, and what it has in common with this one.
     pub(crate) fn twice(&self) -> Option<(Wanted, &'static str)> {
         match (self.reason, self.record?) {
@@ -126,22 +138,19 @@ impl<'a> FaultLine<'a> {
             (Reason::EndTwice, Record::MaxNode { end, .. }) => {
                 Some((Wanted::End(end), "has the same letter"))
             }
-            (Reason::NodeTwice, record) => Some((self.same_node(record)?, "names the node")),
+            (Reason::NodeTwice, record) => {
+                let from = self.before.block_line;
+                let label = labelled_node(record).map(|id| Wanted::Label { id, from });
+                Some((
+                    label.or(node_of(record).map(Wanted::Node))?,
+                    "names the node",
+                ))
+            }
             _ => None,
-        }
-    }
-
-    /// A line about the same node.
-    fn same_node(&self, record: Record) -> Option<Wanted> {
-        let from = self.before.block_line;
-        match labelled_node(record) {
-            Some(id) => Some(Wanted::Label { id, from }),
-            None => node_of(record).map(Wanted::Node),
         }
     }
 }
 
-/// A word, or the beginning of a longer one.
 fn shortened(alloc: Global, word: &[u8]) -> Result<String, Memory> {
     let mut short = Prose::new(alloc);
     escape(&mut short, word.get(..LONG_WORD).unwrap_or(word));

@@ -2,20 +2,19 @@
 
 use crate::fault_line::{FaultLine, count_fields};
 use crate::forms::{form_of, forms, kind_words, range_of};
-use crate::lookups::{Wanted, declared, labelled_node};
+use crate::lookups::{Wanted, declared};
 use crate::numbers::{is_no_distance, meant_number};
 use crate::page::{OrStop, Page, Reopen, Said, Stop};
 use crate::say;
-use crate::sentence::Value::Node;
-use crate::sentence::{Value, ending};
-use crate::texts::TextFile;
+use crate::sentence::Value::{Node, Typed, Word};
+use crate::sentence::ending;
+use crate::texts::{TextFile, is_file};
 use dimacs_lines::{MAX_LINE, MAX_LINES};
 use dimacs_records::{At, Declared, End, Reason, Record, TextKind};
 
 /// The greatest number of 64 bits with a sign.
 const MOST_WHOLE: u64 = 9_223_372_036_854_775_807;
 
-/// What a problem line counts.
 fn counted_lines(kind: TextKind) -> &'static str {
     match kind {
         TextKind::Max | TextKind::Min | TextKind::Graph => "arc line",
@@ -39,7 +38,7 @@ impl<'a, A: Reopen> Page<'a, A> {
         let text = self.texts.of_kind(kind)?;
         let fault = self.quote_fault(text, at, reason)?;
         if let Some(odd) = fault.before.odd {
-            say!(self; "{}\n", odd);
+            say!(self; "the file {}\n", odd);
             return Ok(());
         }
         if fault.before.lone_return {
@@ -57,19 +56,14 @@ impl<'a, A: Reopen> Page<'a, A> {
     /// Names the kind of a text that isn't of the kind that is wanted. Returns whether its file is exchanged with another.
     fn write_other_kind(&mut self, fault: &FaultLine<'a>, other: &str) -> bool {
         let (text, wanted) = (fault.text, kind_words(fault.text.kind));
-        let verb = if wanted.starts_with("a ") {
-            "is"
-        } else {
-            "are"
-        };
-        say!(self; "the line is that of {}, and {} {} wanted\n", other, wanted, verb);
+        say!(self; "the line is that of {}, in the place of {}\n", other, wanted);
         if text.kind == TextKind::Distances && fault.found == Some(TextKind::Labels) {
-            say!(self; "to judge labels, run dimacs judge-paths GRAPH QUERY LABELS\n");
+            say!(self; "distances have no PRED and no RADIUS; to judge labels, run dimacs judge-paths GRAPH QUERY LABELS\n");
         }
         let Some(file) = self.exchanged(text, fault.found) else {
             return false;
         };
-        say!(self; "the files {} and {} are exchanged\n", text, Value::File(file));
+        say!(self; "the files {} and {} are exchanged\n", Typed(text.file), Typed(file));
         true
     }
 
@@ -80,10 +74,8 @@ impl<'a, A: Reopen> Page<'a, A> {
             TextKind::Solution => Wanted::Value,
             _ => Wanted::Problem,
         };
-        match self.find(TextFile { file, ..text }, first) {
-            Ok(Some(_)) if file != text.file => Some(file),
-            _ => None,
-        }
+        let has_first = self.has(TextFile { file, ..text }, first);
+        Some(file).filter(|_| has_first && file != text.file)
     }
 
     /// Writes why a line has a fault by itself, or by the lines before it.
@@ -98,7 +90,7 @@ impl<'a, A: Reopen> Page<'a, A> {
             Reason::BadWord => say!(self; "`{}` stands where `{}` is wanted: the line is `{}`\n",
                 word, fault.name, fault.form),
             Reason::BadNumber => self.write_bad_number(word, fault.name),
-            Reason::NumberRange => self.write_range(word, fault.name),
+            Reason::NumberRange if !fault.is_of_source() => self.write_range(word, fault.name),
             Reason::ProblemMissing =>
                 say!(self; "a line `{}` has to stand first, but for comments\n",
                 form_of(kind, b"p").unwrap_or("p")),
@@ -115,11 +107,10 @@ impl<'a, A: Reopen> Page<'a, A> {
         Ok(())
     }
 
-    /// Names the earlier line if one stands twice.
+    /// Names the earlier line if one stands twice, or the source if it has a d line.
     fn write_twice(&mut self, fault: &FaultLine<'a>) -> Said<'a> {
-        let source = fault.before.source;
-        if fault.record.and_then(labelled_node) == Some(source) {
-            say!(self; "node {} is the source of the block: it has the distance 0, and no d line\n", Node(source));
+        if fault.is_of_source() {
+            say!(self; "node {} is the source of the block: it has the distance 0, and no d line\n", Node(fault.before.source));
         } else if let Some((wanted, common)) = fault.twice()
             && let Some(earlier) = self.line_before(fault, wanted)?
         {
@@ -136,7 +127,6 @@ impl<'a, A: Reopen> Page<'a, A> {
         }
     }
 
-    /// The problem line, and what it declares.
     fn problem(&self, text: TextFile<'a>) -> OrStop<'a, (u64, Declared)> {
         let stop = text.unread();
         let found = self.find(text, Wanted::Problem)?.ok_or(stop)?;
@@ -170,7 +160,7 @@ impl<'a, A: Reopen> Page<'a, A> {
     fn write_field_count(&mut self, fault: &FaultLine<'a>) {
         let form = fault.form;
         let wanted = count_fields(form.as_bytes());
-        say!(self; "the line has {} fields, and `{}` has {}", fault.fields, form, wanted);
+        say!(self; "the line has {} field{}, and `{}` has {}", fault.fields, ending(fault.fields), form, wanted);
         let has_radius = fault.text.kind == TextKind::Labels && form.starts_with('t');
         say!(self; if has_radius { ", or one more with a RADIUS\n" } else { "\n" });
     }
@@ -178,12 +168,14 @@ impl<'a, A: Reopen> Page<'a, A> {
     fn write_bad_number(&mut self, word: &str, name: &str) {
         say!(self; "{} is a whole number, digits with a sign or without, and not `{}`\n", name, word);
         if name == "VALUE" && word == "infeasible" {
-            let instance = match self.texts.instance() {
-                Ok(text) if text.kind == TextKind::Min => text.file,
-                _ => "INSTANCE",
-            };
-            say!(self; "a solution is a flow; to find out whether none is feasible, run dimacs certify-infeasible {}\n",
-                Value::File(instance));
+            let instance = self.texts.instance().ok();
+            if instance.is_some_and(|text| text.kind == TextKind::Max) {
+                return say!(self; "a solution is a flow, and the flow 0 is one of each maximum flow instance\n");
+            }
+            let file = instance
+                .filter(|text| is_file(text.file))
+                .map_or(Word("INSTANCE"), |text| Typed(text.file));
+            say!(self; "a solution is a flow; to find out whether none is feasible, run dimacs certify-infeasible {}\n", file);
         } else if name == "DIST" && is_no_distance(word) {
             say!(self; "a node that no walk reaches has no line: leave it out\n");
         } else if let Some(number) = meant_number(self.alloc, word) {
@@ -219,12 +211,12 @@ impl<'a, A: Reopen> Page<'a, A> {
         }
     }
 
-    /// Compares the declared and the actual number of lines.
     fn write_count(&mut self, fault: &FaultLine<'a>) -> Said<'a> {
         let before = fault.before;
         if fault.is_in_block() {
-            say!(self; "the block of line {}, from source {}, declares {} d lines, and has {} before this place\n",
-                before.block_line, Node(before.source), u64::from(before.labels), before.labelled);
+            let labels = u64::from(before.labels);
+            say!(self; "the block of line {}, from source {}, declares {} d line{}, and has {} before this place\n",
+                before.block_line, Node(before.source), labels, ending(labels), before.labelled);
             return Ok(());
         }
         let (line, Declared { count, .. }) = self.problem(fault.text)?;

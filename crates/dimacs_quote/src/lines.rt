@@ -17,7 +17,6 @@ pub struct TextLines<I> {
 }
 
 impl<I: Source + Drop> TextLines<I> {
-    /// Before the first line.
     pub(crate) fn new(alloc: Global, source: I, kind: TextKind) -> Result<TextLines<I>, Memory> {
         Ok(TextLines {
             lines: Lines::new(alloc)?,

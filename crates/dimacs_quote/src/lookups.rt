@@ -19,6 +19,10 @@ pub enum Wanted {
     End(End),
     /// The arc with this number, from 1.
     Arc(u32),
+    /// The first arc with a negative WEIGHT.
+    NegativeWeight,
+    /// A supply or a LOW that the flow 0 doesn't meet.
+    NotMetBy0,
     /// The entry with this tail and head, after as many earlier ones.
     Entry(u32, u32, u64),
     /// A query from this node.
@@ -28,19 +32,26 @@ pub enum Wanted {
 }
 
 impl Wanted {
-    /// Whether a line is of the kind that is wanted.
     pub(crate) fn is(self, line: u64, record: Record) -> bool {
         match self {
             Wanted::Problem => declared(record).is_some(),
             Wanted::Value => matches!(record, Record::SolutionValue { .. }),
             Wanted::Line(at) => line == at.line,
             Wanted::Node(id) => node_of(record) == Some(id),
-            Wanted::Label { id, from } => line >= from && has_label(record, id),
+            // The line of a block gives its source a label.
+            Wanted::Label { id, from } => line >= from
+                && labelled_node(record).or(node_of(record)) == Some(id),
             Wanted::End(wanted) => matches!(record, Record::MaxNode { end, .. } if end == wanted),
             Wanted::Arc(_) => matches!(
                 record,
                 Record::MaxArc { .. } | Record::MinArc { .. } | Record::GraphArc { .. }
             ),
+            Wanted::NegativeWeight =>
+                matches!(record, Record::GraphArc { weight, .. } if weight < 0),
+            Wanted::NotMetBy0 => {
+                matches!(record, Record::MinNode { supply, .. } if supply != 0)
+                    || matches!(record, Record::MinArc { low, .. } if low > 0)
+            }
             Wanted::Entry(tail, head, _) => entry_between(record, tail, head).is_some(),
             Wanted::Query(node) => query_from(record) == Some(node),
             Wanted::QueryNaming(node) => {
@@ -89,12 +100,6 @@ pub(crate) fn labelled_node(record: Record) -> Option<u32> {
     }
 }
 
-/// Whether a line gives a node its label. That of a block gives its source one.
-fn has_label(record: Record, id: u32) -> bool {
-    labelled_node(record).or(node_of(record)) == Some(id)
-}
-
-/// What a problem line declares.
 pub(crate) fn declared(record: Record) -> Option<Declared> {
     let (nodes, count) = match record {
         Record::MaxProblem { nodes, arcs }
@@ -120,7 +125,6 @@ pub fn entry_between(record: Record, from: u32, to: u32) -> Option<i64> {
     }
 }
 
-/// The node that a query is from.
 fn query_from(record: Record) -> Option<u32> {
     match record {
         Record::SourceQuery { id } | Record::PairQuery { from: id, .. } => Some(id),

@@ -44,11 +44,9 @@ fn count_of(whole: &str, exponent: &str) -> Option<usize> {
 
 /// Whether a word stands for a distance that is infinite or unknown.
 pub(crate) fn is_no_distance(word: &str) -> bool {
-    [
-        "inf", "+inf", "infinity", "nan", "none", "null", "-", "\u{221e}",
-    ]
-    .iter()
-    .any(|known| word.eq_ignore_ascii_case(known))
+    "inf +inf infinity nan none null - \u{221e}"
+        .split(' ')
+        .any(|known| word.eq_ignore_ascii_case(known))
 }
 
 /// Whether a word is digits, perhaps after a minus sign.

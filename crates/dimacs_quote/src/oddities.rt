@@ -6,20 +6,18 @@ use dimacs_records::TextKind;
 /// What a file is whose first line shows that it isn't a plain text, and what to do about it.
 pub(crate) fn oddity(first: &[u8]) -> Option<&'static str> {
     Some(match first {
-        [0x1f, 0x8b, ..] => "the file is compressed by gzip: give <(zcat FILE) in its place",
-        [b'B', b'Z', b'h', ..] =>
-            "the file is compressed by bzip2: give <(bzcat FILE) in its place",
-        [0xfd, b'7', b'z', b'X', b'Z', ..] =>
-            "the file is compressed by xz: give <(xzcat FILE) in its place",
-        [0x28, 0xb5, 0x2f, 0xfd, ..] =>
-            "the file is compressed by zstd: give <(zstdcat FILE) in its place",
+        [0x1f, 0x8b, ..] => "is compressed by gzip: give <(zcat FILE) in its place",
+        [b'B', b'Z', b'h', ..] => "is compressed by bzip2: give <(bzcat FILE) in its place",
+        [0xfd, b'7', b'z', b'X', ..] => "is compressed by xz: give <(xzcat FILE) in its place",
+        [0x28, 0xb5, 0x2f, 0xfd, ..] => "is compressed by zstd: give <(zstdcat FILE) in its place",
         [b'P', b'K', 3, 4, ..] =>
-            "the file is a zip archive, as those of office programs are: save its text alone",
-        [0xef, 0xbb, 0xbf, ..] =>
-            "the file begins with a byte order mark (EF BB BF): write it without one",
-        [0xff, 0xfe, ..] | [0xfe, 0xff, ..] => "the file is in UTF-16: write it in ASCII or UTF-8",
+            "is a zip archive, as those of office programs are: save its text alone",
+        [0xef, 0xbb, 0xbf, ..] => "begins with a byte order mark (EF BB BF): write it without one",
+        [a, b, 0, 0, ..] | [0, 0, b, a, ..] if *a > 0 && matches!(b, 0 | 0xfe) =>
+            "looks like UTF-32: write it in ASCII or UTF-8",
+        [0xff, 0xfe, ..] | [0xfe, 0xff, ..] => "is in UTF-16: write it in ASCII or UTF-8",
         [a, 0, b, 0, ..] | [0, a, 0, b, ..] if *a > 0 && *b > 0 =>
-            "the file looks like UTF-16: write it in ASCII or UTF-8",
+            "looks like UTF-16: write it in ASCII or UTF-8",
         _ => return None,
     })
 }

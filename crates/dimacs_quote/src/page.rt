@@ -142,6 +142,11 @@ impl<'a, A: Reopen> Page<'a, A> {
         Ok(None)
     }
 
+    /// Whether a text, read again, has a line that is wanted.
+    pub fn has(&self, text: TextFile<'a>, wanted: Wanted) -> bool {
+        matches!(self.find(text, wanted), Ok(Some(_)))
+    }
+
     /// Quotes the line of a text that is wanted, or says what it stands for, and returns its record; none if there is none.
     pub fn quote(&mut self, text: TextFile<'a>, wanted: Wanted) -> OrStop<'a, Option<Record>> {
         let Some(found) = self.find(text, wanted)? else {

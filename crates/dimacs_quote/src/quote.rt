@@ -71,21 +71,52 @@ fn escape_text(out: &mut Prose, text: &str) {
     }
 }
 
-/// Whether a character is seen as itself: it is no control character, and doesn't join, hide or turn others.
+/// Whether a character is seen as itself: it is no control character, and no blank but ' ', and joins or hides no others.
 fn is_visible(it: char) -> bool {
     !matches!(
         it,
         '\0'..='\x1f'
-            | '\x7f'..='\u{9f}'
+            | '\x7f'..='\u{a0}'
             | '\u{ad}'
             | '\u{61c}'
-            | '\u{200b}'..='\u{200f}'
-            | '\u{2028}'..='\u{202e}'
-            | '\u{2060}'..='\u{206f}'
+            | '\u{1680}'
+            | '\u{2000}'..='\u{200f}'
+            | '\u{2028}'..='\u{202f}'
+            | '\u{205f}'..='\u{206f}'
+            | '\u{3000}'
             | '\u{feff}'
             | '\u{fff9}'..='\u{fffb}'
             | '\u{e0000}'..='\u{e0fff}'
     )
+}
+
+/// Writes a file's name as a word that a shell takes for it. If not all of it is visible, most of it is in octal.
+pub(crate) fn write_word(out: &mut Prose, name: &str) {
+    let is_plain = |byte: u8| byte.is_ascii_alphanumeric() || b"+-./_".contains(&byte);
+    let is_shown = name.chars().all(is_visible);
+    let (open, close) = match name.bytes().all(is_plain) {
+        true => ("", ""),
+        false if is_shown => ("'", "'"),
+        // `$(..)` drops a line feed at the end.
+        false if name.ends_with('\n') => ("$'", "'"),
+        false => ("\"$(printf '", "')\""),
+    };
+    out.push(if name.starts_with('-') { "./" } else { "" });
+    out.push(open);
+    for it in name.chars() {
+        match it {
+            '\'' if is_shown => out.push("'\\''"),
+            _ if is_shown || it.is_ascii_alphanumeric() => out.push(it.encode_utf8(&mut [0; 4])),
+            _ => write_octal(out, it),
+        }
+    }
+    out.push(close);
+}
+
+fn write_octal(out: &mut Prose, it: char) {
+    for byte in it.encode_utf8(&mut [0; 4]).bytes() {
+        out.is_lost |= write!(out.text, "\\{byte:03o}").is_err();
+    }
 }
 
 fn write_codes(out: &mut Prose, bytes: &[u8]) {

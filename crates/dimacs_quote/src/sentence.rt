@@ -1,6 +1,6 @@
 //! Sentences, written with the values that they name.
 
-use crate::quote::escape;
+use crate::quote::{escape, write_word};
 use crate::texts::TextFile;
 use dimacs_lines::Memory;
 use std::alloc::Global;
@@ -14,11 +14,7 @@ macro_rules! say {
 }
 
 /// The marks before an arc, a node and a capacity, for programs that read a sentence. No quote has such characters.
-const ARC: char = '\u{1}';
-
-const NODE: char = '\u{2}';
-
-const CAP: char = '\u{3}';
+const MARKS: [char; 3] = ['\u{1}', '\u{2}', '\u{3}'];
 
 /// What a sentence names.
 #[derive(Clone, Copy)]
@@ -27,6 +23,8 @@ pub enum Value<'a> {
     Word(&'a str),
     /// The name of a file.
     File(&'a str),
+    /// The same, as it is typed in a command.
+    Typed(&'a str),
     /// The number of an arc.
     Arc(u32),
     /// The ID of a node.
@@ -82,10 +80,8 @@ pub struct Prose {
 impl Prose {
     /// An empty text.
     pub fn new(alloc: Global) -> Prose {
-        Prose {
-            text: String::new(alloc),
-            is_lost: false,
-        }
+        let (text, is_lost) = (String::new(alloc), false);
+        Prose { text, is_lost }
     }
 
     /// Adds a text.
@@ -105,13 +101,14 @@ impl Prose {
     }
 
     fn write_value(&mut self, value: Value<'_>) {
-        let out = &mut self.text;
+        let ([arc, node, mark_of_cap], out) = (MARKS, &mut self.text);
         let written = match value {
             Value::Word(word) => out.push_str(word),
             Value::File(name) => return escape(self, name.trim_start_matches('\0').as_bytes()),
-            Value::Arc(number) => write!(out, "{ARC}{number}"),
-            Value::Node(id) => write!(out, "{NODE}{id}"),
-            Value::Cap(cap) => write!(out, "{CAP}{cap}"),
+            Value::Typed(name) => return write_word(self, name.trim_start_matches('\0')),
+            Value::Arc(number) => write!(out, "{arc}{number}"),
+            Value::Node(id) => write!(out, "{node}{id}"),
+            Value::Cap(cap) => write!(out, "{mark_of_cap}{cap}"),
             Value::Term(number) if number < 0 => write!(out, " - {}", number.unsigned_abs()),
             Value::Term(number) => write!(out, " + {number}"),
             Value::Operand(number) if number < 0 => write!(out, "({number})"),
@@ -142,7 +139,7 @@ impl Prose {
     /// The text without them.
     pub(crate) fn plain(self, alloc: Global) -> Result<String, Memory> {
         let mut plain = String::new(alloc);
-        for piece in self.finish()?.split([ARC, NODE, CAP]) {
+        for piece in self.finish()?.split(MARKS) {
             plain.push_str(piece)?;
         }
         Ok(plain)

@@ -106,7 +106,6 @@ impl<'a> Texts<'a> {
         self.one_of(&[TextKind::Distances]).or(self.certificate())
     }
 
-    /// The text of one of these kinds.
     fn one_of(&self, kinds: &[TextKind]) -> OrStop<'a, TextFile<'a>> {
         for (kind, file) in self.kinds.iter().zip(self.files) {
             if kinds.contains(kind) {
