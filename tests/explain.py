@@ -70,7 +70,7 @@ CASES = [
     ("AboveCap", "judge-max I S C", {"I": "p max 2 2\nn 1 s\nn 2 t\na 1 2 1\na 1 2 3\n", "S": "s 3\nf 1 2 3\n", "C": "p cut 2 1\nu 1\n"}, ["2 arcs lead from 1 to 2", "arc 1 is the first of them", "dimacs spread-max I S OUT"]),
     ("AboveCap", "judge-max I S C", {"I": "p max 2 2\nn 1 s\nn 2 t\na 1 2 1\na 1 2 3\n", "S": "s 5\nf 1 2 4\nf 1 2 1\n", "C": "p cut 2 1\nu 1\n"}, ["arc 1 is the first of them", "the f lines with these ends add up to 5, outside of 0 to 4, what these arcs can carry: no order fits\n"]),
     ("Balance", "judge-max I S C", {"S": "s 4\nf 1 2 4\n"}, ["0 leaves node 2, 4 enters it: 4 too little leaves\nentries out of it: 0\nentries into it: 1\n  S:2: f 1 2 4\n"]),
-    ("Balance", "judge-min MI S P", {"S": "s 0\n"}, ["MI:2: n 1 4", "0 leaves node 1, 0 enters it, and it supplies 4: 4 too little leaves\n", "entries into it: 0\ndimacs certify-infeasible MI shows whether any flow is feasible\n$"]),
+    ("Balance", "judge-min MI S P", {"S": "s 0\n"}, ["MI:2: n 1 4", "0 leaves node 1, 0 enters it, and it supplies 4: 4 too little leaves\n", "entries into it: 0\nto find out whether any flow is feasible, run dimacs certify-infeasible MI\n$"]),
     ("CostRange", "judge-min I S P", {"I": f"p min 1 1\na 1 1 0 {HUGE} {HUGE}\n", "S": f"s 0\nf 1 1 {HUGE}\n", "P": "p pot 1 0\n"}, [f"at a COST of {HUGE}"]),
     ("ValueDiffers", "judge-max I S C", {"S": FLOW.replace("s 6", "s 7")}, ["S:1: s 7", "7 is claimed, and the flow has the value 6"]),
     ("BadNumber", "judge-max I S C", {"C": "p cut 4 1\nu one\n"}, ["C:2: u one", "ID is a whole number", "may be true all the same: to find out, run dimacs certify-max I S\n$"]),
@@ -106,7 +106,7 @@ CASES = [
     ("PredUnknown", "convert dist T", {"T": "p dist 4 2\nt 1 2\nd 2 5 3\nd 3 4 4\nt 2 1\nd 4 1 2\n"}, ["PRED, 3, is", "node 4 has no d line in this block\n$"]),
     ("NoTightArc", "judge-paths G Q L", {"G": "p sp 4 3\na 1 2 5\na 3 4 0\na 4 3 0\n", "L": "p dist 4 1\nt 1 2\nd 2 5 1\nd 3 6 2\n"}, ["L:4: d 3 6 2", "no arc leads from 2 to 3\nif no walk leads to node 3, leave its line out\nthis certificate doesn't show the claim, which may be true all the same: to find out, run dimacs solve-paths G Q LABELS\n$"]),
     # A solver that refuses has emptied what it writes: here the queries, by files in the wrong order.
-    ("FieldCount", "solve-paths G L Q", {"L": "p dist 4 1\nt 1 0\n"}, ["L:1: p dist 4 1", "that of distance labels (dist), and queries (query) are wanted", "\nQ is empty: a solve run", "before it reads"]),
+    ("FieldCount", "solve-paths G L Q", {"L": "p dist 4 1\nt 1 0\n"}, ["L:1: p dist 4 1", "that of distance labels (dist), in the place of queries (query)", "\nQ is empty: a solve run", "before it reads"]),
     ("NegativeWeight", "solve-paths G Q L", {"G": "p sp 2 1\na 1 2 -4\n"}, ["the WEIGHT -4", "\nL is empty: "]),
     ("NodeRange", "solve-max I S C", {"I": "p max 1 1\nn 1 s\nn 2 t\n"}, ["\nS is empty: ", "\nC is empty: "]),
     ("NotMaximum", "certify-max I S", {"S": "s 0\n"}, ["S:1: s 0", "a better one has the value 6: name a file after the solution to get it\n"]),
@@ -123,8 +123,8 @@ CASES = [
     ("NotShortest", "certify-paths G D", {"G": "p sp 4 4\na 1 2 3\na 2 3 4\na 3 2 -5\na 3 4 1\n", "D": "p distances 4 1\nt 1 3\nd 2 3\nd 3 7\nd 4 8\n"}, ["G:4: a 3 2 -5", "a cycle that the source reaches weighs less than 0; its arcs: 2\n  arc 2: 2 -> 3, WEIGHT 4\n  arc 3: 3 -> 2, WEIGHT -5\n4 - 5 = -1: with each round a walk weighs less, so the nodes that it leads to have no distance\n"]),
     ("NotShortest", "judge-paths G Q L", {"G": "p sp 2 2\na 1 2 3\na 2 1 -4\n", "L": "p dist 2 1\nt 1 1\nd 2 3 1\n"}, ["G:3: a 2 1 -4", "its arcs: 2\n  arc 1: 1 -> 2, WEIGHT 3\n  arc 2: 2 -> 1, WEIGHT -4\n3 - 4 = -1: "]),
     ("Escapes", "certify-paths G D", {"G": "p sp 3 3\na 1 2 3\na 2 3 4\na 3 2 -5\n", "D": "p distances 3 1\nt 1 0\n"}, ["node 2 is at distance 3 at most", "its arcs: 2\n"]),
-    # 13 steps back end at node 4, in a graph of 4 arcs.
-    ("NotShortest", "certify-paths G D", {"G": "p sp 13 4\na 1 2 3\na 2 3 4\na 3 4 1\na 4 2 -6\n", "D": "p distances 13 1\nt 1 3\nd 2 3\nd 3 7\nd 4 8\n"}, ["its arcs: 3\n  arc 4: 4 -> 2, WEIGHT -6\n  arc 2: 2 -> 3, WEIGHT 4\n  arc 3: 3 -> 4, WEIGHT 1\n-6 + 4 + 1 = -1: "]),
+    # 5 steps back, one more than there are arcs, end at node 3.
+    ("NotShortest", "certify-paths G D", {"G": "p sp 13 4\na 1 2 3\na 2 3 4\na 3 4 1\na 4 2 -6\n", "D": "p distances 13 1\nt 1 3\nd 2 3\nd 3 7\nd 4 8\n"}, ["its arcs: 3\n  arc 3: 3 -> 4, WEIGHT 1\n  arc 4: 4 -> 2, WEIGHT -6\n  arc 2: 2 -> 3, WEIGHT 4\n1 - 6 + 4 = -1: "]),
     ("NodesDiffer", "certify-paths G D", {"D": "p distances 5 0\n"}, ["G:1: p sp 4 3", "D:1: p distances 5 0", "they are not of one instance\n$"]),
     ("Escapes", "certify-paths G D", {"D": "p distances 4 2\nt 4 1\nd 3 0\nt 1 0\n"}, ["G:2: a 1 2 5", "D:4: t 1 0", "in the block from source 1 (line 4) ", "node 2 is at distance 5 at most, and has no d line\n"]),
     ("NotShortest", "certify-paths G D", {"G": "p sp 3 2\na 1 3 -1\na 3 1 -1\n", "D": "p distances 3 1\nt 1 1\nd 3 -1\n"}, ["node 1 is at distance -2 at most, and is the source, at distance 0\n"]),
@@ -151,9 +151,9 @@ CASES = [
     ("UnknownLine", "convert gr T", {"T": b"\x28\xb5\x2f\xfd\n"}, ["compressed by zstd: give <(zstdcat FILE) in its place"]),
     ("Balance", "judge-min MI S P", {"S": "s 0\nf 1 2 4\nf 2 4 3\n"}, ["3 leaves node 2, 4 enters it: 1 too little leaves\nentries out of it: 1\n  S:3: f 2 4 3\nentries into it: 1\n  S:2: f 1 2 4\n"]),
     ("Balance", "judge-min I S P", {"I": "p min 2 1\nn 1 4\nn 2 -3\na 1 2 0 9 0\n", "S": "s 0\nf 1 2 4\n"}, ["I:3: n 2 -3", "4 enters node 2, 0 leaves it, and it takes 3: 1 too much arrives\n"]),
-    ("Balance", "judge-min I S P", {"I": "p min 2 1\nn 1 2\nn 2 -3\na 1 2 0 9 0\n", "S": "s 0\nf 1 2 2\n"}, ["2 enters node 2, 0 leaves it, and it takes 3: 1 too little arrives\n", "the supplies add up to -1, and not to 0: no flow is feasible\ndimacs certify-infeasible I shows"]),
+    ("Balance", "judge-min I S P", {"I": "p min 2 1\nn 1 2\nn 2 -3\na 1 2 0 9 0\n", "S": "s 0\nf 1 2 2\n"}, ["2 enters node 2, 0 leaves it, and it takes 3: 1 too little arrives\n", "the supplies add up to -1, and not to 0: no flow is feasible\nto show it by a set, run dimacs certify-infeasible I\n$"]),
     ("Balance", "judge-min I S P", {"I": "p min 2 1\nn 1 3\nn 2 -3\na 1 2 0 9 0\n", "S": "s 0\nf 1 2 4\n"}, ["I:2: n 1 3", "4 leaves node 1, 0 enters it, and it supplies 3: 1 too much leaves\n"]),
-    ("Balance", "judge-min I S P", {"I": "p min 2 2\nn 1 4\nn 2 -4\na 1 2 0 5 0\na 2 1 2 3 0\n", "S": "s 0\nf 1 2 5\n" "f 2 1 2\n"}, ["the arcs of node 1 can carry -3 to 3 out of it: no flow is feasible\ndimacs certify-infeasible I shows"]),
+    ("Balance", "judge-min I S P", {"I": "p min 2 2\nn 1 4\nn 2 -4\na 1 2 0 5 0\na 2 1 2 3 0\n", "S": "s 0\nf 1 2 5\n" "f 2 1 2\n"}, ["the arcs of node 1 can carry -3 to 3 out of it: no flow is feasible\nto show it by a set, run dimacs certify-infeasible I\n$"]),
     ("BadNumber", "certify-min MI S", {"S": "s infeasible\n"}, ["S:1: s infeasible", "to find out whether none is feasible, run dimacs certify-infeasible MI\n$"]),
     ("BadNumber", "convert solution T", {"T": "s infeasible\n"}, ["run dimacs certify-infeasible INSTANCE\n$"]),
     # Words that are almost numbers, or too long.
@@ -170,19 +170,41 @@ CASES = [
     ("UnknownLine", "convert gr T", {"T": b"PK\x03\x04\x14\0\x06\0\r\xa9\n"}, ["PK\\x03\\x04", "\nthe file is a zip archive, as those of office programs are: save its text alone\n"]),
     ("UnknownLine", "convert gr T", {"T": b"\x7fELF\r\0\0"}, ["no line of a graph (gr) begins with"]),
     ("FieldCount", "convert gr T", {"T": "p sp 1 1\ra 1 1 0\r"}, ["lines end by a carriage return alone"]),
-    ("BadWord", "convert gr T", {"T": MAX}, ["that of a maximum flow instance (max), and a graph (gr) is wanted"]),
+    ("BadWord", "convert gr T", {"T": MAX}, ["that of a maximum flow instance (max), in the place of a graph (gr)"]),
     ("ProblemMissing", "convert query T", {"T": "s 1\n"}, ["T:1: s 1\na line `p aux sp ss|p2p K` has to stand first"]),
     # Files in each other's place.
-    ("UnknownLine", "judge-max S I C", {}, ["S:1: s 6", "the line is that of a solution (solution), and a maximum flow instance (max) is wanted\nthe files S and I are exchanged\n$"]),
+    ("UnknownLine", "judge-max S I C", {}, ["S:1: s 6", "the line is that of a solution (solution), in the place of a maximum flow instance (max)\nthe files S and I are exchanged\n$"]),
     ("UnknownLine", "certify-max S I", {"S": "c a flow\nf 1 2 4\ns 6\n"}, ["S:2: f 1 2 4", "the files S and I are exchanged\n$"]),
     ("UnknownLine", "judge-max I C S", {}, ["C:1: p cut 4 1", "the files C and S are exchanged\n$"]),
     ("UnknownLine", "spread-max I C S", {}, ["C:1: p cut 4 1", "and comments, which begin with c\n$"]),
-    ("UnknownLine", "judge-max I C C", {}, ["that of a set of nodes (cut), and a solution (solution) is wanted\nno line of a solution"]),
+    ("UnknownLine", "judge-max I C C", {}, ["that of a set of nodes (cut), in the place of a solution (solution)\nno line of a solution"]),
     ("BadWord", "judge-paths L Q G", {"L": "p dist 4 0\n"}, ["the files L and G are exchanged\n$"]),
-    ("UnknownLine", "judge-max I S T", {"T": FLOW}, ["that of a solution (solution), and a set of nodes (cut) is wanted\nno line of a set", "may be true all the same: to find out, run dimacs certify-max I S\n$"]),
+    ("UnknownLine", "judge-max I S T", {"T": FLOW}, ["that of a solution (solution), in the place of a set of nodes (cut)\nno line of a set", "may be true all the same: to find out, run dimacs certify-max I S\n$"]),
     ("UnknownLine", "convert gr T", {"T": "p sp 1 1\ns 1\n"}, ["     ^\nno line of a graph (gr) begins with `s`\n"]),
-    ("BadWord", "certify-paths G L", {"L": "p dist 4 0\n"}, ["that of distance labels (dist), and distances (distances) are wanted\nto judge labels, run dimacs judge-paths GRAPH QUERY LABELS\n"]),
+    ("BadWord", "certify-paths G L", {"L": "p dist 4 0\n"}, ["that of distance labels (dist), in the place of distances (distances)\ndistances have no PRED and no RADIUS; to judge labels, run dimacs judge-paths GRAPH QUERY LABELS\n"]),
     ("UnknownLine", "convert gr T", {"T": "p sp 1 1\nx" + "y" * 1000 + "\n"}, ["T:2: xyy", ".."]),
+    # What a solver emptied twice, and counts of 1.
+    ("NodeRange", "solve-max I S S", {"I": "p max 1 1\nn 1 s\nn 2 t\n"}, ["that line 1 declares\nS is empty: a solve run creates the files that it writes, or empties them, before it reads the others\n$"]),
+    ("FieldCount", "convert gr T", {"T": "p sp 1 1\na\n"}, ["the line has 1 field, and"]),
+    ("TooFew", "convert dist T", {"T": "p dist 3 1\nt 1 1\n"}, ["declares 1 d line, and has 0 before this place\n"]),
+    # A line of the source, and a blank that ends no field.
+    ("NumberRange", "convert dist T", {"T": "p dist 3 1\nt 1 1\nd 1 0 0\n"}, ["PRED", "\nnode 1 is the source of the block: it has the distance 0, and no d line\n$"]),
+    ("FieldCount", "convert gr T", {"T": "p sp 2 1\na 1\u00a02 5\n"}, ["T:2: a 1\\xc2\\xa02 5\n", "the line has 3 fields"]),
+    ("FieldCount", "convert gr T", {"T": "p sp 2 1\na 1\u30002\u20095\n"}, ["T:2: a 1\\xe3\\x80\\x802\\xe2\\x80\\x895\n", "the line has 2 fields"]),
+    ("UnknownLine", "convert gr T", {"T": "p sp 1 0\n".encode("utf-32")}, ["UTF-32"]),
+    ("UnknownLine", "convert gr T", {"T": "p sp 1 0\n".encode("utf-32-le")}, ["UTF-32"]),
+    ("UnknownLine", "convert gr T", {"T": "p sp 1 0\n".encode("utf-32-be")}, ["UTF-32"]),
+    # Each maximum flow instance has a flow, and so has this one.
+    ("BadNumber", "certify-max I S", {"S": "s infeasible\n"}, ["S:1: s infeasible", "a solution is a flow, and the flow 0 is one of each maximum flow instance\n$"]),
+    ("Balance", "judge-min I S P", {"I": "p min 2 1\na 1 2 0 3 1\n", "S": "s 1\nf 1 2 1\n"}, ["1 leaves node 1, 0 enters it: 1 too much leaves\n", "entries into it: 0\n$"]),
+    # What decides distances, by their form and by the sign of a WEIGHT.
+    ("BadWord", "judge-paths G Q L", {"L": "p distances 4 0\n"}, ["to find out, run dimacs certify-paths G L\n$"]),
+    ("NoTightArc", "judge-paths G Q L", {"G": "p sp 3 2\na 1 2 3\na 2 3 -2\n", "L": "p dist 3 1\nt 1 2\nd 2 3 1\nd 3 2 2\n"}, ["to find out, drop PRED and RADIUS, and run dimacs certify-paths G DISTANCES\n$"]),
+    ("Escapes", "judge-paths G Q L", {"Q": "p aux sp p2p 1\nq 1 2\n", "L": "p dist 4 1\nt 1 0 7\n"}, ["node 2 is at distance 5 at most, within the RADIUS, 7, and has no label\n"]),
+    ("NotTight", "judge-min MI S P", {"S": LEAST, "P": "p pot 4 3\ny 1 -4\ny 2 -2\ny 3 -1\n"}, ["= 2 - (-4) + (-2) = 4, above 0", "with the opposite sign of each VALUE, the potentials show the claim\nthis certificate"]),
+    ("NotTight", "judge-min MI S P", {"S": LEAST, "P": "p pot 4 3\ny 1 -4\ny 2 -2\ny 3 -2\n"}, ["= 2 - (-4) + (-2) = 4, above 0, so it has to carry its LOW, 0, and carries 2\nthis certificate"]),
+    # A cycle of 0 that the second block's source doesn't reach.
+    ("NoTightArc", "certify-paths G D", {"G": "p sp 4 3\na 1 2 5\na 2 3 0\na 3 2 0\n", "D": "p distances 4 2\nt 1 2\nd 2 5\nd 3 5\nt 4 2\nd 2 1\nd 3 1\n"}, ["D:6: d 2 1\nin the block from source 4 (line 5) the arcs that lead to the distance of node 2 come from nodes that"]),
 ]
 
 # The same of a text whose file can't be read again, or is the claim's. The command of the package for Python says more of
@@ -214,6 +236,7 @@ YES = [
     ("", "certify-max I S A", {"I": "p max 2 8\nn 1 s\nn 2 t\n" + "".join(f"a 1 2 {k}\n" for k in range(1, 9)), "S": "s 36\n" + "".join(f"f 1 2 {k}\n" for k in range(1, 9))}, ["  arc 6: 1 -> 2, CAP 6\n  all others: 15\n1 + 2 + 3 + 4 + 5 + 6 + 15 = 36, the value"]),
     ("", "judge-min MI S P", {"S": LEAST}, ["  arc 5: 3 -> 4, 4 * 1 = 4\n", "4 + 4 + 4 + 2 = 14, the cost\n", "  node 1: 4 * 4\n16\n", "  arc 2: 1 -> 3, r = 2 - 4 + 1 = -1, CAP 2\n-2\n16 - 2 = 14: no flow costs less\n", "3 of 5: 1 3 5\n$"]),
     ("", "judge-infeasible I C", {"I": "p min 3 3\nn 1 5\nn 3 -5\na 1 2 0 4 0\na 2 1 1 2 0\na 2 3 0 9 0\n", "C": "p cut 3 1\nu 1\n"}, ["its supply: 5\n", "  arc 1: 1 -> 2, CAP 4\n", "  arc 2: 2 -> 1, LOW 1\n", "is at most 4 - 1 = 3, but has to be its supply, 5: no flow is feasible\n$"]),
+    ("", "judge-infeasible I C", {"I": "p min 2 1\nn 1 3\nn 2 -1\na 1 2 0 5 0\n", "C": "p cut 2 2\nu 1\nu 2\n"}, ["2 of the 2 nodes: 1 2\nits supply: 3 - 1 = 2\nso the supplies of all nodes don't add up to 0, "]),
     # Node 1 takes 5, and at most 4 can come.
     ("", "certify-infeasible I A", {"I": SURPLUS}, ["1 of the 2 nodes: 2\n", "at most 4 - 1 = 3, but has to be its supply, 5: "]),
     ("", "judge-infeasible I C", {"I": SURPLUS, "C": "p cut 2 1\nu 1\n"}, ["its supply: -5\n", "  arc 2: 1 -> 2, LOW 1\n", "  arc 1: 2 -> 1, CAP 4\n", "at least 1 - 4 = -3, but has to be its supply, -5: "]),
@@ -275,6 +298,37 @@ def fault_of(binary, case):
             return f"lacks {part!r}:\n{explanation}"
         place = found + len(part)
     return None
+
+
+# Files whose names a shell would take for more.
+NAMES = ["a b", "a'; touch PWNED; '.sol", "$(touch PWNED)", "`touch PWNED`", '"', "-x", "--version", "-'", "\u00e9 \u6c34", "a\nb", "a\n", "\t", "\x1b[31m%d\\", "\x07'!$(touch PWNED)\"", "a\u00a0b", "~", "#", "*", "!x"]
+
+# Runs that name a file N, what they read, and the words of the command that is advised, or of the files to exchange.
+NAMING = [
+    ("judge-max N S C", {"N": MAX, "C": CUT + "u 2\n"}, "certify-max N S"),
+    ("judge-max I N C", {"N": FLOW, "C": CUT + "u 2\n"}, "certify-max I N"),
+    ("judge-max I N C", {"N": FLOW + "f 3 4 1\n"}, "spread-max I N OUT"),
+    ("judge-min N S P", {"N": MIN, "S": "s 0\n"}, "certify-infeasible N"),
+    ("certify-min N S", {"N": MIN, "S": "s infeasible\n"}, "certify-infeasible N"),
+    ("judge-infeasible N C", {"N": MIN}, "certify-infeasible N"),
+    ("judge-paths G N L", {"N": ASKED, "L": "p dist 5 0\n"}, "solve-paths G N LABELS"),
+    ("judge-paths N Q L", {"N": CYCLE, "L": "p distances 4 0\n"}, "certify-paths N L"),
+    ("judge-paths N Q L", {"N": "p sp 2 1\na 1 2 -1\n", "L": "p dist 5 0\n"}, "certify-paths N DISTANCES"),
+    ("judge-max I C N", {"N": FLOW}, "the files C and N are exchanged"),
+]
+
+
+def name_fault(binary, name, words, texts, wanted):
+    """What is wrong with the line that names a file, handed to a shell; none if it gives the words that are wanted."""
+    with place_with({**TEXTS, **{name if it == "N" else it: text for it, text in texts.items()}}) as place:
+        words = [binary, "explain", *(name if it == "N" else it for it in words.split())]
+        printed = subprocess.run(words, capture_output=True, cwd=place.folder, check=False).stdout.decode()
+        line = re.search(r"\brun dimacs (.*)$|^(the files .*)$", printed, re.MULTILINE)
+        shell = "bash" if name.endswith("\n") else "sh"
+        ran = subprocess.run([shell, "-c", f"printf '%s\\0' {line and (line[1] or line[2])}"], capture_output=True, cwd=place.folder, check=False)
+        typed = [("./" + name if name.startswith("-") else name) if it == "N" else it for it in wanted.split()]
+        good = ran.stdout.decode().split("\0") == [*typed, ""] and not os.path.exists(place.path("PWNED"))
+    return None if good else f"{printed}gives {ran.stdout}"
 
 
 # Of a pipe that gives more MB than are kept, the numbers aren't there to be explained.
@@ -366,6 +420,7 @@ def main():
     binary = os.path.abspath(binary)
     faults = [(f"{case[0]}: explain {case[1]}", fault_of(binary, case)) for case in CASES + UNREAD + YES + OTHERS]
     faults += [(it[0], shell_fault(*it)) for it in shell_runs(binary)]
+    faults += [(f"{name!r}: {it[0]}", name_fault(binary, name, *it)) for name in NAMES for it in NAMING]
     faults += [("explain", fault) for fault in reader_faults(binary, int(count), int(seed))]
     missing = reasons() - {case[0] for case in CASES} - LEFT_OUT
     faults += [(f"no case for {it}", "") for it in sorted(missing)]

@@ -115,6 +115,9 @@ def infeasible(instance, cut):
     assert supply > net if limit == "at most" else supply < net
     yield in_set("in the set", nodes, lines_of(instance, "p")[0][0])
     yield f"its supply: {sum_of(supplies)}"
+    if len(nodes) == lines_of(instance, "p")[0][0]:
+        yield "so the supplies of all nodes don't add up to 0, and no arc leads out of them: no flow is feasible"
+        return
     yield from listed("arcs out of it", arc_lines(out, words[0]), leaves)
     yield from listed("arcs into it", arc_lines(into, words[1]), enters)
     yield f"these bounds add up to {sum_of(leaves)} out of it, and {sum_of(enters)} into it"

@@ -24,9 +24,7 @@ impl<'a, A: Reopen> Explanation<'a, A> {
         let claimed = self.value_on(claim, Wanted::Line(at))?;
         // A claim that isn't worse was overwritten by the better flow.
         if let Some(claimed) = claimed
-            && self
-                .made
-                .is_none_or(|made| gain(kind, made, claimed).is_some())
+            && self.made.is_none_or(|it| gain(kind, it, claimed).is_some())
         {
             self.page.quote_there(claim, Wanted::Line(at))?;
             if self.compare_better(kind, claimed)? {
@@ -42,8 +40,7 @@ impl<'a, A: Reopen> Explanation<'a, A> {
         Ok(())
     }
 
-    /// Quotes the value of the better flow from its file, and compares it with the claimed one. Returns whether the file
-    /// has it.
+    /// Quotes the value of the better flow from its file, and compares it. Returns whether the file has it.
     fn compare_better(&mut self, kind: TextKind, claimed: i128) -> OrStop<'a, bool> {
         let Some(file) = self.made.and(self.page.texts.written()) else {
             return Ok(false);

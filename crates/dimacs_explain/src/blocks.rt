@@ -13,11 +13,11 @@ pub(crate) struct EndLabels {
     pub(crate) source: u32,
     pub(crate) tail: i128,
     pub(crate) head: Option<i128>,
+    pub(crate) radius: Option<i128>,
     /// The distance of the head by the arc.
     pub(crate) sum: i128,
 }
 
-/// The labels of an arc's ends in the first block in which it fails its test.
 pub(crate) fn failing_ends(labels: &Labels, arc: ArcView) -> Option<EndLabels> {
     for (k, block) in labels.blocks().iter().enumerate() {
         let Some(tail) = labels.label(k, arc.tail) else {
@@ -35,6 +35,7 @@ pub(crate) fn failing_ends(labels: &Labels, arc: ArcView) -> Option<EndLabels> {
                 source: block.source(),
                 tail,
                 head,
+                radius: block.radius(),
                 sum,
             });
         }
@@ -52,7 +53,6 @@ pub(crate) struct Unreached {
     pub(crate) least: Option<i128>,
 }
 
-/// The first label of a node that no arc from its PRED gives, or distance that no arc gives.
 pub(crate) fn first_unreached(
     labels: &Labels,
     kind: TextKind,
@@ -60,7 +60,7 @@ pub(crate) fn first_unreached(
     arcs: &[ArcInto],
 ) -> Option<Unreached> {
     for (k, block) in labels.blocks().iter().enumerate() {
-        let Some(label) = block.labels().into_iter().find(|label| label.id == node) else {
+        let Some(label) = label_in(block, node) else {
             continue;
         };
         let pred_dist = labels.label(k, label.pred).unwrap_or(0);
@@ -82,18 +82,8 @@ pub(crate) fn first_unreached(
     None
 }
 
-/// The source of the only block that has a label of a node; none if several have one.
-pub(crate) fn only_source(labels: &Labels, node: u32) -> Option<u32> {
-    let mut source = None;
-    for block in labels.blocks() {
-        if block.labels().into_iter().any(|label| label.id == node) {
-            if source.is_some() {
-                return None;
-            }
-            source = Some(block.source());
-        }
-    }
-    source
+pub(crate) fn label_in(block: &Block, node: u32) -> Option<Label> {
+    block.labels().into_iter().find(|label| label.id == node)
 }
 
 /// The least distance by one of these arcs from a node that has a label in a block.
@@ -108,7 +98,6 @@ fn nearest(block: &Block, arcs: &[ArcInto]) -> Option<i128> {
     least
 }
 
-/// The weight of the lightest arc from a node.
 pub(crate) fn lightest(arcs: &[ArcInto], from: u32) -> Option<i64> {
     let place = arcs.partition_point(|arc| arc.0 < from);
     arcs.get(place).filter(|arc| arc.0 == from).map(|arc| arc.1)

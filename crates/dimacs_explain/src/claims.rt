@@ -38,10 +38,8 @@ impl<'a, A: Reopen> Explanation<'a, A> {
     /// Quotes the earlier entry of an arc that has two, and advises to remove one if they are the same.
     fn write_repeated(&mut self, tail: u32, head: u32, flow: i64) -> Said<'a> {
         let solution = self.page.texts.claim()?;
-        let earlier = self
-            .page
-            .quote_there(solution, Wanted::Entry(tail, head, 0))?;
-        if entry_between(earlier, tail, head) != Some(flow) {
+        let first = Wanted::Entry(tail, head, 0);
+        if entry_between(self.page.quote_there(solution, first)?, tail, head) != Some(flow) {
             return self.write_spread();
         }
         say!(self; "the two are the same: remove one\n");
@@ -71,7 +69,6 @@ impl<'a, A: Reopen> Explanation<'a, A> {
         Ok(cost)
     }
 
-    /// The same for its value.
     fn write_value_of(&mut self, claimed: i128) -> OrStop<'a, i128> {
         let source = self.end_of(End::Source)?;
         let flow = self.node_flow(source)?;

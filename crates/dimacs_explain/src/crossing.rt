@@ -37,12 +37,11 @@ impl Crossing {
         all
     }
 
-    /// The least that arcs can carry out of a set.
+    /// The least that arcs can carry out of a set, and then the most.
     fn least<N: Network>(alloc: Global, network: &N, set: &Cut) -> Crossing {
         Crossing::of(alloc, network, set, "LOW", "CAP")
     }
 
-    /// The most.
     fn most<N: Network>(alloc: Global, network: &N, set: &Cut) -> Crossing {
         Crossing::of(alloc, network, set, "CAP", "LOW")
     }
@@ -53,7 +52,6 @@ impl Crossing {
     }
 }
 
-/// The supplies of a set's nodes.
 fn supply_of<N: Network>(alloc: Global, instance: &MinInstance<N>, set: &Cut) -> Sum {
     let mut sum = Sum::new(alloc);
     let (mut id, end) = (1, set.nodes().saturating_add(1));
@@ -94,6 +92,9 @@ impl<'a, A: Reopen> Explanation<'a, A> {
         say!(self; "its supply: ");
         self.write_sum(&supply);
         say!(self; "\n");
+        if set.len() == set.nodes() {
+            return say!(self; "so the supplies of all nodes don't add up to 0, and no arc leads out of them: no flow is feasible\n");
+        }
         let most = Crossing::most(alloc, network, set);
         if supply.sum() > most.net() {
             return self.write_crossing(&most, "at most", supply.sum());
@@ -123,25 +124,22 @@ impl<'a, A: Reopen> Explanation<'a, A> {
         let has_sink = self.page.quote(cut, Wanted::Node(sink))?.is_some();
         if node == sink {
             say!(self; "node {} is the sink, and the cut holds it\n", Node(node));
-            return self.write_open();
-        }
-        say!(self; "node {} is the source, and the cut doesn't hold it: ", Node(node));
-        if has_sink {
+        } else if has_sink {
             let verb = self.page.words("list", "mark");
-            say!(self; "this is the sink's side: {} the other nodes, those on the source's side\n", verb);
+            say!(self; "node {} is the source, and the cut doesn't hold it: this is the sink's side: {} the other nodes, those on the source's side\n",
+                Node(node), verb);
         } else {
             let verb = self.page.words("lists", "marks");
-            say!(self; "it {} the nodes on the source's side, the source among them\n", verb);
+            say!(self; "node {} is the source, and the cut doesn't hold it: it {} the nodes on the source's side, the source among them\n",
+                Node(node), verb);
         }
         self.write_open()
     }
 
     pub(crate) fn explain_violation(&mut self) -> Said<'a> {
         let (alloc, text) = (self.page.alloc, self.page.texts.certificate()?);
-        let (set, min) = (
-            self.set(&mut self.page.source(text)?)?,
-            self.min_instance()?,
-        );
+        let set = self.set(&mut self.page.source(text)?)?;
+        let min = self.min_instance()?;
         let supply = supply_of(alloc, &min, &set).sum();
         let least = Crossing::least(alloc, min.network(), &set).net();
         let most = Crossing::most(alloc, min.network(), &set).net();

@@ -1,10 +1,12 @@
 //! Finds a negative cycle, which leaves nodes without a distance.
 
+use crate::blocks::label_in;
 use crate::explanation::Explanation;
 use crate::sums::Sum;
+use dimacs_claims::{Label, Labels};
 use dimacs_lines::Memory;
 use dimacs_network::{ArcView, Network, NodeMap};
-use dimacs_quote::{OrStop, Reopen, Said, say};
+use dimacs_quote::{OrStop, Reopen, Said, Wanted, say};
 use std::alloc::Global;
 
 /// The most arcs that are looked at, again and again, to find a cycle.
@@ -20,8 +22,7 @@ struct Walk {
 /// An arc, after its index.
 type IndexedArc = (u32, ArcView);
 
-/// Makes the walks to the heads of all arcs lighter where an arc allows it. Returns the last such head; none if no walk
-/// has changed.
+/// Makes walks lighter by each arc that allows it. Returns the last head whose walk has changed; none if none has.
 fn lighten<N: Network>(network: &N, walks: &mut NodeMap<Walk>) -> Result<Option<u32>, Memory> {
     let mut changed = None;
     for i in 0..network.arcs() {
@@ -82,52 +83,68 @@ fn around<N: Network>(
     Ok(arcs)
 }
 
-fn has_negative<N: Network>(network: &N) -> bool {
-    let mut found = false;
-    for i in 0..network.arcs() {
-        found |= network.arc(i).cost < 0;
-    }
-    found
-}
-
 /// The arcs of a negative cycle that a source reaches; none if there is none, or it isn't found soon.
 fn negative_cycle<N: Network>(
     alloc: Global,
     network: &N,
     source: u32,
 ) -> Result<Vec<IndexedArc>, Memory> {
-    if !has_negative(network) {
-        return Ok(Vec::new(alloc));
-    }
-    let mut walks = NodeMap::new(alloc);
-    let (weight, last) = (0, None);
+    let (mut walks, weight, last) = (NodeMap::new(alloc), 0, None);
     walks.set(source, Walk { weight, last })?;
     for _ in 0..MOST_STEPS / network.arcs().max(1) {
         let Some(changed) = lighten(network, &mut walks)? else {
             break;
         };
-        // So many steps end at the source or on a cycle. The first arc is that after as many steps as there are nodes.
+        // So many steps end at the source or on a cycle.
         let steps = network.nodes().min(network.arcs().saturating_add(1));
         if let Some(node) = far_back(network, &walks, changed, steps) {
-            let mut cycle = around(alloc, network, &walks, node)?;
-            let others = network.nodes().saturating_sub(steps) as usize;
-            let turn = others % cycle.len().max(1);
-            cycle.rotate_right(turn.min(cycle.len()));
-            return Ok(cycle);
+            return around(alloc, network, &walks, node);
         }
     }
     Ok(Vec::new(alloc))
 }
 
+/// Whether no walk from a source weighs as little as a label says. If that isn't found soon, it isn't so.
+fn is_too_near<N: Network>(
+    alloc: Global,
+    network: &N,
+    source: u32,
+    label: Label,
+) -> Result<bool, Memory> {
+    let (mut walks, weight, last) = (NodeMap::new(alloc), 0, None);
+    walks.set(source, Walk { weight, last })?;
+    for _ in 0..MOST_STEPS / network.arcs().max(1) {
+        if lighten(network, &mut walks)?.is_none() {
+            return Ok(walks.get(label.id).is_none_or(|it| it.weight > label.dist));
+        }
+    }
+    Ok(false)
+}
+
 impl<'a, A: Reopen> Explanation<'a, A> {
-    fn negative_cycle(&self, source: u32) -> OrStop<'a, Vec<IndexedArc>> {
+    /// The source of the first block in which no walk to a node weighs as little as its label says.
+    pub(crate) fn too_near_from(&self, labels: &Labels, node: u32) -> OrStop<'a, Option<u32>> {
         let graph = self.graph()?;
-        Ok(negative_cycle(self.page.alloc, graph.network(), source)?)
+        for block in labels.blocks() {
+            if let Some(label) = label_in(block, node)
+                && is_too_near(self.page.alloc, graph.network(), block.source(), label)?
+            {
+                return Ok(Some(block.source()));
+            }
+        }
+        Ok(None)
     }
 
     /// Writes a negative cycle that a source reaches, if one is found.
     pub(crate) fn write_cycle(&mut self, source: u32) -> Said<'a> {
-        let cycle = self.negative_cycle(source)?;
+        if !self
+            .page
+            .has(self.page.texts.instance()?, Wanted::NegativeWeight)
+        {
+            return Ok(());
+        }
+        let graph = self.graph()?;
+        let cycle = negative_cycle(self.page.alloc, graph.network(), source)?;
         let mut weights = Sum::new(self.page.alloc);
         for (index, arc) in cycle {
             weights.add_arc(index, arc, "WEIGHT");

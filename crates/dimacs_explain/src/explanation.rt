@@ -13,18 +13,10 @@ pub struct Explanation<'a, A> {
 }
 
 impl<'a, A: Reopen> Explanation<'a, A> {
-    /// An empty one, about the answer of a run over these texts, which are read again. `made` is the value or the cost of
-    /// the solution that the run made in place of a certificate; none without one.
-    pub fn new(
-        alloc: Global,
-        again: &'a A,
-        texts: Texts<'a>,
-        made: Option<i128>,
-    ) -> Explanation<'a, A> {
-        Explanation {
-            page: Page::new(alloc, again, texts),
-            made,
-        }
+    /// An empty one, about a run over these texts, which are read again. If it made a solution, `made` is its value or cost.
+    pub fn new(alloc: Global, again: &'a A, texts: Texts<'a>, made: Option<i128>) -> Self {
+        let page = Page::new(alloc, again, texts);
+        Explanation { page, made }
     }
 
     /// Writes a sentence, with the next value for each `{}`.

@@ -4,31 +4,31 @@ use crate::crossing::Crossing;
 use crate::explanation::Explanation;
 use crate::least_cost::{paid_bound, reduced_cost};
 use crate::sums::{bound, number_of};
-use dimacs_network::{ArcView, Network};
-use dimacs_quote::Value::{Arc, Cap, Node};
-use dimacs_quote::{OrStop, Reopen, Said, TextFile, Wanted, ending, entry_between, range_of, say};
+use dimacs_network::{ArcView, CapacityArc, Network, WeightArc};
+use dimacs_quote::Value::{Arc, Cap, Node, Operand, Typed};
+use dimacs_quote::{
+    OrStop, Reopen, Said, TextFile, Wanted, ending, entry_between, is_file, range_of, say,
+};
 use dimacs_records::{Reason, Record, TextKind};
 
-/// The arc of an arc line.
 pub(crate) fn arc_of(record: Record) -> Option<ArcView> {
-    let (tail, head, low, cap, cost) = match record {
-        Record::MaxArc { tail, head, cap } => (tail, head, 0, cap, 0),
+    Some(match record {
+        Record::MaxArc { tail, head, cap } => CapacityArc { tail, head, cap }.view(),
+        Record::GraphArc { tail, head, weight } => WeightArc { tail, head, weight }.view(),
         Record::MinArc {
             tail,
             head,
             low,
             cap,
             cost,
-        } => (tail, head, low, cap, cost),
-        Record::GraphArc { tail, head, weight } => (tail, head, 0, 0, weight),
+        } => ArcView {
+            tail,
+            head,
+            low,
+            cap,
+            cost,
+        },
         _ => return None,
-    };
-    Some(ArcView {
-        tail,
-        head,
-        low,
-        cap,
-        cost,
     })
 }
 
@@ -98,7 +98,6 @@ impl<'a, A: Reopen> Explanation<'a, A> {
         Ok(sum)
     }
 
-    /// The claimed flow out of a node and into it.
     pub(crate) fn node_flow(&self, node: u32) -> OrStop<'a, Crossing> {
         let text = self.page.texts.claim()?;
         let lines = self.page.lines(text)?;
@@ -125,11 +124,8 @@ impl<'a, A: Reopen> Explanation<'a, A> {
         let Ok(solution) = self.page.texts.claim() else {
             return Ok(0);
         };
-        let (tail, head) = (arc.tail, arc.head);
-        let entry = self
-            .page
-            .quote(solution, Wanted::Entry(tail, head, earlier))?;
-        if let Some(Record::SolutionEntry { flow, .. }) = entry {
+        let wanted = Wanted::Entry(arc.tail, arc.head, earlier);
+        if let Some(Record::SolutionEntry { flow, .. }) = self.page.quote(solution, wanted)? {
             return Ok(flow);
         }
         say!(self; "{}: has no entry for the arc, so it carries 0\n", solution);
@@ -145,7 +141,6 @@ impl<'a, A: Reopen> Explanation<'a, A> {
         })
     }
 
-    /// Explains why a test of an arc's flow failed.
     pub(crate) fn explain_flow(&mut self, number: u32, reason: Reason) -> Said<'a> {
         let arc = self.quote_arc(number)?;
         let parallel = self.parallel(arc.tail, arc.head, number)?;
@@ -211,72 +206,66 @@ impl<'a, A: Reopen> Explanation<'a, A> {
         Ok(())
     }
 
-    /// Explains that an arc doesn't carry the bound that its reduced cost demands.
     fn write_slack(&mut self, number: u32, arc: ArcView, flow: i64) -> Said<'a> {
         let certificate = self.page.texts.certificate()?;
         let tail = self.quote_node(certificate, arc.tail)?;
         let head = self.quote_node(certificate, arc.head)?;
         let reduced = reduced_cost(arc, tail, head);
         say!(self; "the reduced cost of arc {} is COST - y({}) + y({}) = {} - {} + {} = {}",
-            Arc(number), Node(arc.tail), Node(arc.head), arc.cost, tail, head, reduced);
+            Arc(number), Node(arc.tail), Node(arc.head), arc.cost, Operand(tail), Operand(head), reduced);
         let name = paid_bound(reduced);
         let sign = if reduced > 0 { "above" } else { "below" };
         let wanted = bound(name, number_of(arc, name));
         say!(self; ", {} 0, so it has to carry its {}, {}, and carries {}\n", sign, name, wanted, flow);
-        Ok(())
+        self.write_opposite(certificate)
     }
 
     /// Names the command that deals a flow out to parallel arcs.
     pub(crate) fn write_spread(&mut self) -> Said<'a> {
         say!(self; "if the entries don't follow the order of the arcs, have them dealt out: ");
-        self.write_command("spread")?;
-        say!(self; " OUT\n");
-        Ok(())
+        self.write_command("spread", " OUT")
     }
 
-    /// Writes that a certificate which fails leaves its claim open, and the command that decides it.
+    /// Writes that a certificate which fails leaves its claim open, and the command that decides it. Distances have none.
     pub(crate) fn write_open(&mut self) -> Said<'a> {
-        say!(self; "this certificate doesn't show the claim, which may be true all the same: to find out, ");
-        if self.page.texts.are_arrays() {
-            say!(self; "certify it\n");
+        if self.page.texts.tested()?.kind == TextKind::Distances {
             return Ok(());
         }
-        say!(self; "run ");
-        self.write_command("certify")?;
-        say!(self; "\n");
-        Ok(())
+        say!(self; "this certificate doesn't show the claim, which may be true all the same: to find out, ");
+        self.write_command("certify", "")
     }
 
-    /// Writes a command about the claimed flow, or that none is feasible; or the one that finds distances.
-    fn write_command(&mut self, verb: &str) -> Said<'a> {
+    /// Writes a command about a claim; if its texts are in no files, what it does.
+    fn write_command(&mut self, verb: &str, last: &str) -> Said<'a> {
         let instance = self.page.texts.instance()?;
-        let claim = self.page.texts.claim().ok();
-        match (instance.kind, claim) {
-            (TextKind::Max, Some(_)) => say!(self; "dimacs {}-max ", verb),
-            (TextKind::Min, Some(_)) => say!(self; "dimacs {}-min ", verb),
-            (_, Some(_)) => say!(self; "dimacs solve-paths "),
-            _ => say!(self; "dimacs {}-infeasible ", verb),
-        }
-        self.write_word(instance);
-        if let Some(claim) = claim {
-            say!(self; " ");
-            self.write_word(claim);
-        }
-        if instance.kind == TextKind::Graph {
-            say!(self; " LABELS");
+        let name = Typed(instance.file);
+        match (instance.kind, self.page.texts.claim()) {
+            _ if !is_file(instance.file) => say!(self; "{} it\n", verb),
+            (TextKind::Graph, Ok(queries)) => self.write_paths(instance, queries)?,
+            (TextKind::Min, Ok(claim)) =>
+                say!(self; "run dimacs {}-min {} {}{}\n", verb, name, Typed(claim.file), last),
+            (_, Ok(claim)) =>
+                say!(self; "run dimacs {}-max {} {}{}\n", verb, name, Typed(claim.file), last),
+            _ => say!(self; "run dimacs certify-infeasible {}\n", name),
         }
         Ok(())
     }
 
-    /// Writes the name of a file as a word of a command: in quotes if a shell may take it for several.
-    fn write_word(&mut self, text: TextFile<'a>) {
-        let is_plain = |byte: u8| byte.is_ascii_alphanumeric() || b"\0+-./_".contains(&byte);
-        let quote = if text.file.bytes().all(is_plain) {
-            ""
-        } else {
-            "'"
+    /// Writes the command that finds distances, or decides those that are given: a solver takes no negative WEIGHT.
+    fn write_paths(&mut self, graph: TextFile<'a>, queries: TextFile<'a>) -> Said<'a> {
+        let file = self.page.texts.certificate()?.file;
+        let distances = TextFile {
+            kind: TextKind::Distances,
+            file,
         };
-        say!(self; "{}{}{}", quote, text, quote);
+        if self.page.has(distances, Wanted::Problem) {
+            say!(self; "run dimacs certify-paths {} {}\n", Typed(graph.file), Typed(file));
+        } else if self.page.has(graph, Wanted::NegativeWeight) {
+            say!(self; "drop PRED and RADIUS, and run dimacs certify-paths {} DISTANCES\n", Typed(graph.file));
+        } else {
+            say!(self; "run dimacs solve-paths {} {} LABELS\n", Typed(graph.file), Typed(queries.file));
+        }
+        Ok(())
     }
 
     pub(crate) fn explain_balance(&mut self, node: u32) -> Said<'a> {
@@ -293,19 +282,22 @@ impl<'a, A: Reopen> Explanation<'a, A> {
         }
     }
 
-    /// Writes that no flow is feasible if the supplies or the arcs of a node show that, and the command that decides it.
+    /// Writes whether the supplies or a node's arcs show that no flow is feasible, and what decides it if the flow 0 isn't.
     fn write_feasible(&mut self, instance: TextFile<'a>, node: u32) -> Said<'a> {
         let min = self.min_instance()?;
         let (sums, supply) = (min.supply_sums(), i128::from(min.supply(node)));
         let all = sums.supplied.saturating_sub(sums.demanded);
         let (least, most) = range_at(min.network(), node);
+        let mut why = "to show it by a set";
         if all != 0 {
             say!(self; "the supplies add up to {}, and not to 0: no flow is feasible\n", all);
         } else if supply < least || supply > most {
             say!(self; "the arcs of node {} can carry {} to {} out of it: no flow is feasible\n", Node(node), least, most);
+        } else {
+            why = "to find out whether any flow is feasible";
         }
-        if !instance.is_of_arrays() {
-            say!(self; "dimacs certify-infeasible {} shows whether any flow is feasible\n", instance);
+        if is_file(instance.file) && self.page.has(instance, Wanted::NotMetBy0) {
+            say!(self; "{}, run dimacs certify-infeasible {}\n", why, Typed(instance.file));
         }
         Ok(())
     }

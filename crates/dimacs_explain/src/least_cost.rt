@@ -7,7 +7,7 @@ use dimacs_instance::MinInstance;
 use dimacs_judging::Flow;
 use dimacs_network::{ArcView, Network};
 use dimacs_quote::Value::{Arc, Node, Operand};
-use dimacs_quote::{Prose, Reopen, say};
+use dimacs_quote::{Prose, Reopen, Said, TextFile, say};
 use std::alloc::Global;
 
 /// What the flow of an arc costs.
@@ -16,7 +16,6 @@ struct ArcCost {
     cost: i128,
     amount: i64,
     arc: ArcView,
-    /// The index of the arc.
     index: u32,
 }
 
@@ -52,7 +51,6 @@ fn next_cost<N: Network>(network: &N, flow: &Flow, last: Option<ArcCost>) -> Opt
     next
 }
 
-/// What a flow costs.
 pub(crate) fn cost_of<N: Network>(network: &N, flow: &Flow) -> i128 {
     let mut sum = 0i128;
     for i in 0..network.arcs() {
@@ -79,7 +77,6 @@ fn supply_sum<N: Network>(alloc: Global, min: &MinInstance<N>, potentials: &Pote
     sum
 }
 
-/// The reduced cost of an arc whose ends have these potentials.
 pub(crate) fn reduced_cost(arc: ArcView, tail: i128, head: i128) -> i128 {
     let cost = i128::from(arc.cost);
     cost.saturating_sub(tail).saturating_add(head)
@@ -103,13 +100,25 @@ fn reduced_sum<N: Network>(alloc: Global, network: &N, potentials: &Potentials) 
     sum
 }
 
+/// Whether potentials of the opposite sign are slack for a flow. By those, the ends of an arc change places.
+fn are_opposite<N: Network>(network: &N, flow: &Flow, potentials: &Potentials) -> bool {
+    for i in 0..network.arcs() {
+        let arc = network.arc(i);
+        let reduced = reduced_cost(arc, potentials.of(arc.head), potentials.of(arc.tail));
+        let paid = number_of(arc, paid_bound(reduced));
+        if reduced != 0 && ArcCost::of(arc, flow, i).amount != paid {
+            return false;
+        }
+    }
+    true
+}
+
 /// The bound at which a reduced cost is paid least.
 pub(crate) fn paid_bound(reduced: i128) -> &'static str {
     if reduced > 0 { "LOW" } else { "CAP" }
 }
 
 impl<'a, A: Reopen> Explanation<'a, A> {
-    /// Explains that a flow costs least by potentials that are slack for it.
     pub(crate) fn explain_least<N: Network>(
         &mut self,
         min: &MinInstance<N>,
@@ -119,6 +128,17 @@ impl<'a, A: Reopen> Explanation<'a, A> {
         let least = reduced_sum(self.page.alloc, min.network(), potentials);
         self.write_bound(&fixed, &least);
         self.write_tight(min.network(), potentials);
+    }
+
+    /// Writes that a flow costs least by the opposite of potentials that don't show it, if that is so.
+    pub(crate) fn write_opposite(&mut self, certificate: TextFile<'a>) -> Said<'a> {
+        let potentials = self.potentials(&mut self.page.source(certificate)?)?;
+        let min = self.min_instance()?;
+        let flow = self.flow(min.network(), &self.solution()?)?;
+        if are_opposite(min.network(), &flow, &potentials) {
+            say!(self; "with the opposite sign of each VALUE, the potentials show the claim\n");
+        }
+        Ok(())
     }
 
     /// Writes the cost as a sum, the arcs whose cost is greatest in size first.
@@ -148,7 +168,6 @@ impl<'a, A: Reopen> Explanation<'a, A> {
         say!(self; ", the cost\n");
     }
 
-    /// Writes what each feasible flow costs at least.
     fn write_bound(&mut self, fixed: &Sum, least: &Sum) {
         let mut bound = Sum::new(self.page.alloc);
         bound.add(fixed.total);
@@ -174,8 +193,7 @@ impl<'a, A: Reopen> Explanation<'a, A> {
         say!(self; ": no flow costs less\n");
     }
 
-    /// Writes on how many arcs another flow of this cost can differ, and the first of them: the others carry the bound
-    /// at which their reduced cost is paid least.
+    /// Writes on which arcs another flow of this cost can differ: the others carry the bound that is paid least.
     fn write_tight<N: Network>(&mut self, network: &N, potentials: &Potentials) {
         let mut list = Prose::new(self.page.alloc);
         let mut count = 0u64;

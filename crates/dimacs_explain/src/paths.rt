@@ -1,15 +1,13 @@
 //! Explains the tests of labels, distances and queries.
 
-use crate::blocks::{ArcInto, Unreached, failing_ends, first_unreached, lightest, only_source};
+use crate::blocks::{ArcInto, Unreached, failing_ends, first_unreached, lightest};
 use crate::explanation::Explanation;
 use crate::flows::arc_of;
+use crate::routes::REACHED;
 use dimacs_lines::Memory;
 use dimacs_quote::Value::{Arc, Node};
 use dimacs_quote::{OrStop, Reopen, Said, TextFile, Wanted, say};
 use dimacs_records::TextKind;
-
-/// The most sources of blocks that are listed.
-const SHOWN_SOURCES: usize = 5;
 
 impl<'a, A: Reopen> Explanation<'a, A> {
     /// Quotes the line of a node in the block from this source, and begins a sentence about the block.
@@ -23,7 +21,6 @@ impl<'a, A: Reopen> Explanation<'a, A> {
         Ok(())
     }
 
-    /// Explains that a graph has a negative WEIGHT where none is allowed.
     pub(crate) fn explain_negative(&mut self, number: u32) -> Said<'a> {
         let arc = self.quote_arc(number)?;
         let who = self.page.words(
@@ -40,15 +37,14 @@ impl<'a, A: Reopen> Explanation<'a, A> {
         let text = self.page.texts.tested()?;
         let ends = failing_ends(&self.labels(text)?, arc).ok_or(text.unread())?;
         // A head without a line has to have one, by that of the tail.
-        let id = if ends.head.is_some() {
-            arc.head
-        } else {
-            arc.tail
-        };
+        let id = ends.head.map_or(arc.tail, |_| arc.head);
         self.quote_label(text, ends.source, id)?;
         let (tail, head) = (Node(arc.tail), Node(arc.head));
         say!(self; "arc {} leads from node {}, at distance {}, to node {} with the WEIGHT {}: node {} is at distance {} at most",
             Arc(number), tail, ends.tail, head, arc.cost, head, ends.sum);
+        if let (None, Some(radius)) = (ends.head, ends.radius) {
+            say!(self; ", within the RADIUS, {}", radius);
+        }
         let (name, verb) = match text.kind {
             _ if text.is_of_arrays() => ("distance", "is"),
             TextKind::Distances => ("d line", "says"),
@@ -92,7 +88,7 @@ impl<'a, A: Reopen> Explanation<'a, A> {
                 }
             }
             None if is_distance => {
-                if let Some(source) = only_source(&labels, node) {
+                if let Some(source) = self.too_near_from(&labels, node)? {
                     self.quote_label(text, source, node)?;
                 }
                 say!(self; "the arcs that lead to the distance of node {} come from nodes that no walk from the source reaches at theirs\n",
@@ -104,13 +100,9 @@ impl<'a, A: Reopen> Explanation<'a, A> {
             let advice = self.page.words("leave its line out", "it has no distance");
             say!(self; "if no walk leads to node {}, {}\n", Node(node), advice);
         }
-        if is_distance {
-            return Ok(());
-        }
         self.write_open()
     }
 
-    /// Writes that no arc gives a distance.
     fn write_distance(&mut self, it: Unreached) {
         say!(self; "no arc leads to node {} at distance {}: ", Node(it.label.id), it.label.dist);
         match it.least {
@@ -153,7 +145,7 @@ impl<'a, A: Reopen> Explanation<'a, A> {
             return Ok(());
         }
         say!(self; "{} has no block from source {} that serves the query; its blocks are from", text, Node(node));
-        for block in blocks.iter().take(SHOWN_SOURCES) {
+        for block in blocks.iter().take(REACHED) {
             say!(self; " {}", Node(block.source()));
             if block.radius().is_some() {
                 say!(self; " (up to a RADIUS, which serves no ss query)");

@@ -1,15 +1,13 @@
 //! Explains why no label before has the PRED of a label.
 
 use crate::explanation::Explanation;
+use crate::sums::SHOWN;
 use dimacs_lines::Memory;
 use dimacs_network::{NodeMap, NodeSet};
 use dimacs_quote::Value::Node;
 use dimacs_quote::{OrStop, Reopen, Said, TextFile, say};
 use dimacs_records::{At, Record, TextKind};
 use std::alloc::Global;
-
-/// The most nodes of a cycle that are shown.
-const SHOWN: usize = 6;
 
 /// The PREDs of the labels of a block; 0 of its source.
 type Preds = NodeMap<u32>;
@@ -64,7 +62,6 @@ impl<'a, A: Reopen> Explanation<'a, A> {
         Ok(())
     }
 
-    /// Writes the first nodes of a circle of PREDs.
     fn write_circle(&mut self, preds: &Preds, first: u32) {
         say!(self; "the PREDs lead in a circle, so that no order fits: {}", Node(first));
         let mut node = first;

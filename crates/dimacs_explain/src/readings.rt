@@ -1,7 +1,10 @@
 //! The values of a run's texts, read again.
 
 use crate::explanation::Explanation;
-use dimacs_claims::{Cut, Labels, Solution, read_cut, read_distances, read_labels, read_solution};
+use dimacs_claims::{
+    Cut, Labels, Potentials, Solution, read_cut, read_distances, read_labels, read_potentials,
+    read_solution,
+};
 use dimacs_instance::{
     Graph, MaxInstance, MinInstance, read_plain_graph, read_plain_max, read_plain_min,
 };
@@ -33,32 +36,26 @@ impl<'a, A: Reopen> Explanation<'a, A> {
     }
 
     pub(crate) fn flow<N: Network>(&self, network: &N, solution: &Solution) -> OrStop<'a, Flow> {
-        let Ok(flow) = flow_of(self.page.alloc, network, solution) else {
-            return Err(Stop::Done);
-        };
-        Ok(flow)
+        flow_of(self.page.alloc, network, solution).map_err(|_| Stop::Done)
     }
 
     pub(crate) fn set<R: Source>(&self, certificate: &mut R) -> OrStop<'a, Cut> {
-        let Ok(set) = read_cut(self.page.alloc, certificate) else {
-            return Err(Stop::Done);
-        };
-        Ok(set)
+        read_cut(self.page.alloc, certificate).map_err(|_| Stop::Done)
+    }
+
+    pub(crate) fn potentials<R: Source>(&self, certificate: &mut R) -> OrStop<'a, Potentials> {
+        read_potentials(self.page.alloc, certificate).map_err(|_| Stop::Done)
     }
 
     /// Labels, or distances as labels.
     pub(crate) fn labels(&self, text: TextFile<'a>) -> OrStop<'a, Labels> {
         let mut source = self.page.source(text)?;
         let labels = match text.kind {
-            TextKind::Distances => match read_distances(self.page.alloc, &mut source) {
-                Ok(distances) => Ok(distances.into_labels()),
-                Err(error) => Err(error),
-            },
+            TextKind::Distances => read_distances(self.page.alloc, &mut source).map(
+                |it| it.into_labels(),
+            ),
             _ => read_labels(self.page.alloc, &mut source),
         };
-        match labels {
-            Ok(labels) => Ok(labels),
-            Err(_) => Err(Stop::Memory),
-        }
+        labels.map_err(|_| Stop::Memory)
     }
 }

@@ -46,9 +46,12 @@ impl<'a, A: Reopen> Explanation<'a, A> {
             Err(Stop::Unread(file)) => self.page.write_unread(file),
             Err(Stop::Done) | Ok(()) => (),
         }
-        for file in self.page.texts.emptied() {
-            say!(self; "{} is empty: a solve run creates the files that it writes, or empties them, before it reads the others\n",
-                Value::File(file.as_str()));
+        let emptied = self.page.texts.emptied();
+        for (k, file) in emptied.iter().enumerate() {
+            if !emptied.get(..k).unwrap_or_default().contains(file) {
+                say!(self; "{} is empty: a solve run creates the files that it writes, or empties them, before it reads the others\n",
+                    Value::File(file.as_str()));
+            }
         }
     }
 
@@ -64,7 +67,6 @@ impl<'a, A: Reopen> Explanation<'a, A> {
         all
     }
 
-    /// Explains a test that failed.
     fn explain_test(&mut self, place: Where, reason: Reason) -> Said<'a> {
         // The field of the solution, and the number of the arc or the ID of the node; 0 stands for none.
         let (line, field, number) = match place {
@@ -105,9 +107,6 @@ impl<'a, A: Reopen> Explanation<'a, A> {
         self.page.quote_there(instance, Wanted::Problem)?;
         self.page.quote_there(tested, Wanted::Problem)?;
         say!(self; "NODES of the two differ: they are not of one instance\n");
-        match tested.kind {
-            TextKind::Distances => Ok(()),
-            _ => self.write_open(),
-        }
+        self.write_open()
     }
 }

@@ -12,8 +12,8 @@ use std::alloc::Global;
 /// The most routes that are shown.
 const ROUTES: usize = 10;
 
-/// The most nodes that are shown beside a source that reaches them.
-const REACHED: usize = 5;
+/// The most nodes that are shown beside a source that reaches them, and the most sources of blocks.
+pub(crate) const REACHED: usize = 5;
 
 /// The ends of a route: those of the query with this index; without queries, of the block. Without a second end it leads
 /// to the farthest node.
@@ -112,7 +112,6 @@ impl<'a, A: Reopen> Explanation<'a, A> {
         Ok(false)
     }
 
-    /// Writes the first nodes that the source reaches.
     fn write_reached(&mut self, block: &Block) {
         let (source, labels) = (block.source(), block.labels());
         say!(self; ": no arc leads out of the nodes that {} reaches, {}: {}",
@@ -143,7 +142,6 @@ impl<'a, A: Reopen> Explanation<'a, A> {
         Ok(true)
     }
 
-    /// Writes that no node but the source has a label.
     fn write_alone(&mut self, block: &Block) {
         let source = block.source();
         match block.radius() {

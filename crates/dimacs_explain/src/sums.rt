@@ -39,7 +39,6 @@ impl Sum {
         self.total.unwrap_or(0)
     }
 
-    /// Whether the next number is shown.
     pub(crate) fn shows_next(&self) -> bool {
         self.count < SHOWN
     }
@@ -107,7 +106,6 @@ pub(crate) fn bound(name: &str, number: i64) -> Value<'static> {
     }
 }
 
-/// The sum of two numbers; none if one isn't there, or the sum doesn't fit 128 bits.
 fn plus(one: Option<i128>, other: Option<i128>) -> Option<i128> {
     one?.checked_add(other?)
 }

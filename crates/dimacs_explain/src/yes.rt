@@ -4,7 +4,7 @@ ghost use Rattle.std.specs.Prelude.{IfOk};
 ghost use Rattle.dimacs_instance.specs.QueryTexts.{AreLawful, asked};
 
 use crate::explanation::Explanation;
-use dimacs_claims::{Labels, Potentials, read_labels, read_potentials};
+use dimacs_claims::{Labels, Potentials, read_labels};
 use dimacs_instance::{MinInstance, Queries, read_queries};
 use dimacs_judging::{
     Flow, JudgeError, Verdict, index_for, judge_infeasible, judge_max, judge_min, judge_paths,
@@ -15,7 +15,6 @@ use dimacs_quote::{OrStop, Prose, Reopen, Said, Stop, TextFile, Wanted, say};
 
 const LEFT_OUT: &str = "a text has changed, can't be read twice, or memory ran out";
 
-/// The verdict on texts that are read again.
 fn judged<'a>(answer: Result<Verdict, JudgeError>) -> OrStop<'a, Verdict> {
     answer.map_err(|_| Stop::Done)
 }
@@ -33,7 +32,6 @@ impl<'a, A: Reopen> Explanation<'a, A> {
         }
     }
 
-    /// Writes why no numbers are shown.
     fn write_left_out(&mut self) {
         let reason = self.page.words(LEFT_OUT, "memory ran out");
         match self.replaced() {
@@ -48,10 +46,8 @@ impl<'a, A: Reopen> Explanation<'a, A> {
         let claim = self.page.texts.claim().ok()?;
         let kind = self.page.texts.certificate().ok()?.kind;
         let is_read = self.page.texts.emptied().is_empty();
-        match self.page.find(TextFile { kind, ..claim }, Wanted::Problem) {
-            Ok(Some(_)) if is_read => Some(claim),
-            _ => None,
-        }
+        let is_replaced = self.page.has(TextFile { kind, ..claim }, Wanted::Problem);
+        Some(claim).filter(|_| is_read && is_replaced)
     }
 
     /// Writes what shows the yes, if the texts, read again, give it.
@@ -84,15 +80,13 @@ impl<'a, A: Reopen> Explanation<'a, A> {
     }
 
     fn least<R: Source>(&mut self, certificate: &mut R) -> OrStop<'a, Verdict> {
-        let potentials = read_potentials(self.page.alloc, certificate).map_err(|_| Stop::Done)?;
-        let min = self.min_instance()?;
+        let (potentials, min) = (self.potentials(certificate)?, self.min_instance()?);
         let (verdict, flow) = self.judged_flow(&min, &potentials)?;
         self.write_cost(min.network(), &flow);
         self.explain_least(&min, &potentials);
         Ok(verdict)
     }
 
-    /// The verdict on the solution, and its flow.
     fn judged_flow<N: Network>(
         &self,
         min: &MinInstance<N>,
@@ -123,7 +117,6 @@ impl<'a, A: Reopen> Explanation<'a, A> {
         Ok(verdict)
     }
 
-    /// Labels to look queries up in.
     fn labels_for<R: Source>(&self, queries: &Queries, certificate: &mut R) -> OrStop<'a, Labels> {
         let mut labels = read_labels(self.page.alloc, certificate).map_err(|_| Stop::Done)?;
         index_for(queries, &mut labels)?;
