@@ -27,6 +27,7 @@ nothing | 0      | tools/crate_tables.py --check
 nothing | 380    | tests/promises.py
 nothing | 400    | tests/links.py
 nothing | 14     | tests/theorem.py
+nothing | 140    | tests/limits.py
 nothing | 110    | tests/man_pages.py
 program | 13800  | tests/referee.py {program}
 program | 48     | tests/coq_kernel.py {program}
