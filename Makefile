@@ -35,7 +35,7 @@ FOLDERS = PREFIX BINDIR LIBDIR INCLUDEDIR DATADIR MANDIR DOCDIR ZSHDIR DESTDIR
 
 # The folder of what is installed: what is proved, or with UNPROVED=1 what isn't.
 FROM = build$(if $(UNPROVED),/quick)
-MADE = $(if $(wildcard tools/man_pages.py),build/man)
+MADE = $(if $(wildcard tools/man_pages.py),build/man$(if $(UNPROVED),-unproved))
 
 ## make: proves the program and the library, and builds build/dimacs, build/libdimacs.a and build/libdimacs.so
 all: build/dimacs build/linked
@@ -116,10 +116,10 @@ linked: $(FROM)/dimacs_c.a
 %/linked: %/libdimacs.a %/libdimacs.so
 	cd $* && sha256sum dimacs_c.a libdimacs.a libdimacs.so.0 >linked
 
-build/man: tools/man_pages.py VERSION crates/dimacs/src/usage.rt $(wildcard man/*.md docs/*.md *.md recipes/README.md)
+build/man build/man-unproved: tools/man_pages.py VERSION crates/dimacs/src/usage.rt $(wildcard man/*.md docs/*.md *.md recipes/README.md)
 	rm -rf $@ $@.new
 	mkdir -p $@.new
-	tools/man_pages.py $@.new
+	tools/man_pages.py $@.new $(if $(filter %unproved,$@),unproved)
 	mv $@.new $@
 
 ## make dist: makes packages of what is proved in dist/, and tests them; MAINTAINER="Name <address>" is their contact

@@ -90,6 +90,9 @@ def test_install(its):
     folders = [at for at, _, _ in os.walk(f"{its.root}/usr/share")]
     its.expect("all may read the folders", all(stat.S_IMODE(os.stat(it).st_mode) == 0o755 for it in folders))
     its.expect("nothing lies beside usr", os.listdir(its.root) == ["usr"])
+    with open(f"{its.root}/usr/share/man/man1/dimacs.1", encoding="utf-8") as page:
+        says_proved = "every function is proved" in " ".join(page.read().split())
+    its.expect("the man page says that all is proved exactly if it is", says_proved == (not its.suffix))
 
 
 def test_moved(its):

@@ -68,7 +68,9 @@ programs() {
     tree "$DATADIR/dimacs/dimacs_draw/drawing" lib/python/dimacs/drawing
     copy 644 VERSION "$DATADIR/dimacs/dimacs_batch/VERSION"
     copy 755 referee/referee.py "$DATADIR/dimacs/referee.py"
-    for page in build/man/*.[15]; do
+    pages=build/man
+    case $VERSION in *+unproved) pages=build/man-unproved ;; esac
+    for page in "$pages"/*.[15]; do
         [ ! -e "$page" ] || put 644 "$MANDIR/man${page##*.}" "$page"
     done
     # bash and fish load a completion by the name of its command.

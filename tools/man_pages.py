@@ -1,5 +1,5 @@
 #!/usr/bin/env python3
-"""Writes the man pages: tools/man_pages.py OUT
+"""Writes the man pages: tools/man_pages.py OUT [unproved]
 
 The sources are man/*.md, in the Markdown that the other pages use, with three kinds of lines beside it:
 
@@ -7,7 +7,7 @@ The sources are man/*.md, in the Markdown that the other pages use, with three k
     @usage                      the commands of the usage text
     @version                    the version
 
-So no text has to stand in two places. OUT gets a page for each.
+So no text has to stand in two places. OUT gets a page for each. What they say of proofs isn't so of a build without.
 """
 import os
 import re
@@ -16,6 +16,7 @@ import sys
 from texts import read, write
 
 SOURCES = ["dimacs.1", "dimacs.5", "dimacs-batch.1", "dimacs-draw.1"]
+UNPROVED = ("every function is proved to meet its contract", "this build isn't proved to meet them")
 WIDTH, SHORT = 68, 12  # the most of a table, and of a column that isn't made narrower, in columns of text
 
 # Pages whose text stands in a man page.
@@ -242,11 +243,22 @@ def page(name):
     return text.replace(f"{itself} says", "this page says").replace(f"{itself} has", "this page has")
 
 
+def unproved(pages):
+    """The pages of a build that isn't proved."""
+    told, instead = UNPROVED
+    made = {name: re.sub(told.replace(" ", r"\s+"), instead, text) for name, text in pages.items()}
+    if made == pages:
+        sys.exit(f"no man page says that {told}")
+    return made
+
+
 def main():
-    if len(sys.argv) != 2 or sys.argv[1].startswith("-"):
-        sys.exit("tools/man_pages.py OUT")
-    for name in SOURCES:
-        write(os.path.join(os.path.abspath(sys.argv[1]), name), page(name))
+    out, *words = sys.argv[1:] or ["-"]
+    if out.startswith("-") or words not in ([], ["unproved"]):
+        sys.exit("tools/man_pages.py OUT [unproved]")
+    pages = {name: page(name) for name in SOURCES}
+    for name, text in (unproved(pages) if words else pages).items():
+        write(os.path.join(os.path.abspath(out), name), text)
 
 
 if __name__ == "__main__":
