@@ -10,7 +10,6 @@ import os
 import re
 import subprocess
 import sys
-import time
 
 TOP = os.path.dirname(os.path.dirname(os.path.abspath(__file__)))
 
@@ -120,14 +119,19 @@ def run(script, words):
 
 
 def run_all(jobs):
-    """Runs these calls side by side, prints a line for each as it ends, and what failed; what passed and failed in all."""
+    """Runs these calls side by side, prints a line for each as it ends, and what failed; what passed and failed in all.
+    After a minute in which none ended it prints how many are left."""
     passed = failed = 0
     with concurrent.futures.ThreadPoolExecutor(os.cpu_count()) as pool:
-        begun = {pool.submit(*it): time.monotonic() for it in jobs}
-        for it in concurrent.futures.as_completed(begun):
-            ran = it.result()
-            passed, failed = passed + ran.passed, failed + ran.failed
-            print(f"== {ran.name}: {ran.passed} passed, {ran.failed} failed", *ran.said, sep="\n", flush=True)
+        left = {pool.submit(*it) for it in jobs}
+        while left:
+            done, left = concurrent.futures.wait(left, 60, concurrent.futures.FIRST_COMPLETED)
+            for it in done:
+                ran = it.result()
+                passed, failed = passed + ran.passed, failed + ran.failed
+                print(f"== {ran.name}: {ran.passed} passed, {ran.failed} failed", *ran.said, sep="\n", flush=True)
+            if not done:
+                print(f"{len(left)} of {len(jobs)} are left", flush=True)
     return passed, failed
 
 

@@ -83,6 +83,7 @@ def calls_words(kit, room):
 def prove_all(listed, calls):
     """Proves each crate in turn, and builds the two at the top."""
     crates = order(listed)
+    print(f"proves {len(crates)} crates, in some two hours of processor time, and keeps each that is proved", flush=True)
     words = {"dimacs": ["rt", "run", "--", "show", "gr", "../../examples/road.gr"]}
     words["dimacs_c"] = calls
     for at, name in enumerate(crates):
