@@ -6,7 +6,10 @@ import pathlib
 import subprocess
 import sys
 
-import dimacs
+try:
+    import dimacs
+except ModuleNotFoundError as error:
+    sys.exit(f"{error}: it is in lib/python, so set PYTHONPATH, or use a plain recipe, which needs no package of dimacs")
 
 
 def arguments(doc):

@@ -9,10 +9,9 @@ edge or a node of the graph. It needs the package of docs/LIBRARY.md, installed 
 import pathlib
 import sys
 
+import command  # it says what to do if dimacs isn't there
 import dimacs
 import networkx as nx
-
-import command
 
 
 def main():

@@ -9,11 +9,10 @@ installed or on the path:
 """
 import sys
 
+import command  # it says what to do if dimacs isn't there
 import dimacs
 import numpy as np
 from scipy.sparse.csgraph import dijkstra
-
-import command
 
 
 def certify(graph, sources):

@@ -12,12 +12,13 @@ import tempfile
 import scripts
 from instances import BINARY
 
-# Each recipe, how it is built, what asks whether its package is there, and what is certified.
+# Each recipe, how it is built, what asks whether its package is there, and what is certified, by the command, in turn.
+TEXTS = "instance", "claim"
 CXX = "g++ -O2 -std=c++17 -o recipe"
 RECIPES = [
-    ("plain_networkx.py", "cp -t .", [sys.executable, "-c", "import networkx"], "max", "v max 12\n"),
-    ("plain_lemon.cpp", CXX, ["g++", "-E", "-include", "lemon/network_simplex.h", "-x", "c++", "/dev/null"], "min", "v min 14\n"),
-    ("plain_ortools.py", "cp -t .", [sys.executable, "-c", "import ortools"], "min", "v min 14\n"),
+    ("plain_networkx.py", "cp -t .", [sys.executable, "-c", "import networkx"], {"max": "v max 12\n", "paths": "v sp distances 1\n"}),
+    ("plain_lemon.cpp", CXX, ["g++", "-E", "-include", "lemon/network_simplex.h", "-x", "c++", "/dev/null"], {"min": "v min 14\n"}),
+    ("plain_ortools.py", "cp -t .", [sys.executable, "-c", "import ortools"], {"min": "v min 14\n"}),
 ]
 
 
@@ -32,16 +33,18 @@ def main():
         subprocess.run(["make", "--no-print-directory", "referee"], cwd=scripts.TOP, check=True)
         programs.append(f"{scripts.TOP}/build/referee/judge")
     counts = scripts.Counts()
-    for recipe, build, asks, command, verdict in RECIPES:
+    for recipe, build, asks, verdicts in RECIPES:
         if subprocess.run(asks, capture_output=True, check=False).returncode:
             print(f"not run: {recipe}: its package isn't there")
             continue
         with tempfile.TemporaryDirectory() as folder:
             subprocess.run([*build.split(), f"{scripts.TOP}/recipes/{recipe}"], cwd=folder, check=True)
             made = ["./recipe"] if build == CXX else [sys.executable, recipe]
-            subprocess.run([*made, "instance", "solution"], cwd=folder, check=True)
-            answers = [printed([program, f"certify-{command}", "instance", "solution", "made"], folder) for program in programs]
-            counts.expect(recipe, answers == [verdict] * len(programs), answers)
+            subprocess.run([*made, *(f"{it}.{command}" for command in verdicts for it in TEXTS)], cwd=folder, check=True)
+            for command, verdict in verdicts.items():
+                words = [f"certify-{command}", *(f"{it}.{command}" for it in TEXTS), "made"]
+                answers = [printed([program, *words], folder) for program in programs]
+                counts.expect(f"{recipe} {command}", answers == [verdict] * len(programs), answers)
     counts.end()
 
 
