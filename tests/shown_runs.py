@@ -71,6 +71,10 @@ def cases(binary):
             is_so = is_shown(ran.stdout.rstrip("\n").split("\n"), lines) and (ran.returncode, ran.stderr) == (status(lines), "")
             told = f"status {ran.returncode}, prints\n{ran.stdout}{ran.stderr}"
             yield f"{page}: {program} {' '.join(words)}: {told}", is_so
+        left = set(os.listdir(place)) - {"examples"}
+        ran = subprocess.run(["git", "check-ignore", "--no-index", *left], capture_output=True, text=True, check=False)
+        left -= set(ran.stdout.splitlines())
+        yield f"what runs leave isn't ignored by git: {left}", not left or not os.path.exists(".git")
 
 
 def main():
