@@ -45,6 +45,9 @@ def main():
                 words = [f"certify-{command}", *(f"{it}.{command}" for it in TEXTS), "made"]
                 answers = [printed([program, *words], folder) for program in programs]
                 counts.expect(f"{recipe} {command}", answers == [verdict] * len(programs), answers)
+    asked = [sys.executable, "-c", "import sys; sys.modules['dimacs'] = None; import command"]
+    told = printed(asked, f"{scripts.TOP}/recipes")
+    counts.expect("a missing package is a sentence", "Traceback" not in told and "lib/python" in told, told)
     counts.end()
 
 

@@ -30,7 +30,7 @@ nothing | 140    | tests/limits.py
 nothing | 110    | tests/man_pages.py
 program | 13800  | tests/referee.py {program}
 program | 48     | tests/coq_kernel.py {program}
-program | 3      | tests/plain_recipes.py {program}
+program | 4      | tests/plain_recipes.py {program}
 program | 290    | tests/batch.py {program}
 program | 150    | tests/large_runs.py {program}
 program | 40     | tests/malicious.py {program} 50000
