@@ -91,7 +91,7 @@ CLOSED = [
 # want of memory.
 USAGE = {
     "convert foo road": r"dimacs: usage\nno kind foo\nPrints the canonical form\n\nUsage: dimacs convert KIND FILE\n.*",
-    "foo road": r"dimacs: usage\nno command foo\ndimacs \d.*\nUsage: dimacs COMMAND FILE\.\.\.\n.*\n  convert KIND FILE .*\n",
+    "foo road": r"dimacs: usage\nno command foo\nUsage: dimacs COMMAND FILE\.\.\.\n\n`dimacs help` lists the commands\n",
 }
 NO_TEXT = "dimacs: usage\n"
 

@@ -1,14 +1,16 @@
 #!/usr/bin/env python3
-"""Asks for help and the version, and gives arguments that ask for nothing: tests/usage.py [BINARY]
+"""Asks for help and the version, and gives arguments that ask for nothing or are a slip: tests/usage.py [BINARY]
 
 Help goes to the standard output, with the status 0, and what is wrong with arguments to the standard error, after the
 line `dimacs: usage` and before a usage text, with the status 2. BINARY is the built program; crates/dimacs/out/dimacs by
 default.
 """
 import os
+import pathlib
 import re
 import subprocess
 import sys
+import tempfile
 
 import scripts
 from instances import BINARY
@@ -25,7 +27,9 @@ ASKED = [
     ("-V", VERSION),
 ]
 
-# Arguments that ask for nothing: what is wrong with them, and the command whose usage follows; none if that of all does.
+NONE = r"Usage: dimacs COMMAND FILE\.\.\.\n\n`dimacs help` lists the commands\n"
+
+# Arguments that ask for nothing: what is wrong with them, and the command whose usage follows, if they name one.
 WRONG = [
     (["judgemax"], "no command judgemax: judge-max?", None),
     (["judgemax", "a", "b", "c"], "no command judgemax: judge-max?", None),
@@ -34,6 +38,7 @@ WRONG = [
     (["explain", "judgemax", "a"], "no command judgemax: judge-max?", None),
     (["--halp"], "no command --halp", None),
     ([""], "no command ", None),
+    (["\x1b\n"], r"no command \x1b\x0a", None),
     (["judge-max", "a", "b"], "judge-max takes 3 files: INSTANCE SOLUTION CUT; 2 were given", "judge-max"),
     (["judge-max", "--help"], "judge-max takes 3 files: INSTANCE SOLUTION CUT; 1 was given", "judge-max"),
     (["judge-infeasible"], "judge-infeasible takes 2 files: INSTANCE CUT; 0 were given", "judge-infeasible"),
@@ -61,6 +66,29 @@ WRONG = [
     (["judge-max", "a", "b", b"\xff"], "an argument isn't UTF-8", None),
 ]
 
+# Runs over an instance i and a solution s, which is linked too, whose target is likely a slip: the words, and what is
+# said of it. None does anything but what solves: its files are named, and it goes on.
+SLIPS = [
+    ("certify-max i s ./i", "INSTANCE and CERTIFICATE are the same file: ./i"),
+    ("certify-max i s linked", "SOLUTION and CERTIFICATE are the same file: linked"),
+    ("certify-min i s s", "SOLUTION and CERTIFICATE are the same file: s"),
+    ("certify-infeasible i i", "INSTANCE and CERTIFICATE are the same file: i"),
+    ("certify-paths i s s", "DISTANCES and LABELS are the same file: s"),
+    ("spread-max i s i", "INSTANCE and OUT are the same file: i"),
+    ("explain certify-max i s s", "SOLUTION and CERTIFICATE are the same file: s"),
+    ("explain solve-max i s i", "INSTANCE and CUT are the same file: i"),
+    ("certify-max i s --version", "CERTIFICATE looks like an option: --version; ./--version names a file"),
+    ("spread-max i s --help", "OUT looks like an option: --help; ./--help names a file"),
+    ("explain solve-max i s --limit", "CUT looks like an option: --limit; ./--limit names a file"),
+    ("solve-max i s i", "INSTANCE and CUT are the same file: i"),
+    ("solve-paths i s ./s", "QUERY and LABELS are the same file: ./s"),
+    ("solve-max i s --limit", "CUT looks like an option: --limit; ./--limit names a file"),
+    ("certify-max i s ./--version", None),
+    ("spread-max i s linked", None),
+    ("certify-max i s /dev/null", None),
+    ("judge-max i s s", None),
+]
+
 
 def usages():
     """The words of each command in the table of usage.rt, by its name."""
@@ -73,8 +101,8 @@ def usage_of(words):
     return rf".+\n\nUsage: dimacs {re.escape(words)}\n.*"
 
 
-def run(binary, words):
-    ran = subprocess.run([binary, *words], capture_output=True, check=False)
+def run(binary, words, folder="."):
+    ran = subprocess.run([binary, *words], capture_output=True, check=False, cwd=folder)
     return ran.returncode, ran.stdout.decode(), ran.stderr.decode()
 
 
@@ -94,12 +122,15 @@ def cases(binary):
         status, printed, complaint = answer = run(binary, words.split())
         yield words, answer, status == 0 and is_like(printed, pattern) and is_narrow(printed) and not complaint
     for words, line, command in WRONG:
-        usage = usage_of(commands[command]) if command else WHOLE
+        usage = usage_of(commands[command]) if command else NONE
         status, printed, complaint = answer = run(binary, words)
         wanted = f"dimacs: usage\n{re.escape(line)}\n{usage}"
         yield words, answer, status == 2 and not printed and is_like(complaint, wanted)
     status, printed, complaint = answer = run(binary, [])
     yield "no arguments", answer, status == 2 and not printed and is_like(complaint, f"dimacs: usage\n{WHOLE}")
+    complaint = "dimacs: device fault\ndimacs: a\\x1b\\x0a: cannot be opened: No such file or directory (os error 2)\n"
+    answer = run(binary, ["show", "max", "a\x1b\n"])
+    yield "a name that can't be seen", answer, answer == (3, "", complaint)
     for words in (["help"], ["--version"]):
         with open("/dev/full", "wb") as full:
             ran = subprocess.run([binary, *words], stdout=full, stderr=subprocess.PIPE, check=False)
@@ -107,9 +138,29 @@ def cases(binary):
         yield f"{words} to a full device", ran, ran.returncode == 3 and ran.stderr.decode() == right
 
 
+def slips(binary):
+    """Yields what was asked of files that are likely a slip, the answer, and whether that is right."""
+    for words, line in SLIPS:
+        with tempfile.TemporaryDirectory() as folder:
+            texts = {"i": "p max 2 1\nn 1 s\nn 2 t\na 1 2 3\n", "s": "s 3\nf 1 2 3\n"}
+            for name, text in texts.items():
+                pathlib.Path(folder, name).write_text(text, encoding="ascii")
+            os.link(f"{folder}/s", f"{folder}/linked")
+            status, printed, complaint = answer = run(binary, words.split(), folder)
+            left = {it.name: it.read_text(encoding="ascii") for it in pathlib.Path(folder).iterdir()}
+        if not line:
+            is_right = status != 2 and not complaint
+        elif words.startswith("solve"):
+            is_right = status != 2 and complaint == f"dimacs: {line}\n"
+        else:
+            is_right = complaint.startswith(f"dimacs: usage\n{line}\n") and (status, printed) == (2, "")
+            is_right = is_right and left == {**texts, "linked": texts["s"]}
+        yield words, answer, is_right
+
+
 def main():
     binary = os.path.abspath(sys.argv[1] if len(sys.argv) > 1 else BINARY)
-    scripts.end_with((f"{words}: {answer}", is_right) for words, answer, is_right in cases(binary))
+    scripts.end_with((f"{words}: {answer}", is_right) for words, answer, is_right in [*cases(binary), *slips(binary)])
 
 
 if __name__ == "__main__":

@@ -7,14 +7,17 @@
 mod files;
 mod kept;
 mod misuse;
+mod targets;
 mod usage;
 
 use crate::files::SystemFiles;
-use crate::misuse::{complaint_of, complaint_of_bytes};
+use crate::misuse::{complaint_of, complaint_of_bytes, complaint_of_slip};
+use crate::targets::Slip;
 use crate::usage::Command;
 use dimacs_lines::{FileSink, Sink, put_all};
+use dimacs_quote::Shown;
 use dimacs_runs::{
-    CommandError, Failure, NO_RUN, Request, RunError, Status, command_status, complaint,
+    CommandError, Failure, Job, NO_RUN, Request, RunError, Status, command_status, complaint,
     exit_status, explain_job, request, run_job, version,
 };
 use std::alloc::{AllocError, Global};
@@ -50,6 +53,11 @@ fn run(rt: &HostRuntime, arguments: &[String]) -> u8 {
     let Some(wanted) = request(arguments) else {
         return refuse(rt, complaint_of(rt.alloc(), arguments));
     };
+    let slip = Slip::of(rt, arguments, wanted);
+    match (wanted, slip) {
+        (Request::Run(Job::Solve(..)), _) | (_, None) => {}
+        (_, Some(slip)) => return refuse(rt, complaint_of_slip(rt.alloc(), arguments, slip)),
+    }
     let mut files = match wanted {
         Request::Explain(_) => SystemFiles::that_keep(rt),
         _ => SystemFiles::new(rt),
@@ -74,7 +82,10 @@ fn run(rt: &HostRuntime, arguments: &[String]) -> u8 {
     if let Request::Run(job) | Request::Explain(job) = wanted
         && let Some(name) = job.written_twice()
     {
-        let _ = eprintln!(rt; "dimacs: {name}: written twice");
+        let _ = eprintln!(rt; "dimacs: {}: written twice", Shown(name));
+    }
+    if let Some(slip) = slip {
+        let _ = eprintln!(rt; "dimacs: {slip}");
     }
     status
 }
@@ -140,7 +151,7 @@ fn complain(rt: &HostRuntime, status: u8) {
 
 /// Writes to the standard error what failed, and the reason, if it is known.
 fn print_failure(rt: &HostRuntime, failure: Failure<'_>, reason: Option<io::Error>) {
-    let name = failure.device();
+    let name = Shown(failure.device());
     let call = failure.call();
     let _ = match reason {
         Some(reason) => eprintln!(rt; "dimacs: {name}: {call}: {reason}"),

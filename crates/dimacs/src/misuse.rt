@@ -1,7 +1,9 @@
-//! What is wrong with arguments that ask for nothing. `dimacs_runs::request` decides that they do.
+//! What is wrong with arguments. `dimacs_runs::request` decides whether they ask for anything.
 
+use crate::targets::Slip;
 use crate::usage;
 use crate::usage::{COMMANDS, Command, KINDS};
+use dimacs_quote::Shown;
 use std::alloc::{AllocError, Global};
 use strsim::osa_distance;
 
@@ -22,15 +24,15 @@ impl Misuse {
         }
     }
 
-    /// The line, and the usage of the command that the arguments name, or of all.
+    /// The line, and the usage of the command that the arguments name, or where to find it; of all without a line.
     fn text(self, alloc: Global) -> Result<String, AllocError> {
+        if self.line.is_empty() {
+            return usage::of_all(alloc);
+        }
         let usage = match self.command {
             Some(command) => usage::of_one(alloc, command)?,
-            None => usage::of_all(alloc)?,
+            None => usage::of_none(alloc)?,
         };
-        if self.line.is_empty() {
-            return Ok(usage);
-        }
         format!(in alloc; "{}\n{usage}", self.line)
     }
 }
@@ -38,6 +40,19 @@ impl Misuse {
 /// The complaint of arguments that ask for nothing, given without the program's name.
 pub fn complaint_of(alloc: Global, arguments: &[String]) -> Result<String, AllocError> {
     misuse_of(alloc, arguments)?.text(alloc)
+}
+
+/// The complaint of a slip.
+pub fn complaint_of_slip(
+    alloc: Global,
+    arguments: &[String],
+    slip: Slip<'_>,
+) -> Result<String, AllocError> {
+    let misuse = Misuse {
+        line: format!(in alloc; "{slip}")?,
+        command: Command::among(arguments),
+    };
+    misuse.text(alloc)
 }
 
 /// The complaint of arguments that aren't text.
@@ -141,12 +156,7 @@ fn unknown(
     given: &str,
     words: &[&'static str],
 ) -> Result<String, AllocError> {
-    let mut line = format!(in alloc; "no {what} ")?;
-    if given.chars().any(|it| it.is_control()) {
-        write!(line, "{given:?}")?;
-    } else {
-        line.push_str(given)?;
-    }
+    let mut line = format!(in alloc; "no {what} {}", Shown(given))?;
     if let Some(word) = nearest(alloc, given, words)? {
         write!(line, ": {word}?")?;
     }

@@ -17,6 +17,16 @@ impl Command {
             .find(|command| command.name() == name)
     }
 
+    /// The command that arguments name, which may follow `explain`.
+    pub fn among(arguments: &[String]) -> Option<Command> {
+        let first = arguments.first()?;
+        let name = match first.as_str() {
+            "explain" => arguments.get(1)?,
+            _ => first,
+        };
+        Command::named(name.as_str())
+    }
+
     /// The word that names it.
     pub fn name(self) -> &'static str {
         self.0.split(' ').next().unwrap_or(self.0)
@@ -26,6 +36,12 @@ impl Command {
     pub fn files(self) -> &'static str {
         let files = self.0.split_once(' ').map_or("", |(_, files)| files);
         files.strip_suffix(LIMIT).unwrap_or(files)
+    }
+
+    /// The word for the file at this place, from 0.
+    pub fn file(self, place: usize) -> &'static str {
+        let word = self.files().split_whitespace().nth(place).unwrap_or("FILE");
+        word.trim_matches(['[', ']'])
     }
 
     /// Whether a limit may come last.
@@ -203,6 +219,12 @@ pub fn of_all(alloc: Global) -> Result<String, AllocError> {
     }
     let text = rendered(program)?;
     format!(in alloc; "dimacs {}\n{text}", version())
+}
+
+/// The usage text of arguments that name no command.
+pub fn of_none(alloc: Global) -> Result<String, AllocError> {
+    let program = clap::Command::new(alloc, "dimacs").override_usage("dimacs COMMAND FILE...");
+    rendered(program.after_help("`dimacs help` lists the commands"))
 }
 
 /// The usage text of one command.

@@ -20,5 +20,6 @@ pub use items::entry_arc;
 pub use lines::TextLines;
 pub use lookups::{Wanted, entry_between};
 pub use page::{FoundLine, OrStop, Page, Reopen, Said, Stop};
+pub use quote::Shown;
 pub use sentence::{Prose, Value, ending};
 pub use texts::{Purpose, TextFile, Texts, is_file};

@@ -5,6 +5,7 @@ use crate::sentence::{Prose, Value};
 use dimacs_lines::{Field, fields};
 use dimacs_records::At;
 use std::alloc::Global;
+use std::fmt;
 
 /// The most bytes of a line that a quote shows, around the field in question.
 const SHOWN: usize = 100;
@@ -56,18 +57,30 @@ pub(crate) fn repeat(out: &mut Prose, what: &str, times: usize) {
 /// Writes bytes: visible characters unchanged, a tab or a carriage return as a space, others by the codes of their bytes.
 pub(crate) fn escape(out: &mut Prose, bytes: &[u8]) {
     for chunk in bytes.utf8_chunks() {
-        escape_text(out, chunk.valid());
-        write_codes(out, chunk.invalid());
+        let written = write!(
+            out.text,
+            "{}{}",
+            Shown(chunk.valid()),
+            Codes(chunk.invalid())
+        );
+        out.is_lost |= written.is_err();
     }
 }
 
-fn escape_text(out: &mut Prose, text: &str) {
-    for it in text.chars() {
-        match it {
-            '\t' | '\r' => out.push(" "),
-            _ if is_visible(it) => out.push(it.encode_utf8(&mut [0; 4])),
-            _ => write_codes(out, it.encode_utf8(&mut [0; 4]).as_bytes()),
+/// A text as `escape` writes it.
+#[derive(Clone, Copy)]
+pub struct Shown<'a>(pub &'a str);
+
+impl fmt::Display for Shown<'_> {
+    fn fmt<W: fmt::Write>(&self, f: &mut fmt::Formatter<W>) -> fmt::Result {
+        for it in self.0.chars() {
+            match it {
+                '\t' | '\r' => f.write_str(" ")?,
+                _ if is_visible(it) => f.write_str(it.encode_utf8(&mut [0; 4]))?,
+                _ => write!(f, "{}", Codes(it.encode_utf8(&mut [0; 4]).as_bytes()))?,
+            }
         }
+        Ok(())
     }
 }
 
@@ -119,8 +132,15 @@ fn write_octal(out: &mut Prose, it: char) {
     }
 }
 
-fn write_codes(out: &mut Prose, bytes: &[u8]) {
-    for byte in bytes {
-        out.is_lost |= write!(out.text, "\\x{byte:02x}").is_err();
+/// Bytes by their codes.
+#[derive(Clone, Copy)]
+struct Codes<'a>(&'a [u8]);
+
+impl fmt::Display for Codes<'_> {
+    fn fmt<W: fmt::Write>(&self, f: &mut fmt::Formatter<W>) -> fmt::Result {
+        for byte in self.0 {
+            write!(f, "\\x{byte:02x}")?;
+        }
+        Ok(())
     }
 }
