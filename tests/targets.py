@@ -174,6 +174,12 @@ solve-max examples/pipes.max out cut --limit 0
 solve-max examples/pipes.max out cut --limit +1000
 solve-min examples/freight.min out pot --limit 2
 solve-min examples/freight.min out out
+solve-max own own own
+solve-max own cut --limit
+spread-max own examples/pipes.solution own
+certify-max own examples/pipes.solution ./own
+explain solve-max own out own
+certify-max own examples/pipes.solution --version
 solve-max examples/missing.max out cut
 solve-max examples/pipes.max out missing/cut
 help show gr
@@ -215,6 +221,7 @@ def outcome(words, room, **outputs):
     place = tempfile.mkdtemp(dir=room)
     for name, example in {"examples": "", **ODD}.items():
         os.symlink(f"{TOP}/examples/{example}", f"{place}/{name}")
+    shutil.copy(f"{TOP}/examples/pipes.max", f"{place}/own")
     outputs = {"stdout": subprocess.PIPE, "stderr": subprocess.PIPE} | outputs
     ran = subprocess.run(words, cwd=place, check=False, **outputs)
     files = {}
@@ -237,7 +244,7 @@ def compare_commands(tests, name, words, likened=lambda text: text):
         wanted, found = ((status, likened(out), likened(told), files) for status, out, told, files in ran)
         tests.expect(f"{name} {arguments}", found == wanted, f"{found}\nand not {wanted}")
 
-    words_alone = [*map(str.split, helped), *wrong, ["show", "gr", "two\nlines"], *ODDLY_NAMED]
+    words_alone = [*map(str.split, helped), *wrong, ["show", "gr", "two\n\u202elines\t"], *ODDLY_NAMED]
     for it in [*over_examples[::every], *special, *words_alone]:
         compare(it)
     with open("/dev/full", "wb") as full:

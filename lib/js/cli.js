@@ -1,8 +1,8 @@
 #!/usr/bin/env node
 // The command, on each system that has node: its arguments, output, files and statuses. Texts go through dimacs.wasm.
-import {closeSync, existsSync, fstatSync, openSync, readFileSync, readSync, writeSync} from "node:fs";
+import {closeSync, existsSync, fstatSync, openSync, readFileSync, readSync, statSync, writeSync} from "node:fs";
 import {LIMIT, OutOfMemory, TEXTS} from "./library.js";
-import {Usage, isText} from "./misuse.js";
+import {Usage, isText, shown} from "./misuse.js";
 
 const DONE = 0, NO_RUN = 2, DEVICE = 3, NO_MEMORY = 4;
 const COMPLAINTS = {[NO_RUN]: "dimacs: usage", [DEVICE]: "dimacs: device fault", [NO_MEMORY]: "dimacs: out of memory"};
@@ -34,7 +34,7 @@ const FILES = {
 class Failure extends Error {
     constructor(name, call, why) {
         const reason = /^\w+: (.*?)(, \w+( '.*')?)?$/s.exec(why.message)?.[1] ?? why.message;
-        super(`dimacs: ${name}: cannot be ${call}: ${reason} (${why.code})`);
+        super(`dimacs: ${shown(name)}: cannot be ${call}: ${reason} (${why.code})`);
     }
 }
 
@@ -71,6 +71,26 @@ function runOf([verb, ...rest]) {
     const files = hasLimit ? rest.slice(0, 3) : rest;
     if (limit === null || !written.includes(files.length - count)) return null;
     return {what, kind, limit, reads: files.slice(0, count), writes: files.slice(count)};
+}
+
+/** The first file that a run writes by a slip: it is one that it reads, or looks like an option. */
+function slipOf({what, reads, writes}) {
+    const kept = what === "spread" ? reads.slice(0, 1) : reads;
+    for (const [i, name] of writes.entries()) {
+        const isOption = name.startsWith("--"), read = isOption ? -1 : kept.findIndex((it) => isSameFile(it, name));
+        if (isOption || read >= 0) return {name, target: reads.length + i, read};
+    }
+    return null;
+}
+
+/** Whether two names are of one regular file. Nothing is lost of others. */
+function isSameFile(...names) {
+    try {
+        const [one, other] = names.map((it) => statSync(it, {bigint: true}));
+        return one.isFile() && one.dev === other.dev && one.ino === other.ino;
+    } catch {
+        return false;
+    }
 }
 
 function readAll(file) {
@@ -229,6 +249,8 @@ async function main(words) {
     const areTexts = words.every(isText);
     const text = areTexts && (await askedText(words)), job = areTexts && jobOf(words);
     if (!text && !job) return complain(NO_RUN, usage().complaintOf(words));
+    const slip = job && slipOf(job), [line, more] = slip ? usage().slipIn(words, slip) : [];
+    if (slip && (job.explains || job.what !== "solve")) return complain(NO_RUN, line + more);
     try {
         if (job) return run((await loaded()).texts, job);
         print(text);
@@ -239,7 +261,8 @@ async function main(words) {
         throw why;
     } finally {
         const [one, other] = job ? job.writes : [];
-        if (one === other && other !== undefined) tell(`dimacs: ${one}: written twice\n`);
+        if (one === other && other !== undefined) tell(`dimacs: ${shown(one)}: written twice\n`);
+        if (slip) tell(`dimacs: ${line}`);
     }
 }
 

@@ -1,4 +1,4 @@
-// The use of the command, and what is wrong with arguments that ask for nothing, in the words of the program.
+// The use of the command, and what is wrong with arguments, in the words of the program.
 import {TEXTS} from "./library.js";
 
 /** How the words of a command that has a limit end. */
@@ -32,8 +32,26 @@ export class Usage {
     /** The complaint of arguments that ask for nothing. */
     complaintOf(words) {
         const {line, command} = misuseOf(this.commands, words);
-        return `${line ? `${line}\n` : ""}${command ? command.usage : this.all}`;
+        const none = `${/^Usage: .*$/m.exec(this.all)[0]}\n\n\`dimacs help\` lists the commands\n`;
+        return line ? `${line}\n${command ? command.usage : none}` : this.all;
     }
+
+    /** A line about a file that a run writes by a slip, and the usage of its command. */
+    slipIn(words, {name, target, read}) {
+        const {files, usage} = this.commands.get(words[0] === "explain" ? words[1] : words[0]);
+        const [one, other] = [read, target].map((place) => files.split(" ")[place]?.replace(/[[\]]/g, ""));
+        const same = `${one} and ${other} are the same file: ${shown(name)}\n`;
+        return [one ? same : `${other} looks like an option: ${shown(name)}; ./${shown(name)} names a file\n`, usage];
+    }
+}
+
+/** Characters that aren't seen as themselves: explanations write the codes of their bytes. */
+const HIDDEN = /[\0-\x1f\x7f-\xa0\xad\u061c\u1680\u2000-\u200f\u2028-\u202f\u205f-\u206f\u3000\ufeff\ufff9-\ufffb\u{e0000}-\u{e0fff}]/gu;
+
+/** The name of a file as explanations write it. */
+export function shown(name) {
+    const codes = (it) => Array.from(Buffer.from(it), (byte) => `\\x${byte.toString(16).padStart(2, "0")}`).join("");
+    return name.replace(HIDDEN, (it) => ("\t\r".includes(it) ? " " : codes(it)));
 }
 
 /** Whether an argument was UTF-8: node puts U+FFFD in place of bytes that aren't. */
@@ -80,7 +98,7 @@ function wrongCount({name, files, hasKind, counts: [least, most]}, given) {
 /** That an argument is none of these words, and the nearest of them, if one is near. */
 function unknown(what, given, words) {
     const word = nearest(given.replace(/[A-Z]/g, (it) => it.toLowerCase()), words);
-    return `no ${what} ${given}${word ? `: ${word}?` : ""}`;
+    return `no ${what} ${shown(given)}${word ? `: ${word}?` : ""}`;
 }
 
 /** The word that the fewest edits lead to: at most one for each three of its characters. */
