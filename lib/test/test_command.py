@@ -38,6 +38,8 @@ solve-max pipes.max out more --limit 0
 solve-max pipes.max out more --limit +07
 solve-max road.gr out more
 solve-max pipes.max out out
+solve-max nowhere out out
+spread-max bridges.max bridges-sums.solution bridges-sums.solution
 solve-min freight.min out more --limit 1000000000
 solve-min shortage.min out more
 solve-paths romania.gr romania.query out
@@ -53,6 +55,13 @@ certify-max pipes.max nowhere out
 solve-max pipes.max out nowhere/more
 solve-max nowhere out more
 spread-max bridges.max bridges-sums.solution nowhere/out
+"""
+
+# Slips that aren't refused unless they are explained.
+SLIPS = """
+solve-max pipes.max pipes.max out
+solve-max pipes.max out --limit
+solve-paths road.gr road.query ./road.query
 """
 
 # What asks for nothing.
@@ -72,6 +81,12 @@ explain help
 certify-max pipes.max pipes.solution out more
 help me
 --version now
+certify-max pipes.max pipes.solution ./pipes.max
+certify-max pipes.max pipes.solution pipes.solution
+certify-infeasible shortage.min shortage.min
+spread-max pipes.max pipes.solution pipes.max
+explain solve-max pipes.max out pipes.max
+certify-max pipes.max pipes.solution --version
 """
 
 
@@ -122,7 +137,7 @@ class Command(unittest.TestCase):
             return ours
 
     def test_runs(self):
-        statuses = {self.same(*line.split())[0] for line in RUNS.strip().splitlines()}
+        statuses = {self.same(*line.split())[0] for line in (RUNS + SLIPS).split("\n") if line}
         self.assertEqual(statuses, {0, 1, 3, 5})
 
     def test_explained(self):

@@ -8,11 +8,12 @@ from __future__ import annotations
 
 import difflib
 import itertools
+import os
 import re
 import signal
 import sys
 from contextlib import contextmanager
-from typing import Any, Iterator, NamedTuple, Sequence
+from typing import Any, Callable, Iterator, NamedTuple, Sequence
 
 from . import commands, library
 from .answers import GaveUp
@@ -78,12 +79,40 @@ class _Job(NamedTuple):
     explained: Sequence[str]
 
 
+#: Characters that aren't seen as themselves: explanations write the codes of their bytes.
+_HIDDEN = re.compile(
+    "[\0-\x1f\x7f-\xa0\xad\u061c\u1680\u2000-\u200f\u2028-\u202f\u205f-\u206f\u3000\ufeff\ufff9-\ufffb\U000e0000-\U000e0fff]"
+)
+
+
+def _shown(name: str) -> str:
+    def codes(it: re.Match[str]) -> str:
+        return " " if it[0] in "\t\r" else "".join(f"\\x{byte:02x}" for byte in it[0].encode())
+
+    return _HIDDEN.sub(codes, name)
+
+
+def _slip(job: _Job) -> str:
+    """What is said of the first file that a run writes by a slip: it is one that it reads, or looks like an option."""
+    words = re.findall(r"\w+", _FILES.get(f"{job.verb}-{job.kind}", ""))
+    kept = job.reads[:1] if job.verb == "spread" else job.reads
+    for target, name in zip(words[len(job.reads) :], job.writes):
+        shown = _shown(name)
+        if name.startswith("--"):
+            return f"{target} looks like an option: {shown}; ./{shown} names a file\n"
+        for word, read in zip(words, kept):
+            if os.path.isfile(read) and os.path.exists(name) and os.path.samefile(read, name):
+                return f"{word} and {target} are the same file: {shown}\n"
+    return ""
+
+
 def _job(words: Sequence[str]) -> _Job:
     explained = words[1:] if words[:1] == ["explain"] else []
     name, *files = explained or words or [""]
     if name not in _FILES:
         near = difflib.get_close_matches(name, _FILES, 1)
-        raise _Fault(_NO_RUN, (f"no command {name}{f': {near[0]}?' if near else ''}\n" if name else "") + _help())
+        line = f"no command {_shown(name)}{f': {near[0]}?' if near else ''}\n`dimacs help` lists the commands\n"
+        raise _Fault(_NO_RUN, line if words else _help())
     verb, _, kind = name.partition("-")
     limit = LIMIT
     if name in _WITH_LIMIT and files[-2:-1] == ["--limit"]:
@@ -106,7 +135,8 @@ def _attempt(name: str, call: str) -> Iterator[None]:
         yield
     except OSError as it:
         call = "read" if isinstance(it, IsADirectoryError) and call == "opened" else call
-        raise _Fault(_DEVICE, f"dimacs: {name}: cannot be {call}: {it.strerror} (os error {it.errno})\n") from None
+        line = f"dimacs: {_shown(name)}: cannot be {call}: {it.strerror} (os error {it.errno})\n"
+        raise _Fault(_DEVICE, line) from None
 
 
 def _opened(name: str, call: str, mode: str) -> Any:
@@ -181,19 +211,27 @@ def _answered(words: list[str]) -> int:
         _write("standard output", sys.stdout.buffer, text.encode())
         return library.DONE
     job = _job(words)
-    try:
-        return _run(job)
-    finally:
-        if len(set(job.writes)) < len(job.writes):
-            sys.stderr.write(f"dimacs: {job.writes[0]}: written twice\n")
+    slip = _slip(job)
+    if slip and (job.explained or job.verb != "solve"):
+        raise _Fault(_NO_RUN, slip + _usage(f"{job.verb}-{job.kind}"))
+    status = _ended(lambda: _run(job))
+    if len(set(job.writes)) < len(job.writes):
+        sys.stderr.write(f"dimacs: {_shown(job.writes[0])}: written twice\n")
+    sys.stderr.write(slip and f"dimacs: {slip}")
+    return status
 
 
 def main() -> int:
     """Does what the arguments ask for, and returns the exit status."""
     # A call can't be interrupted: the process ends at once.
     signal.signal(signal.SIGINT, signal.SIG_DFL)
+    return _ended(lambda: _answered(sys.argv[1:]))
+
+
+def _ended(run: Callable[[], int]) -> int:
+    """The status of a run, after a complaint if it ends without an answer."""
     try:
-        return _answered(sys.argv[1:])
+        return run()
     except (_Fault, MemoryError) as it:
         status, line = (it.status, it.line) if isinstance(it, _Fault) else (library.NO_MEMORY, "")
         sys.stderr.write(f"dimacs: {_COMPLAINTS[status]}\n{line}")
