@@ -30,7 +30,7 @@ PEERS = [
     ("networkx", [PYTHON, f"{HERE}/peers/with_networkx.py", "solve"], ALL),
 ]
 
-KINDS = {"max": "Maximum flow", "min": "Least cost", "gr": "Distances"}
+TITLES = {"max": "Maximum flow", "min": "Least cost", "gr": "Distances"}
 OURS = {kind: [f"solve-{word}", f"certify-{word}"] for kind, word in (("max", "max"), ("min", "min"), ("gr", "paths"))}
 
 
@@ -128,7 +128,7 @@ def measure_kind(asked, kind, megabytes):
         return
     ours = OURS[kind]
     peers = [name for name, _, called in PEERS if kind in called]
-    head(f"{KINDS[kind]}, {megabytes} MB", "Family", "Arcs", *ours, *peers, "Bytes an arc")
+    head(f"{TITLES[kind]}, {megabytes} MB", "Family", "Arcs", *ours, *peers, "Bytes an arc")
     ratios = {name: [] for name in ours}
     for family, file in wanted:
         taken = measure_instance(kind, file, commands(asked.binary, kind, megabytes, file), asked.rounds)
@@ -146,5 +146,5 @@ def measure_kind(asked, kind, megabytes):
 
 def measure(asked):
     for megabytes in asked.sizes:
-        for kind in KINDS:
+        for kind in TITLES:
             measure_kind(asked, kind, megabytes)

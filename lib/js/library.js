@@ -4,7 +4,7 @@
 export const DONE = 0, REFUSED = 1, MISUSED = 2, NO_MEMORY = 4, GAVE_UP = 5;
 
 /** The kinds of claim, and those of text, as in dimacs.h. */
-export const KINDS = {max: 0, min: 1, infeasible: 2, paths: 3};
+export const PROBLEMS = {max: 0, min: 1, infeasible: 2, paths: 3};
 export const TEXTS = {max: 0, min: 1, gr: 2, query: 3, solution: 4, cut: 5, pot: 6, dist: 7, distances: 8};
 
 /** Throws for what is no kind of text. */
@@ -234,7 +234,7 @@ export class Texts {
     run(verb, kind, texts, limit = LIMIT) {
         const [count, roomsFor] = VERBS[verb], isOfSet = verb === "judge" && kind === "infeasible";
         const read = isOfSet ? [texts[0], NONE, texts[1]] : [...texts, NONE].slice(0, count);
-        const words = [(count === 1 ? TEXTS : KINDS)[kind], ...read, ...(verb === "solve" ? [limit] : [])];
+        const words = [(count === 1 ? TEXTS : PROBLEMS)[kind], ...read, ...(verb === "solve" ? [limit] : [])];
         return this.#call(`dimacs_${verb}`, words, roomsFor(...read.map((it) => it.length)));
     }
 

@@ -8,7 +8,7 @@ import {library} from "./loaded.js";
 import {IDS, NUMBERS, UNREACHED} from "./numbers.js";
 
 /** The call for each kind of text, and what it hands out: numbers, arrays of the same length, and others. */
-const KINDS = {
+const SHAPES = {
     max: {name: "max", numbers: ["nodes", "source", "sink"], same: ["tails", "heads", "caps"], others: []},
     min: {name: "min", numbers: ["nodes"], same: ["tails", "heads", "lows", "caps", "costs"], others: ["supplies"]},
     gr: {name: "graph", numbers: ["nodes"], same: ["tails", "heads", "weights"], others: []},
@@ -116,7 +116,7 @@ function ofEntry(instance, text) {
 export function read(kind, text, beside) {
     testKind(kind);
     testBeside(kind, beside);
-    const form = KINDS[kind], {name, numbers, same, others} = form;
+    const form = SHAPES[kind], {name, numbers, same, others} = form;
     const of = beside === undefined || kind === "solution" ? beside : IDS.one(beside, "source");
     const {before, after, say} = around(kind, of), bytes = bytesOf(text);
     const words = [...before, bytes, ...after], rooms = roomsFor(form, bytes.length);
@@ -128,7 +128,7 @@ export function read(kind, text, beside) {
 
 /** What the call takes that writes what isn't about arcs: numbers, then arrays, all of one length. */
 function wordsOf(kind, value) {
-    const names = kind !== "query" ? KINDS[kind].others : (value.tos ?? null) === null ? ["froms"] : ["froms", "tos"];
+    const names = kind !== "query" ? SHAPES[kind].others : (value.tos ?? null) === null ? ["froms"] : ["froms", "tos"];
     const arrays = names.map((it) => itemsOf(it).all(value[it], it)), [{length}] = arrays;
     arrays.forEach((it, i) => {
         if (it.length !== length) throw new RangeError(`${names[i]} has ${it.length} items, and ${names[0]} has ${length}`);
@@ -156,7 +156,7 @@ export function write(kind, value, instance) {
     if (Object(value) !== value) throw new TypeError("a value is an object of numbers and arrays, as read returns it");
     if ((value.radius ?? null) !== null) throw new RangeError(`labels with a radius, here ${value.radius}, aren't written`);
     const {words, lines, say} = given(kind, value, instance), rooms = [new Room(Uint8Array, LINE + MOST * lines)];
-    const {status, handed: [text]} = library.call(`dimacs_write_${KINDS[kind].name}`, words, rooms);
+    const {status, handed: [text]} = library.call(`dimacs_write_${SHAPES[kind].name}`, words, rooms);
     const first = linesOf(text.subarray(0, status === DONE ? 0 : LINE));
     throwUndecided(status, first, {say});
     throwRefused(status, first);

@@ -22,7 +22,7 @@ networkx, numpy, pandas = map(found, ("networkx", "numpy", "pandas"))
 csgraph, optimize, sparse = map(found, ("scipy.sparse.csgraph", "scipy.optimize", "scipy.sparse"))
 
 ENDS = (0, 2**31, 2**32, 2**53, 2**62, 2**63, 2**64, 10**18)
-KINDS = [f"{sign}int{bits}" for bits in (8, 16, 32, 64) for sign in ("", "u")]
+INTEGERS = [f"{sign}int{bits}" for bits in (8, 16, 32, 64) for sign in ("", "u")]
 
 
 def near(chance, ends=ENDS):
@@ -36,7 +36,7 @@ def fits(numbers, bits=64):
 
 def numpy_of(chance, numbers):
     """An array of numpy, of any type that holds these numbers."""
-    kinds = [it for it in KINDS if all(numpy.iinfo(it).min <= number <= numpy.iinfo(it).max for number in numbers)]
+    kinds = [it for it in INTEGERS if all(numpy.iinfo(it).min <= number <= numpy.iinfo(it).max for number in numbers)]
     kinds += ["float64"] * all(int(float(it)) == it for it in numbers)
     return numpy.array(numbers, chance.choice(kinds + ["object"]))
 

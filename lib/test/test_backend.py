@@ -29,7 +29,7 @@ if not LACKS:
     from dimacs import backend
     from dimacs.backend import info, running
 CAPACITIES = [0, 1, 2, 5, 9, math.inf]
-KINDS = "DiGraph MultiDiGraph Graph MultiGraph"
+GRAPHS = "DiGraph MultiDiGraph Graph MultiGraph"
 
 
 def answer_of(function, words, backend):
@@ -341,7 +341,7 @@ class Paths(Backend):
             self.assertEqual((path[0], path[-1], length_of(graph, path, weight)), (source, node, lengths[node]))
 
     def test_what_networkx_finds(self):
-        for chance, graph in graphs(4, 300, KINDS, 20, weight=range(9)):
+        for chance, graph in graphs(4, 300, GRAPHS, 20, weight=range(9)):
             source, target = chance.randrange(len(graph) + 1), chance.randrange(len(graph) + 1)
             cutoff, weight = chance.choice([None, 0, 3, 7.5, -1]), chance.choice(["weight", None])
             self.same(networkx.single_source_dijkstra_path_length, graph, source, cutoff, weight)
@@ -354,7 +354,7 @@ class Paths(Backend):
 
     def test_other_forms(self):
         """None is no target, also where networkx has no default for it."""
-        for chance, graph in graphs(8, 200, KINDS, 20, weight=range(9)):
+        for chance, graph in graphs(8, 200, GRAPHS, 20, weight=range(9)):
             nodes = [*range(len(graph) + 1), None]
             source, target, cutoff = chance.choice(nodes), chance.choice(nodes), chance.choice([None, 0, 3, 7.5])
             weight, method = chance.choice(["weight", None]), chance.choice(["dijkstra", "bellman-ford", "other"])

@@ -9,7 +9,7 @@ import random
 import unittest
 
 import dimacs
-from shared import ENDS, KINDS, csgraph, fits, near, networkx, numpy, numpy_of, sparse
+from shared import ENDS, INTEGERS, csgraph, fits, near, networkx, numpy, numpy_of, sparse
 
 if networkx:
     from dimacs import backend
@@ -126,7 +126,7 @@ class Limits(unittest.TestCase):
 class Scipy(Limits):
     def matrix(self, chance, net, by_place):
         """A sparse matrix of any type that fits, with entries that add up to a number at each place; and the entries."""
-        kinds = [(numpy.iinfo(it), it) for it in KINDS] + [(range(-(2**53), 2**53), "float64")]
+        kinds = [(numpy.iinfo(it), it) for it in INTEGERS] + [(range(-(2**53), 2**53), "float64")]
         chance.shuffle(kinds)
         for kind, name in kinds:
             least, most = (kind[0], kind[-1]) if isinstance(kind, range) else (kind.min, kind.max)

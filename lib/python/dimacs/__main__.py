@@ -122,7 +122,7 @@ def _job(words: Sequence[str]) -> _Job:
         kind, *files = files or [""]
     reads, writes = (it.split() for it in _FILES[name].split("|"))
     least, most = len(reads) + sum("[" not in it for it in writes), len(reads) + len(writes)
-    is_kind = kind in (commands.TEXTS if verb in ("convert", "show") else commands.KINDS)
+    is_kind = kind in (commands.TEXTS if verb in ("convert", "show") else commands.PROBLEMS)
     if not (least <= len(files) <= most and is_kind and 0 <= limit <= _GREATEST_LIMIT):
         raise _Fault(_NO_RUN, _usage(name))
     return _Job(verb, kind, files[: len(reads)], files[len(reads) :], limit, explained)

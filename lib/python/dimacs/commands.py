@@ -8,7 +8,7 @@ from . import library
 from .buffers import LIMIT, Buffer, bytes_of
 from .library import LINE
 
-KINDS = {"max": 0, "min": 1, "infeasible": 2, "paths": 3}
+PROBLEMS = {"max": 0, "min": 1, "infeasible": 2, "paths": 3}
 TEXTS = {"max": 0, "min": 1, "gr": 2, "query": 3, "solution": 4, "cut": 5, "pot": 6, "dist": 7, "distances": 8}
 
 
@@ -43,7 +43,7 @@ def run(verb: str, kind: str, texts: Sequence[Buffer], limit: int = LIMIT) -> tu
     read = [*texts, _NO_TEXT, _NO_TEXT][:count]
     if (verb, kind) == ("judge", "infeasible"):
         read = [texts[0], _NO_TEXT, texts[1]]
-    words: list[Any] = [(TEXTS if count == 1 else KINDS)[kind], *(word for it in read for word in it.words())]
+    words: list[Any] = [(TEXTS if count == 1 else PROBLEMS)[kind], *(word for it in read for word in it.words())]
     if verb == "solve":
         words.append(limit)
     first, second = [it.length for it in [*read, _NO_TEXT]][:2]

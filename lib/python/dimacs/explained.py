@@ -24,8 +24,8 @@ _NAMES = {
 }
 
 #: The names of single texts, by their kinds.
-KINDS = {"query": "query", "solution": "solution", "distances": "distances"}
-KINDS |= dict.fromkeys(("max", "min", "gr"), "instance") | dict.fromkeys(("cut", "pot", "dist"), "certificate")
+ROLES = {"query": "query", "solution": "solution", "distances": "distances"}
+ROLES |= dict.fromkeys(("max", "min", "gr"), "instance") | dict.fromkeys(("cut", "pot", "dist"), "certificate")
 
 #: Begins the name of a text that is in no file; twice, of one that stands for arrays.
 _NO_FILE = "\0"

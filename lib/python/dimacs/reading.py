@@ -10,7 +10,7 @@ from . import library
 from .answers import UNREACHED, Refused
 from .buffers import IDS, MARKS, NUMBERS, Buffer, Items, bytes_of, number_of
 from .commands import test_kind
-from .explained import KINDS, Asked
+from .explained import ROLES, Asked
 from .given import GRAPH, MIN, Given
 from .instances import Blocks, ByNode, Cut, Distances, Graph, Instance, Labels, MaxInstance, MinInstance, Potentials, Queries
 from .instances import Solution, Value, fixed, numpy
@@ -112,7 +112,7 @@ class _explained(Asked):
     """What read was asked of: a text, its kind, and what comes with it. A refusal that is raised inside is kept with it."""
 
     def __init__(self, kind: str, text: Text, of: Any) -> None:
-        super().__init__(f"show {kind} {KINDS[kind]}", text)
+        super().__init__(f"show {kind} {ROLES[kind]}", text)
         self._kind, self._of = kind, of
 
     def __enter__(self) -> None:
@@ -129,7 +129,7 @@ class _explained(Asked):
             return lines
         if isinstance(self._of, Instance) and not printed.endswith("NumberRange"):
             return self._of_entry()
-        name, found = KINDS[self._kind], self._lines(library.refusal(printed.encode()))
+        name, found = ROLES[self._kind], self._lines(library.refusal(printed.encode()))
         if printed.endswith("BlockMissing"):
             listed = ", ".join(it.split()[2] for it in found[:8]) + ", .." * (len(found) > 8)
             return [printed, f"{name} has no block from source {self._of}; its blocks are from {listed}; {len(found)} in all"]

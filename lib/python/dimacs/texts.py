@@ -11,7 +11,7 @@ from . import library
 from .answers import Certified, Feasible, Infeasible, NotOptimal, Refused, Solved, Verdict
 from .buffers import LIMIT, LIMITS, Buffer, bytes_of, number_of
 from .commands import run, test_kind
-from .explained import KINDS, Asked, kept
+from .explained import ROLES, Asked, kept
 
 Text = Union[bytes, str, bytearray, memoryview, "os.PathLike[str]"]
 
@@ -38,7 +38,7 @@ def _asked(call: str, no: Refused, *texts: Text) -> Asked:
     """What a refusal was asked of, and what it shows."""
     name, _, kind = call.partition(" ")
     if kind:
-        return Asked(f"{name} {kind} {KINDS[kind]}", *texts)
+        return Asked(f"{name} {kind} {ROLES[kind]}", *texts)
     for exception, shown in ((NotOptimal, "better"), (Feasible, "flow")):
         found = getattr(no, shown) if isinstance(no, exception) else None
         if found is not None:
