@@ -4,7 +4,7 @@ from __future__ import annotations
 
 import reprlib
 from dataclasses import dataclass
-from typing import Any, NamedTuple
+from typing import Any, NamedTuple, cast
 
 #: The distance of a node that isn't reached. Its predecessor is 0.
 UNREACHED = 2**63 - 1
@@ -83,7 +83,23 @@ class Verdict(Explainable):
         return True
 
 
-class _Shown(Explainable):
+def _items(part: Any) -> Any:
+    """A part of an answer that == compares: the items of an array, those of a Series or frame with their index."""
+    if hasattr(part, "to_numpy"):
+        return list(part.index), part.to_numpy().tolist()
+    return part.tolist() if hasattr(part, "tolist") else part
+
+
+class Parts(Explainable):
+    """An answer that unpacks into its parts, and is equal to a tuple of the same items."""
+
+    def __eq__(self, other: Any) -> bool:
+        return isinstance(other, tuple) and [*map(_items, cast(Any, self))] == [*map(_items, other)]
+
+    __ne__, __hash__ = object.__ne__, tuple.__hash__
+
+
+class _Shown(Parts):
     """An answer with a certificate."""
 
     certificate: Any
@@ -109,7 +125,7 @@ class _Certified(NamedTuple):
     certificate: Any
 
 
-class Certified(_Certified, _Shown):
+class Certified(_Shown, _Certified):
     """A yes, with a certificate by which the judge answers yes too.
 
     value is the value of the flow, or its cost; None if the claim has neither. The certificate is the text of a cut, of
@@ -128,7 +144,7 @@ class _Solved(NamedTuple):
     certificate: Any
 
 
-class Solved(_Solved, _Shown):
+class Solved(_Shown, _Solved):
     """An answer, which was judged before it was returned.
 
     value is the value of the flow, or its cost; None if there is neither. The solution is a text; over arrays the
@@ -222,7 +238,8 @@ class Placed(Exception):
     def __repr__(self) -> str:
         fields = [repr(self.reason)]
         for name, it in vars(self).items():
-            if name != "reason" and name[0] != "_" and it not in (None, {}):
+            is_empty = it is None or isinstance(it, dict) and not it  # an array can't be tested so
+            if name != "reason" and name[0] != "_" and not is_empty:
                 fields.append(f"{name}={it!r}" if name in self._PLACES else f"{name}={reprlib.repr(it)}")
         return f"{type(self).__name__}({', '.join(fields)})"
 

@@ -10,7 +10,7 @@ import pandas as pd
 from pandas.api.types import is_hashable
 
 from . import calls
-from .answers import Certified, Explainable, Solved
+from .answers import Certified, Parts, Solved
 from .buffers import LIMIT
 from .explained import like
 from .instances import Graph, MaxInstance, MinInstance
@@ -26,7 +26,7 @@ class _FrameAnswer(NamedTuple):
     nodes: pd.DataFrame
 
 
-class FrameAnswer(_FrameAnswer, Explainable):
+class FrameAnswer(Parts, _FrameAnswer):
     """An answer, which was judged: its value or cost, None for distances; a DataFrame of edges on the index of the frame, with
     its two columns of ends and "flow", None for distances; and a DataFrame by node, with what shows it: "inside",
     "potential", or "distance" and "predecessor".
