@@ -249,8 +249,10 @@ class Misuse(Networkx):
             (several, "flow[u][v][key]", [{"a": {"b": 1}}, {"a": {"b": [1]}}, {"a": {"b": {0: {}}}}, {"a": None}]),
         ]
         for graph, shape, flows in shapes:
-            message = f"the flow isn't a dict of dicts with the amounts {shape}, as it has to be for this graph"
             for flow in flows:
+                message = f"the flow isn't a dict of dicts with the amounts {shape}, as it has to be for this graph"
+                if isinstance(flow, tuple):
+                    message = "the flow is a tuple, which has its value too: pass the second of the two"
                 with self.subTest(str(flow)):
                     self.says(TypeError, message, dimacs.certify_networkx_max, graph, "a", "b", flow)
                     self.says(TypeError, message, dimacs.certify_networkx_min, graph, flow)

@@ -17,12 +17,12 @@ from unittest import mock
 import dimacs
 from dimacs import UNREACHED, Blocks, Cut, Distances, Graph, Labels, MaxInstance, MinInstance, Potentials, Queries, Solution
 from dimacs import instances
-from shared import networkx, numpy, raised
+from shared import Said, draws, networkx, numpy, optimize, pandas, raised
 
 MAX = "c pipes\np max 4 3\nn 4 t\nn 1 s\na 1 2 9223372036854775807\n\na 2 4 +05\na 1 4 0\n"
 MIN = "p min 3 2\nn 3 -4\nn 1 4\na 1 2 0 9223372036854775807 -9223372036854775808\na 2 3 1 5 7\n"
 GRAPH = "p sp 3 2\na 1 2 -9223372036854775808\na 3 3 9223372036854775807\n"
-LAST = 2**63 - 1
+LAST, INF = 2**63 - 1, float("inf")
 
 
 FIFTY = [[1] * 50, [2] * 50, [0] * 50]
@@ -76,10 +76,12 @@ class Rows(unittest.TestCase):
             ("p distances 3 2\nt 3 0\nt 1 1\nd 2 7\n", [Distances(3, [UNREACHED, UNREACHED, 0]), Distances(1, [0, 7, UNREACHED])]),
             ("p dist 2 1\nt 1 1\nd 2 5 1\n", [Labels(1, [0, 5], [0, 1])]),
             ("p distances 9 0\n", []),
+            ("p dist 9 0\n", []),
         ]:
             found = dimacs.read(text.split()[1], text)
             self.assertEqual((list(found.values()), found.sources), (blocks, tuple(it.source for it in blocks)))
-            self.assertEqual((dimacs.write(found), dimacs.write(Blocks(found.nodes, blocks))), (text.encode(), text.encode()))
+            made = Blocks(found.nodes, blocks, found.name)
+            self.assertEqual((dimacs.write(found), dimacs.write(made)), (text.encode(), text.encode()))
         for blocks in [Distances(1, [0])], [Distances(1, [0, 1])] * 2, [Distances(1, [0, 1]), Labels(2, [0, 0], [0, 0])]:
             self.assertRaisesRegex(ValueError, "comes beside blocks of 2 nodes", Blocks, 2, blocks)
 
@@ -141,6 +143,9 @@ class Rows(unittest.TestCase):
             (TypeError, "names is a set, whose items have no places", lambda: Graph(2, *arc, [3], {"a", "b"})),
             (ValueError, "predecessors has 1 items, and there are 2 nodes", lambda: Labels(1, [0, 3], [0])),
             (ValueError, "radius is 0.5, not a whole number", lambda: Labels(1, [0], [0], 0.5)),
+            (TypeError, r"units\[0\] is 'm\\na 1 2 9', not a number", lambda: Graph(2, *arc, [3], units=("m\na 1 2 9", 1))),
+            (TypeError, "units is 'metres', and has to be a pair", lambda: Graph(2, *arc, [3], units="metres")),
+            (ValueError, r"units is \(1, 0\), and both have to be above 0", lambda: Graph(2, *arc, [3], units=(1, 0))),
             (dimacs.PastLimit, "node 0 NumberRange", lambda: Queries([1, 0])),
             (dimacs.PastLimit, "node 3 NodeRange", lambda: Distances(3, [0, 1])),
             (dimacs.PastLimit, "node 2 NodeRange: nodes are numbered from 0", lambda: Distances(2, [0, 1], base=0)),
@@ -151,6 +156,141 @@ class Rows(unittest.TestCase):
         for kind, message, call in cases:
             with self.subTest(message), self.assertRaisesRegex(kind, message):
                 call()
+
+
+def outcome(call, *words, **more):
+    """What a call answers, or says."""
+    try:
+        answer = call(*words, **more)
+    except (dimacs.Refused, dimacs.Unbounded, dimacs.GaveUp, dimacs.PastLimit) as no:
+        found = getattr(no, "better", getattr(no, "flow", getattr(no, "certificate", None)))
+        return type(no), str(no), None if found is None else list(found)
+    return [list(it) if hasattr(it, "__len__") else it for it in answer] if isinstance(answer, tuple) else answer
+
+
+class Unlimited(unittest.TestCase):
+    """An arc made with the capacity inf has no limit in a value either."""
+
+    words = 2, 1, 2, [1, 1], [2, 2]
+
+    def test_calls(self):
+        """A call over a value, and over what it unpacks into, answers as one over the arrays that made it, with their base."""
+        kinds = set()
+        for chance in draws(7, 150):
+            base, nodes, count = chance.randrange(2), chance.randrange(2, 5), chance.randrange(1, 6)
+            ends = [[chance.randrange(nodes) + base for _ in range(count)] for _ in range(2)]
+            caps = [chance.choice([INF, LAST, 2**53 + 1, chance.randrange(9)]) for _ in range(count)]
+            costs, supplies = ([chance.randrange(-3, 5) for _ in range(it)] for it in (count, nodes - 1))
+            flows, far = ([chance.randrange(4) for _ in range(it)] for it in (count, nodes))
+            inside, before = [chance.random() < 0.5 for _ in far], [chance.randrange(base - 1, nodes + 2) for _ in far]
+            most, least = (nodes, base, nodes - 1 + base, *ends, caps), (*ends, [0] * count, caps, costs)
+            source = chance.randrange(nodes + 1) + base
+            for kind, words, calls in [
+                (MaxInstance, most, [("solve_max",), ("certify_max", flows), ("judge_max", flows, inside)]),
+                (MinInstance, (nodes, *least, [*supplies, -sum(supplies)]), [("solve_min",), ("certify_min", flows)]),
+                (Graph, (nodes, *ends, flows), [("solve_paths", source), ("judge_paths", source, far, before)]),
+            ]:
+                value = kind(*words, base=base)
+                self.assertEqual(kind(*value, value.names), value)
+                for name, *more in calls:
+                    call = getattr(dimacs, f"{name}_arrays")
+                    wanted = outcome(call, *words, *more, base=base)
+                    kinds.add(wanted[0] if isinstance(wanted, tuple) else name)
+                    for given in [(value,), (pickle.loads(pickle.dumps(value)),)] + [(*value,)] * base:
+                        self.assertEqual(outcome(call, *given, *more), wanted, (name, words))
+        self.assertLessEqual({dimacs.Unbounded, dimacs.Refused, dimacs.Infeasible, "solve_max", "solve_min"}, kinds)
+
+    def test_kept(self):
+        one, other = MaxInstance(*self.words, [INF, 3]), MaxInstance(*self.words, [LAST, 3])
+        self.assertEqual((one.caps.tolist(), one.unlimited.tolist(), other.unlimited), ([LAST, 3], [True, False], None))
+        self.assertNotIn(one, [other, MaxInstance(*self.words, [3, INF])])
+        for it in MaxInstance(*one), pickle.loads(pickle.dumps(one)), copy.deepcopy(one):
+            self.assertEqual((it, hash(it), it.unlimited.tolist()), (one, hash(one), [True, False]))
+        text = f"c an arc without a limit has the capacity {LAST}\np max 2 2\nn 1 s\nn 2 t\na 1 2 {LAST}\na 1 2 3\n"
+        self.assertEqual((dimacs.write(one).decode(), dimacs.read("max", text)), (text, other))
+        with mock.patch.object(instances, "numpy", lambda: None):
+            self.assertEqual(list(MaxInstance(*self.words, [INF, 3]))[-1], [INF, 3])
+            self.assertRaises(dimacs.Unbounded, dimacs.solve_max_arrays, MaxInstance(*self.words, [INF, 3]))
+
+    @unittest.skipUnless(networkx and numpy, "no networkx")
+    def test_networkx(self):
+        most = MaxInstance(3, 1, 3, [1, 1, 2], [2, 2, 3], [3, INF, 5], "sat")
+        self.assertEqual(list(most.to_networkx().edges(data=True)), [("s", "a", {}), ("a", "t", {"capacity": 5})])
+        self.assertEqual(MaxInstance.from_networkx(most.to_networkx(), "s", "t").unlimited.tolist(), [True, False])
+        least = MinInstance(2, [1, 1], [2, 2], [2, 0], [INF, 5], [3, 7], [6, -6])
+        graph = least.to_networkx()
+        self.assertEqual(list(graph.edges(data=True)), [(1, 2, {"weight": 3}), (1, 2, {"capacity": 5, "weight": 7})])
+        flows = least.flows_from(networkx.network_simplex(graph)[1])
+        self.assertEqual(dimacs.certify_min_arrays(least, flows).value, 18)
+
+    @unittest.skipUnless(optimize and pandas and numpy, "no SciPy or pandas")
+    def test_tables(self):
+        self.assertRaisesRegex(ValueError, "arc 1 has no limit, and in a m", MaxInstance(*self.words, [INF, 3]).to_scipy)
+        least = MinInstance(2, [1, 1], [2, 2], [2, 0], [INF, 5], [3, 7], [6, -6])
+        self.assertEqual(least.to_scipy()["bounds"], [(2, None), (0, 5)])
+        self.assertEqual(least.flows_from(optimize.linprog(**least.to_scipy())).tolist(), [6, 0])
+        never = MinInstance(2, [1], [2], [0], [1], [1], [3, -3])
+        result = optimize.linprog(**never.to_scipy())
+        self.assertRaisesRegex(ValueError, "the result has the status 2, and no solution", never.flows_from, result)
+        columns = {"low": "low", "capacity": "capacity", "cost": "cost", "supply": {1: 6, 2: -6}}
+        for caps in [INF, 5], [INF, 2**53 + 1]:
+            least = MinInstance(2, [1, 1], [2, 2], [2, 0], caps, [3, 7], [6, -6])
+            self.assertEqual(least.to_frame()["capacity"].tolist(), caps)
+            self.assertEqual(dimacs.from_frame(least.to_frame(), "source", "target", **columns).min_instance(), least)
+
+
+class Names(Said):
+    """Calls over a value speak of nodes and arcs as it does."""
+
+    most = MaxInstance(3, 1, 3, [1, 2], [2, 3], [5, 4], ["mine", "port", "town"])
+
+    def test_refusals(self):
+        graph, open_caps = (3, [1, 2], [2, 3], [5, 4], self.most.names), (3, 0, 2, [0, 1], [1, 2], [INF, INF])
+        labels = Graph(*graph), 1, [0, 5, 8], [0, 1, 2]
+        for kind, message, call, *words in [
+            (dimacs.Refused, "node 'port' Balance: 3 leaves, 4 enters", dimacs.certify_max_arrays, self.most, [4, 3]),
+            (dimacs.Refused, "node 'town' NoTightArc: no arc from port gives its distance 8", dimacs.judge_paths_arrays, *labels),
+            (dimacs.Refused, "solution 2 0 UnknownArc: no arc goes from mine to town", self.most.flows_from, {"mine": {"town": 3}}),
+            (dimacs.Refused, "arc 2 AboveCap: it carries 5, its capacity is 4", dimacs.certify_max_arrays, self.most, [5, 5]),
+            (
+                dimacs.Unbounded, "arcs without a limit lead from the source to the sink: 0, 1",
+                dimacs.solve_max_arrays, MaxInstance(*open_caps, self.most.names, base=0),
+            ),
+        ]:
+            no = self.says(kind, message, call, *words)
+        no = raised(dimacs.Refused, dimacs.judge_paths_arrays, *labels)
+        self.assertEqual((no.node, no.printed), ("town", "x node 'town' NoTightArc"))
+        self.assertEqual(no.explain().splitlines()[-1], "nodes by number: 2 is 'port', 3 is 'town'")
+        other = Solution(4, [4, 4], MaxInstance(3, 1, 3, [1, 1], [2, 3], [4, 4]))
+        message = "the solution is of another instance than this MaxInstance of 3 nodes and 2 arcs: its arcs go between other nodes"
+        self.says(ValueError, message, dimacs.certify_max_arrays, self.most, other)
+        wider = MaxInstance(3, 1, 3, [1, 2], [2, 3], [9, 4])
+        self.assertEqual(dimacs.certify_max_arrays(wider, Solution(4, [4, 4], self.most)).value, 4)
+
+    def test_the_base(self):
+        graph, far = Graph(3, [0, 1], [1, 2], [5, 4], base=0), Distances(0, [0, 5, 9], base=0)
+        before = dimacs.certify_paths_arrays(graph, far).predecessors
+        self.assertEqual([*before], [-1, 0, 1])
+        self.assertTrue(dimacs.judge_paths_arrays(graph, Labels(0, far.distances, before, base=0)))
+        zero = MaxInstance(2, 0, 1, [0, 0], [1, 1], [3, 5], base=0)
+        self.assertEqual(dimacs.spread_max_arrays(zero, [0], [1], [6]), [3, 3])
+        self.assertEqual(zero.flows_from({0: {1: 6}}).tolist(), [3, 3])
+        if pandas:
+            self.assertEqual(zero.to_frame(flow=dimacs.solve_max_arrays(zero).flows)["flow"].to_dict(), {0: 3, 1: 5})
+
+    def test_flows_from(self):
+        """Each entry is the number that it is, also beside a lower bound."""
+        big, wide = 2**53 + 1, MinInstance(2, [1], [2], [1], [LAST], [1], [1, -1])
+        least = MinInstance(2, [1], [2], [big], [2**60], [1], [big, -big])
+        for zero in [0, 0.0, Fraction(0), Decimal(0)] + ([numpy.uint64(0), numpy.float32(0)] if numpy else []):
+            self.assertEqual(least.flows_from({1: {2: {0: zero}}}).tolist(), [big])
+        for most in [LAST] + ([numpy.int64(LAST)] if numpy else []):
+            self.says(ValueError, f"flows[0] is {2**63}, not a whole number of 64 bits", wide.flows_from, {1: {2: {0: most}}})
+        self.says(ValueError, "flow of edge (1, 2, 0) is 2.5, not a whole number", wide.flows_from, {1: {2: {0: 2.5}}})
+        self.says(TypeError, "flow of edge (1, 2) is '2', not a number", OVER.flows_from, {1: {2: "2"}})
+        for value in wide, OVER:
+            message = "the flow is a tuple, which has its value too: pass the second of the two"
+            self.says(TypeError, message, value.flows_from, (3, {1: {2: 3}}))
 
 
 class Values(unittest.TestCase):
@@ -194,12 +334,13 @@ class Values(unittest.TestCase):
         self.assertEqual(dimacs.write(dimacs.certify_max(dimacs.write(OVER), dimacs.write(claim))), texts[2])
         self.assertRaises(ValueError, dimacs.write, pickle.loads(pickle.dumps(yes)))
         for more in {"base": 0}, {"scale": 10}:
-            message = "values have whole numbers, and nodes from 1: scale= and base= are for arrays"
+            message = "values have whole numbers, and a base: scale= and base= are for arrays"
             self.assertRaisesRegex(TypeError, message, dimacs.solve_max_arrays, OVER, **more)
         for message, call in [
             ("certify_max_arrays takes no Graph there", lambda: dimacs.certify_max_arrays(graph, [1])),
             ("certify_max_arrays takes no MaxInstance there", lambda: dimacs.certify_max_arrays(OVER, OVER)),
             ("judge_max_arrays takes no MaxInstance for flows", lambda: dimacs.judge_max_arrays(OVER, flows=OVER, inside=cut)),
+            (r"certify_paths_arrays takes one block: pass blocks\[source\]", lambda: dimacs.certify_paths_arrays(graph, Blocks(1, []))),
             ("takes 1 arguments less", lambda: dimacs.certify_paths_arrays(graph, 1, labels)),
             ("missing 1 required positional argument: 'flows'", lambda: dimacs.certify_max_arrays(OVER)),
         ]:
@@ -311,8 +452,8 @@ class Converted(unittest.TestCase):
         graph = networkx.DiGraph([("mine", "port", {"capacity": 4, "weight": 2}), ("port", "town", {"weight": 1})])
         networkx.set_node_attributes(graph, {"mine": -3, "town": 3}, "demand")
         found = MaxInstance.from_networkx(graph, "mine", "town")
-        self.assertEqual((found.names, listed(found)), (("mine", "port", "town"), [3, 1, 3, [1, 2], [2, 3], [4, LAST]]))
-        self.assertEqual(sorted(found.to_networkx().edges(data="capacity")), [("mine", "port", 4), ("port", "town", LAST)])
+        self.assertEqual((found.names, listed(found)), (("mine", "port", "town"), [3, 1, 3, [1, 2], [2, 3], [4, INF]]))
+        self.assertEqual(sorted(found.to_networkx().edges(data="capacity")), [("mine", "port", 4), ("port", "town", None)])
         self.assertEqual(listed(MinInstance.from_networkx(graph))[-2:], [[2, 1], [3, 0, -3]])
         self.assertEqual(listed(Graph.from_networkx(graph))[-1], [2, 1])
         other = MinInstance.from_networkx(graph, demand="d", capacity="weight", weight="capacity")
@@ -321,7 +462,12 @@ class Converted(unittest.TestCase):
         found = MaxInstance.from_networkx(graph, "mine", "town", scale=(10, 1))
         self.assertEqual((found.caps.tolist(), found.units), ([5, LAST], (Fraction(1, 10), 1)))
         self.assertEqual(dimacs.write(found).split(b"\n")[0], b"c 1 is an amount of 1/10")
-        self.assertEqual(MaxInstance.from_networkx(found.to_networkx(), "mine", "town"), found)
+        again = found.to_networkx()
+        self.assertEqual(MaxInstance.from_networkx(again, "mine", "town"), found)
+        finer = MaxInstance.from_networkx(again, "mine", "town", scale=(10, Decimal("0.5")))
+        self.assertEqual((finer.caps.tolist(), finer.units), ([50, LAST], (Fraction(1, 100), Decimal("0.5"))))
+        again.graph["units"] = "metres"
+        self.assertEqual(MaxInstance.from_networkx(again, "mine", "town"), found)
         message = r"capacity of edge \('mine', 'port'\) is 0.5, not a whole number: scale= takes multiples of a unit$"
         self.assertRaisesRegex(ValueError, message, MaxInstance.from_networkx, graph, "mine", "town")
 
@@ -363,7 +509,11 @@ class Converted(unittest.TestCase):
         self.assertEqual((listed(frame.graph())[-1], frame.graph().names), ([5, 3, 0, 7], (1, 2, 4, 3)))
         frame = dimacs.from_frame(self.most.to_frame(), "source", "target", capacity="capacity")
         scaled = dimacs.from_frame(self.most.to_frame(), "source", "target", capacity="capacity", scale=10).max_instance(2, 3)
-        self.assertEqual((scaled.caps.tolist(), scaled.to_frame().attrs), ([50, 30, 10, 90], {"units": (Fraction(1, 10), Fraction(1, 10))}))
+        table, tenths = scaled.to_frame(), (Fraction(1, 10), Fraction(1, 10))
+        self.assertEqual((scaled.caps.tolist(), table.attrs), ([50, 30, 10, 90], {"dimacs_units": tenths}))
+        for scale, units in (None, tenths), (10, (Fraction(1, 100), Fraction(1, 100))):
+            again = dimacs.from_frame(table, "source", "target", capacity="capacity", scale=scale)
+            self.assertEqual((again.max_instance(2, 3).units, again.min_instance().units, again.graph().units), (units,) * 3)
         found = frame.max_instance(2, 3)
         self.assertEqual((found.names[found.source - 1], dimacs.solve_max_arrays(*found).value), (2, 9))
         self.assertEqual(found.to_frame()[["source", "target"]].values.tolist(), [[2, 1], [2, 1], [2, 3], [1, 3]])

@@ -8,7 +8,7 @@ write to it during the call. Otherwise each number is copied or converted. A Ser
 by its labels. An item of caps may be inf: such an arc carries any amount.
 
 What dimacs.read returns stands in place of its fields: certify_max_arrays(instance, solution). The value of a Solution is
-tested too.
+tested too, and that it is of these arcs. Refusals name arcs and nodes as the instance does, by its names or from 0.
 
 With scale= numbers needn't be whole: they are multiples of a unit, and answers are Fractions (ints if the factor is 1).
 
@@ -33,8 +33,8 @@ from typing import Any, Callable, ParamSpec, Protocol, TypeVar, overload
 from . import calls
 from .answers import Certified, Solved, Verdict
 from .buffers import LIMIT, Numbers
-from .given import DISTANCES, FLOWS, GRAPH, INSIDE, MAX, MIN, POTENTIALS, PREDECESSORS, Given, Names
-from .instances import Cut, Instance, Solution, Value
+from .given import DISTANCES, FLOWS, GRAPH, INSIDE, MAX, MIN, POTENTIALS, PREDECESSORS, Given
+from .instances import Blocks, Cut, Instance, Solution, Value
 
 _Words = ParamSpec("_Words")
 _Answer = TypeVar("_Answer", covariant=True)
@@ -58,11 +58,17 @@ def of_values(call: Callable[_Words, _Answer]) -> _Call[_Words, _Answer]:
             return call(*words, **more)
         has_numbers = any(not isinstance(it, Cut) for it in values)
         if has_numbers and (more.get("scale") is not None or more.get("base", 1) != 1):
-            raise TypeError("values have whole numbers, and nodes from 1: scale= and base= are for arrays")
-        found: Any = call(**_named(call.__name__, names, words, more))
-        for it in values:
-            if isinstance(it, Solution) and isinstance(found, (Certified, Verdict)):
-                calls.of_value(found, it.value, "value")
+            raise TypeError("values have whole numbers, and a base: scale= and base= are for arrays")
+        of = next((it for it in values if isinstance(it, Instance)), None)
+        called = of.called() if of else None
+        named = _named(call.__name__, names, words, more, called.base if called else 1)
+        named |= {"base": called} if called else {}
+        claimed = [it for it in values if isinstance(it, Solution)]
+        if of and any(it.instance is not of and it.instance.ends() != of.ends() for it in claimed):
+            raise ValueError(f"the solution is of another instance than this {of!r}: its arcs go between other nodes")
+        found: Any = call(**named)
+        for it in claimed if isinstance(found, (Certified, Verdict)) else ():
+            calls.of_value(found, it.value, "value")
         return found
 
     return made
@@ -72,12 +78,14 @@ def of_values(call: Callable[_Words, _Answer]) -> _Call[_Words, _Answer]:
 _LEFT_OUT = {"value", "supplies", "predecessors"}
 
 
-def _named(call: str, names: list[str], words: tuple[Any, ...], more: dict[str, Any]) -> dict[str, Any]:
+def _named(call: str, names: list[str], words: tuple[Any, ...], more: dict[str, Any], base: int) -> dict[str, Any]:
     """The arguments by their names: a value stands for its fields, and others for what is left, in order."""
     named = {name: it for name, it in more.items() if not isinstance(it, Value)}
     for name, it in [*((None, it) for it in words), *more.items()]:
+        if isinstance(it, Blocks):
+            raise TypeError(f"{call} takes one block: pass blocks[source]")
         if isinstance(it, Value):
-            fields = dict(zip(it._fields, it))
+            fields = it.numbered(base)
             if fields.keys() - _LEFT_OUT - {*names} or fields.keys() & named or name not in (None, *fields):
                 raise TypeError(f"{call} takes no {type(it).__name__} {'there' if name is None else f'for {name}'}")
             named.update({name: field for name, field in fields.items() if name in names})
@@ -99,7 +107,7 @@ def judge_max_arrays(
     >>> judge_max_arrays(3, 1, 3, [1, 2], [2, 3], [5, 4], [4, 4], [True, True, False])
     Verdict(kind='max', value=4, pairs=())
     """
-    given = Given(MAX, nodes, source, sink, tails, heads, caps, scale=scale, names=Names(base))
+    given = Given(MAX, nodes, source, sink, tails, heads, caps, scale=scale, names=base)
     return calls.judge(given.add(FLOWS, flows).add(INSIDE, inside))
 
 
@@ -117,7 +125,7 @@ def judge_min_arrays(
     >>> judge_min_arrays(2, [1, 1], [2, 2], [0, 0], [5, 5], [3, 7], [6, -6], [5, 1], [7, 0])
     Verdict(kind='min', value=22, pairs=())
     """
-    given = Given(MIN, nodes, tails, heads, lows, caps, costs, supplies, scale=scale, names=Names(base))
+    given = Given(MIN, nodes, tails, heads, lows, caps, costs, supplies, scale=scale, names=base)
     return calls.judge(given.add(FLOWS, flows).add(POTENTIALS, potentials))
 
 
@@ -132,7 +140,7 @@ def judge_infeasible_arrays(
     >>> judge_infeasible_arrays(2, [1], [2], [0], [5], [3], [6, -6], [True, False])
     Verdict(kind='infeasible', value=None, pairs=())
     """
-    given = Given(MIN, nodes, tails, heads, lows, caps, costs, supplies, scale=scale, names=Names(base))
+    given = Given(MIN, nodes, tails, heads, lows, caps, costs, supplies, scale=scale, names=base)
     return calls.judge(given.add(INSIDE, inside))
 
 
@@ -150,7 +158,7 @@ def judge_paths_arrays(
     >>> judge_paths_arrays(3, [1, 2], [2, 3], [5, 4], 1, [0, 5, 9], [0, 1, 2])
     Verdict(kind='sp', value=1, pairs=())
     """
-    given = Given(GRAPH, nodes, tails, heads, weights, scale=scale, names=Names(base)).add_number("source", source)
+    given = Given(GRAPH, nodes, tails, heads, weights, scale=scale, names=base).add_number("source", source)
     given.add(DISTANCES, distances).add(PREDECESSORS, predecessors)
     return calls.judge(given)
 
@@ -170,7 +178,7 @@ def certify_max_arrays(
     >>> certify_max_arrays(3, 1, 3, [1, 2], [2, 3], [0.5, 0.4], [0.4, 0.4], scale=10).value
     Fraction(2, 5)
     """
-    given = Given(MAX, nodes, source, sink, tails, heads, caps, scale=scale, names=Names(base)).add(FLOWS, flows)
+    given = Given(MAX, nodes, source, sink, tails, heads, caps, scale=scale, names=base).add(FLOWS, flows)
     return calls.certify(given, flows)
 
 
@@ -188,7 +196,7 @@ def certify_min_arrays(
     >>> certify_min_arrays(2, [1, 1], [2, 2], [0, 0], [5, 5], [3, 7], [6, -6], [5, 1]).value
     22
     """
-    given = Given(MIN, nodes, tails, heads, lows, caps, costs, supplies, scale=scale, names=Names(base))
+    given = Given(MIN, nodes, tails, heads, lows, caps, costs, supplies, scale=scale, names=base)
     return calls.certify(given.add(FLOWS, flows), flows)
 
 
@@ -204,7 +212,7 @@ def certify_infeasible_arrays(
     >>> certify_infeasible_arrays(2, [1], [2], [0], [5], [3], [6, -6]).inside
     [True, False]
     """
-    given = Given(MIN, nodes, tails, heads, lows, caps, costs, supplies, scale=scale, names=Names(base))
+    given = Given(MIN, nodes, tails, heads, lows, caps, costs, supplies, scale=scale, names=base)
     return calls.certify(given, caps)
 
 
@@ -220,7 +228,7 @@ def certify_paths_arrays(
     >>> certify_paths_arrays(3, [1, 2], [2, 3], [5, 4], 1, [0, 5, 9]).predecessors
     [0, 1, 2]
     """
-    given = Given(GRAPH, nodes, tails, heads, weights, scale=scale, names=Names(base)).add_number("source", source)
+    given = Given(GRAPH, nodes, tails, heads, weights, scale=scale, names=base).add_number("source", source)
     return calls.certify(given.add(DISTANCES, distances), distances)
 
 
@@ -237,7 +245,7 @@ def solve_max_arrays(
     >>> solve_max_arrays(3, 0, 2, [0, 1], [1, 2], [5, float("inf")], base=0)
     Solved(value=5, solution=[5, 5], certificate=[True, False, False])
     """
-    given = Given(MAX, nodes, source, sink, tails, heads, caps, scale=scale, names=Names(base))
+    given = Given(MAX, nodes, source, sink, tails, heads, caps, scale=scale, names=base)
     return calls.solve_max(given, caps, limit)
 
 
@@ -256,7 +264,7 @@ def solve_min_arrays(
     >>> solve_min_arrays(2, [1, 1], [2, 2], [0, 0], [5, 5], [3, 7], [6, -6])[:2]
     (22, [5, 1])
     """
-    given = Given(MIN, nodes, tails, heads, lows, caps, costs, supplies, scale=scale, names=Names(base))
+    given = Given(MIN, nodes, tails, heads, lows, caps, costs, supplies, scale=scale, names=base)
     return calls.solve_min(given, caps, limit)
 
 
@@ -273,5 +281,5 @@ def solve_paths_arrays(
     >>> solve_paths_arrays(3, [1, 2], [2, 3], [5, 4], 1)
     Solved(value=None, solution=[0, 5, 9], certificate=[0, 1, 2])
     """
-    given = Given(GRAPH, nodes, tails, heads, weights, scale=scale, names=Names(base)).add_number("source", source)
+    given = Given(GRAPH, nodes, tails, heads, weights, scale=scale, names=base).add_number("source", source)
     return calls.solve_paths(given, weights)

@@ -62,9 +62,7 @@ def _claimed(given: Given, node: int) -> dict[str, Any]:
     numbers = {"distance": math.inf if found == UNREACHED else given.amount("cost", found)}
     if not given.has(PREDECESSORS):
         return numbers
-    before = given.column(PREDECESSORS)[node - 1]
-    is_node = 0 < before <= given.number("nodes")
-    return {**numbers, "predecessor": given.names.node(before - 1) if is_node else before - 1 + given.names.base}
+    return {**numbers, "predecessor": given.node(given.column(PREDECESSORS)[node - 1])}
 
 
 def _ends(given: Given, arc: int) -> dict[str, Any]:

@@ -229,7 +229,7 @@ class AskedOfArrays(Asked):
         names, units = self._given.names, self._given.units
         if units:
             yield f"numbers are whole here: {self._scaled(*units)}"
-        if type(names) is not Names:
+        if names.nodes is not None or type(names) is not Names:
             yield from _named("node", re.findall(f"{_NODE}(\\d+)", lines), names.node)
             yield from _named("arc", re.findall(f"{_ARC}(\\d+)", lines), names.arc)
         elif names.base == 0:
@@ -246,5 +246,8 @@ class AskedOfArrays(Asked):
 
 
 def _named(what: str, numbers: list[str], name: Any) -> Iterator[str]:
-    if numbers:
-        yield f"{what}s by number: " + ", ".join(f"{it} is {name(it - 1)!r}" for it in sorted({*map(int, numbers)}))
+    """What things are called that aren't called by their numbers."""
+    called = {it: name(it - 1) for it in sorted({*map(int, numbers)})}
+    others = [f"{number} is {it!r}" for number, it in called.items() if it != number]
+    if others:
+        yield f"{what}s by number: {', '.join(others)}"

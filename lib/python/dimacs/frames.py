@@ -13,7 +13,7 @@ from . import calls
 from .answers import Certified, Parts, Solved
 from .buffers import LIMIT
 from .explained import like
-from .instances import Graph, MaxInstance, MinInstance
+from .instances import UNITS, Graph, MaxInstance, MinInstance
 from .given import DISTANCES, FLOWS, GRAPH, INSIDE, MAX, MIN, POTENTIALS, Array, Given, Names
 
 
@@ -55,14 +55,11 @@ class _FrameNames(Names):
     has_inf_alone = True
 
     def __init__(self, frame: Frame) -> None:
-        super().__init__()
+        super().__init__(nodes=frame.nodes)
         self._frame = frame
 
     def arc(self, place: int) -> Any:
         return self._frame.edges.index[place]
-
-    def node(self, place: int) -> Any:
-        return self._frame.nodes[place]
 
     def item(self, name: str, place: int) -> str:
         if name in ("supplies", "distances"):
@@ -147,6 +144,7 @@ class Frame:
         self.nodes = list(self._numbers)
         self._tails, self._heads = ([self._numbers[it] for it in ends] for ends in (tails, heads))
         self._supplies = [supplies.get(node, 0) for node in self.nodes]
+        self._units = edges.attrs.get(UNITS)
 
     def __repr__(self) -> str:
         return f"Frame of {len(self.edges)} edges between {len(self.nodes)} nodes"
@@ -184,14 +182,14 @@ class Frame:
         return self._graph().add_number("source", self._number(source))
 
     def max_instance(self, source: Any, sink: Any) -> MaxInstance:
-        """The network as arrays, whose names are the nodes. Without a capacity an edge has 2^63 - 1."""
-        return MaxInstance._of(self._max(source, sink), self.nodes)
+        """The network as arrays, whose names are the nodes. Without a capacity an edge has no limit."""
+        return MaxInstance._of(self._max(source, sink), self.nodes, self._units)
 
     def min_instance(self) -> MinInstance:
-        return MinInstance._of(self._min(), self.nodes)
+        return MinInstance._of(self._min(), self.nodes, self._units)
 
     def graph(self) -> Graph:
-        return Graph._of(self._graph(), self.nodes)
+        return Graph._of(self._graph(), self.nodes, self._units)
 
     def _is_name(self, flows: Any) -> bool:
         """Whether these flows are a column of the frame: one that it has, or what has letters, and so is no number."""

@@ -72,26 +72,27 @@ GRAPH = Form("gr", "nodes", TAILS, HEADS, WEIGHTS)
 
 
 class Names:
-    """How nodes, arcs and items of arrays are named: by numbers from a base."""
+    """How nodes, arcs and items of arrays are named: by numbers from a base, or nodes by names of their own."""
 
     #: Whether supplies come as demands, negated.
     has_demands = False
     #: Whether each number is a distance: only inf says that a node isn't reached.
     has_inf_alone = False
 
-    def __init__(self, base: int = 1) -> None:
+    def __init__(self, base: int = 1, nodes: Sequence[Any] | None = None) -> None:
         if not isinstance(base, Integral) or is_bool(base):
             raise TypeError(f"base is {base!r}, and has to be the int 0 or 1")
         if base not in (0, 1):
             raise ValueError(f"base is {written(base)}, and has to be 0 or 1")
         self.base: int = int(base)
+        self.nodes: Any = nodes
 
     def arc(self, place: int) -> Any:
         """The name of an arc by its place, from 0."""
         return place + self.base
 
     def node(self, place: int) -> Any:
-        return place + self.base
+        return place + self.base if self.nodes is None else self.nodes[place]
 
     def item(self, name: str, place: int) -> str:
         return f"{name}[{place}]"
@@ -112,8 +113,8 @@ UNSCALED = object()
 class Given:
     """The arguments of a call: an instance, and those that are added. Keeps the memory of all arrays."""
 
-    def __init__(self, form: Form, *given: Any, scale: Any = UNSCALED, names: Names | None = None) -> None:
-        self.form, self.names = form, names or Names()
+    def __init__(self, form: Form, *given: Any, scale: Any = UNSCALED, names: Names | int = 1) -> None:
+        self.form, self.names = form, names if isinstance(names, Names) else Names(names)
         self._scale, self._may_be_scaled = (None, False) if scale is UNSCALED else (scale, scale is None)
         count = len(form.numbers)
         self._singles = dict(zip(form.numbers, given))
@@ -326,6 +327,11 @@ class Given:
         ids = numpy.frombuffer(ctypes.string_at(buffer.address, buffer.length * kind.items.width), kind.items.code)
         return list(numpy.flatnonzero(ids == node).tolist())
 
+    def node(self, number: int) -> Any:
+        """The name of a node by its number, which may be that of none."""
+        is_node = 0 < number <= self.number("nodes")
+        return self.names.node(number - 1) if is_node else number - 1 + self.names.base
+
     def amount(self, unit: str, number: int) -> Any:
         """A number of this unit, in the user's numbers."""
         return self.units.of(unit).shown(number) if self.units else number
@@ -347,8 +353,7 @@ class Given:
             if it.arc is not None:
                 it.arc = self.names.arc(it.arc - 1)
             if it.node is not None:
-                is_node = 0 < it.node <= self.number("nodes")
-                it.node = self.names.node(it.node - 1) if is_node else it.node - 1 + self.names.base
+                it.node = self.node(it.node)
             if asked is not None:
                 asked.said = str(it)
             self.forget()

@@ -29,6 +29,8 @@ _OF_NODES = {"supplies": "demand", "distances": "distance", "potentials": "poten
 
 def entries_of_flow(flow: Any, shape: str) -> dict[tuple[Any, ...], Any]:
     """The entries of a flow of this shape by their edges."""
+    if isinstance(flow, tuple):
+        raise TypeError("the flow is a tuple, which has its value too: pass the second of the two")
     entries: dict[tuple[Any, ...], Any] = {(): flow}
     for _ in range(shape.count("[")):
         _test_shape(all(isinstance(it, Mapping) for it in entries.values()), shape)
@@ -156,9 +158,6 @@ class NumberedGraph(Names):
 
     def arc(self, place: int) -> Any:
         return self.edges[place]
-
-    def node(self, place: int) -> Any:
-        return self.nodes[place]
 
     def item(self, name: str, place: int) -> str:
         if name in _OF_EDGES:

@@ -5,15 +5,18 @@ The calls over arrays take a value in place of its fields, into which it unpacks
 of its arcs. Nodes and arcs are numbered from 1: base=0 tells a constructor that they come numbered from 0. Arrays are those of
 numpy, which can't be written to; without numpy they are array.array. IDs are uint32, so tails - heads wraps at 2^32.
 
-names has what nodes are called where an instance comes from, node 1 first, or is None. units has what 1 stands for in its
-amounts and in its costs, as (Fraction(1, 100), 1), or is None if numbers are as they came; conversions keep both. Instances
-are equal if these are too, and solutions if their instances are.
+An arc with the capacity inf has no limit: caps has 2^63 - 1 there, and unlimited whether each arc is one, or None if none is.
+An instance unpacks into the arguments that make it, with inf there, and calls see these. names has what nodes are called where
+it comes from, node 1 first, or is None; calls name them so, and count from the base that the instance was made with. units
+has what 1 stands for in its amounts and in its costs, as (Fraction(1, 100), 1), or is None if numbers are as they came; graphs
+and frames keep them as "dimacs_units". Instances are equal if all of this is but the base; solutions if their instances are.
 """
 
 from __future__ import annotations
 
 import ctypes
 import importlib
+import math
 import operator
 from array import array
 from collections import Counter
@@ -26,6 +29,7 @@ from .answers import PastLimit
 from .buffers import IDS, MARKS, NUMBERS, Buffer, Items, Numbers, array_of, gone_through, number_of, room_of, unlabelled
 from .given import DISTANCES, FLOWS, FROMS, GRAPH, INSIDE, MAX, MIN, POTENTIALS, PREDECESSORS, TAILS, TOS, Array, Form, Given
 from .given import Names
+from .scales import ones_of
 
 if TYPE_CHECKING:
     from numpy import bool_, int64, uint32
@@ -102,7 +106,12 @@ class Value(Sized, Iterable[Any]):
         return hash(self._compared())
 
     def _compared(self) -> tuple[Any, ...]:
-        return tuple(it.tobytes() if hasattr(it, "tobytes") else it for it in self)
+        fields = (getattr(self, name) for name in self._fields)
+        return tuple(it.tobytes() if hasattr(it, "tobytes") else it for it in fields)
+
+    def numbered(self, base: int) -> dict[str, Any]:
+        """The fields by their names, with nodes numbered from a base."""
+        return {name: it if base or name not in _NODES else _from_zero(it) for name, it in zip(self._fields, self)}
 
     def _lines(self) -> int:
         """About as many lines as its text has."""
@@ -111,6 +120,16 @@ class Value(Sized, Iterable[Any]):
     def _words(self) -> tuple[list[int], list[Buffer]]:
         """The numbers and the arrays that the call takes that writes its text."""
         raise NotImplementedError
+
+
+#: What has nodes, or predecessors.
+_NODES = {"source", "sink", "tails", "heads", "predecessors"}
+
+
+def _from_zero(nodes: Any) -> Any:
+    if isinstance(nodes, int):
+        return nodes - 1
+    return nodes.astype("q") - 1 if hasattr(nodes, "astype") else [it - 1 for it in nodes]
 
 
 def _test_limits(given: Given) -> None:
@@ -142,6 +161,10 @@ def _names(given: Any, nodes: int) -> NodeNames:
     return names
 
 
+#: What the attributes of graphs and frames call the units.
+UNITS = "dimacs_units"
+
+
 @dataclass(frozen=True, eq=False, repr=False, init=False)
 class Instance(Value):
     """What MaxInstance, MinInstance and Graph have in common."""
@@ -152,22 +175,29 @@ class Instance(Value):
     heads: Ids
     names: NodeNames
     units: Units
+    unlimited: Marks | None
+    base: int
 
     def __init_subclass__(cls) -> None:
         cls._fields = (*cls._form.numbers, *(it.name for it in cls._form.arrays))
 
-    def _take(self, given: Given, names: Any, units: Units = None) -> None:
+    def _take(self, given: Given, names: Any, units: Units = None, base: int | None = None) -> None:
         """The arrays of arguments, which have to pass the tests of calls."""
         numbers = given.instance(_copied)
         _test_limits(given)
+        marks, base = array("B", bytes(given.count(TAILS))), given.names.base if base is None else base
+        for arc in given.limitless():
+            marks[arc] = 1
+        unlimited = _copied(Buffer(marks, *marks.buffer_info()), MARKS) if any(marks) else None
         given.forget()
-        shown = names if names is not None or given.names.base else range(numbers[0])
-        self._set(*numbers, names=_names(shown, numbers[0]), units=units or (given.units and given.units.ones()))
+        shown = names if names is not None or base else range(numbers[0])
+        found = {"names": _names(shown, numbers[0]), "units": ones_of(units, given.units), "base": base}
+        self._set(*numbers, **found, unlimited=unlimited)
 
     @classmethod
-    def _of(cls: type[_Instance], given: Given, names: Any, units: Units = None) -> _Instance:
+    def _of(cls: type[_Instance], given: Given, names: Any, units: Units = None, base: int | None = None) -> _Instance:
         value = object.__new__(cls)
-        value._take(given, names, units)
+        value._take(given, names, units, base)
         return value
 
     @classmethod
@@ -175,10 +205,30 @@ class Instance(Value):
         from .graphs import NumberedGraph
 
         found = NumberedGraph(graph, scale)
-        return cls._of(getattr(found, form)(*words), found.nodes, graph.graph.get("units"))
+        return cls._of(getattr(found, form)(*words), found.nodes, graph.graph.get(UNITS))
 
     def __len__(self) -> int:
         return len(self.tails)
+
+    def __iter__(self) -> Iterator[Any]:
+        return iter([self._limits() if name == "caps" else getattr(self, name) for name in self._fields])
+
+    def _limits(self) -> Any:
+        """The capacities, inf of arcs without a limit: as floats if these are exact, else as objects."""
+        caps: Any = self.caps  # type: ignore[attr-defined]
+        if self.unlimited is None:
+            return caps
+        if numpy() is None:
+            return self._items("caps")
+        is_exact = caps[~self.unlimited].max(initial=0) <= 2**53
+        return numpy().where(self.unlimited, math.inf, caps if is_exact else caps.astype(object))
+
+    def _items(self, name: str) -> list[Any]:
+        """Numbers of arcs as ints, and inf as the capacity of one without a limit."""
+        found: list[Any] = getattr(self, name).tolist()
+        if name != "caps" or self.unlimited is None:
+            return found
+        return [math.inf if is_unlimited else it for it, is_unlimited in zip(found, self.unlimited.tolist())]
 
     def __repr__(self) -> str:
         return f"{type(self).__name__} of {self.nodes} nodes and {len(self)} arcs"
@@ -187,7 +237,7 @@ class Instance(Value):
         called = self._called()
         if isinstance(called, tuple) and called[:1] == (1,) and called == (*range(1, self.nodes + 1),):
             called = range(1, self.nodes + 1)
-        return (*super()._compared(), called, self.units)
+        return (*super()._compared(), called, self.units, self.unlimited is not None and self.unlimited.tobytes())
 
     def _called(self) -> Sequence[Any]:
         return range(1, self.nodes + 1) if self.names is None else self.names
@@ -196,27 +246,41 @@ class Instance(Value):
         """The arcs in order: the names of their ends, and these numbers."""
         called = self._called()
         ends = ([called[it - 1] for it in ends.tolist()] for ends in (self.tails, self.heads))
-        return zip(*ends, *(getattr(self, name).tolist() for name in names))
+        return zip(*ends, *map(self._items, names))
+
+    def called(self) -> Names:
+        """How calls over it name nodes and arcs."""
+        is_plain = self._called() == range(self.base, self.base + self.nodes)
+        return Names(self.base, None if is_plain else self.names)
+
+    def ends(self) -> tuple[bytes, bytes]:
+        return self.tails.tobytes(), self.heads.tobytes()
 
     def _digraph(self, kind: str) -> Any:
         graph = getattr(importlib.import_module("networkx"), kind)()
         graph.add_nodes_from(self._called())
         if self.units:
-            graph.graph["units"] = self.units
+            graph.graph[UNITS] = self.units
         return graph
 
-    def to_frame(self) -> Any:
-        """The arcs in a DataFrame of pandas, a row each: source, target, and their numbers. The index has the numbers of arcs,
-        and attrs the units."""
+    def to_frame(self, **by_arc: Any) -> Any:
+        """The arcs in a DataFrame of pandas, a row each: source, target, their numbers (a capacity may be inf), and others,
+        as flow=answer.flows. The index has the numbers of arcs, from the base, and attrs the units."""
         pandas, called = importlib.import_module("pandas"), self._called()
         columns: dict[str, Any] = {"source": self.tails.astype("int64"), "target": self.heads.astype("int64")}
         if called != range(1, self.nodes + 1):
             nodes = pandas.Series(list(called), dtype="O").infer_objects().to_numpy()
             columns = {name: nodes.take(it - 1) for name, it in columns.items()}
-        columns.update((_COLUMNS[name], getattr(self, name)) for name in self._fields if name in _COLUMNS)
-        frame = pandas.DataFrame(columns, pandas.RangeIndex(1, len(self) + 1, name="arc"))
-        frame.attrs.update({"units": self.units} if self.units else {})
+        columns.update((_COLUMNS[name], it) for name, it in zip(self._fields, self) if name in _COLUMNS)
+        columns.update(by_arc)
+        frame = pandas.DataFrame(columns, pandas.RangeIndex(self.base, self.base + len(self), name="arc"))
+        frame.attrs.update({UNITS: self.units} if self.units else {})
         return frame
+
+
+def _capacity(cap: Any) -> dict[str, Any]:
+    """That of an edge, if it has a limit."""
+    return {} if cap == math.inf else {"capacity": cap}
 
 
 #: What the numbers of arcs are called in a frame.
@@ -225,10 +289,10 @@ _COLUMNS = {"lows": "low", "caps": "capacity", "costs": "cost", "weights": "weig
 
 @dataclass(frozen=True, eq=False, repr=False, init=False)
 class MaxInstance(Instance):
-    """A maximum flow instance: nodes, source and sink, and the tail, head and capacity of each arc. Nodes are numbered from 1,
-    or with base=0 from 0, in what is given; the value has them from 1. Its arrays can't be written to; those of nodes are
-    uint32, so tails - heads wraps. names has what nodes are called, each once, and units what 1 stands for in amounts and
-    in costs. Raises PastLimit as the calls over arrays.
+    """A maximum flow instance: nodes, source and sink, and the tail, head and capacity of each arc, inf for no limit. Nodes are
+    numbered from 1, or with base=0 from 0, in what is given and by calls over the value, whose fields have them from 1. Its
+    arrays can't be written to; those of nodes are uint32, so tails - heads wraps. names has what nodes are called, each once,
+    and units what 1 stands for in amounts and in costs. Raises PastLimit as the calls over arrays.
 
     >>> import dimacs
     >>> instance = MaxInstance(3, 0, 2, [0, 1], [1, 2], [5, 4], base=0)
@@ -248,13 +312,13 @@ class MaxInstance(Instance):
         self, nodes: int, source: int, sink: int, tails: Numbers, heads: Numbers, caps: Numbers,
         names: NodeNames = None, units: Units = None, *, base: int = 1,
     ) -> None:
-        self._take(Given(MAX, nodes, source, sink, tails, heads, caps, names=Names(base)), names, units)
+        self._take(Given(MAX, nodes, source, sink, tails, heads, caps, names=base), names, units)
 
     @classmethod
     def from_networkx(
         cls, graph: Any, source: Any, sink: Any, *, capacity: Any = "capacity", scale: Any = None
     ) -> MaxInstance:
-        """That of a DiGraph or MultiDiGraph, with the capacities of its edges; without one an edge has 2^63 - 1. With scale=
+        """That of a DiGraph or MultiDiGraph, with the capacities of its edges; without one an edge has no limit. With scale=
         (see dimacs.arrays) they are multiples of a unit."""
         return cls._of_graph(graph, scale, "max", source, sink, capacity)
 
@@ -264,20 +328,25 @@ class MaxInstance(Instance):
         Vertices are numbered from 0."""
         from .scipy.flows import Network
 
-        return cls._of(Network(matrix, source, sink, scale).given(), range(matrix.shape[0]))
+        return cls._of(Network(matrix, source, sink, scale).given(), None, base=0)
 
     def to_networkx(self) -> Any:
-        """A DiGraph, which networkx' maximum flows need. An edge has the capacities of parallel arcs, added up."""
-        graph = self._digraph("DiGraph")
+        """A DiGraph, which networkx' maximum flows need. An edge has the capacities of parallel arcs, added up, or none if one
+        of these has no limit."""
+        graph, sums = self._digraph("DiGraph"), Counter[Any]()
         for tail, head, cap in self._listed("caps"):
-            before = graph[tail][head]["capacity"] if graph.has_edge(tail, head) else 0
-            graph.add_edge(tail, head, capacity=before + cap)
+            sums[tail, head] += cap
+        graph.add_edges_from((*ends, _capacity(cap)) for ends, cap in sums.items())
         return graph
 
     def to_scipy(self) -> Any:
-        """A matrix of capacities in CSR format, of 64 bits. An entry has the capacities of parallel arcs, added up."""
+        """A matrix of capacities in CSR format, of 64 bits. An entry has the capacities of parallel arcs, added up. Raises
+        ValueError if an arc has no limit."""
         from .scipy.entries import summed
 
+        if self.unlimited is not None:
+            arc = self.base + self.unlimited.tolist().index(True)
+            raise ValueError(f"arc {arc} has no limit, and in a matrix of SciPy each capacity is a number")
         return summed(self.tails, self.heads, self.caps, self.nodes)
 
     def flows_from(self, flow: Any) -> Amounts:
@@ -290,12 +359,11 @@ class MaxInstance(Instance):
         >>> flows.tolist(), dimacs.write(Solution(6, flows, instance))
         ([3, 3], b's 6\nf 1 2 3\nf 1 2 3\n')
         """
-        from .graphs import entries_of_flow
         from .spread import spread_max_arrays
 
-        if isinstance(flow, Mapping):
-            number = {name: node for node, name in enumerate(self._called(), 1)}
-            found = entries_of_flow(flow, "flow[u][v]")
+        if isinstance(flow, (Mapping, tuple)):
+            number = {name: node for node, name in enumerate(self._called(), self.base)}
+            found = _entries(flow, "flow[u][v]")
             for node in {node for edge in found for node in edge if node not in number}:
                 raise ValueError(f"{node!r} is no node of the instance")
             sums = [(number[tail], number[head], it) for (tail, head), it in found.items() if it != 0]
@@ -303,9 +371,9 @@ class MaxInstance(Instance):
             from .scipy.flows import flow_of
 
             rows, columns, amounts = (it.tolist() for it in flow_of(flow, self.nodes))
-            sums = [(row + 1, column + 1, it) for row, column, it in zip(rows, columns, amounts) if it > 0]
+            sums = [(u + self.base, v + self.base, it) for u, v, it in zip(rows, columns, amounts) if it > 0]
         columns = [list(it) for it in zip(*sums)] or [[], [], []]
-        return _amounts(spread_max_arrays(*self, *columns))
+        return _amounts(spread_max_arrays(self, *columns))
 
 
 @dataclass(frozen=True, eq=False, repr=False, init=False)
@@ -330,13 +398,13 @@ class MinInstance(Instance):
         self, nodes: int, tails: Numbers, heads: Numbers, lows: Numbers, caps: Numbers, costs: Numbers, supplies: Numbers,
         names: NodeNames = None, units: Units = None, *, base: int = 1,
     ) -> None:
-        self._take(Given(MIN, nodes, tails, heads, lows, caps, costs, supplies, names=Names(base)), names, units)
+        self._take(Given(MIN, nodes, tails, heads, lows, caps, costs, supplies, names=base), names, units)
 
     @classmethod
     def from_networkx(
         cls, graph: Any, *, demand: Any = "demand", capacity: Any = "capacity", weight: Any = "weight", scale: Any = None
     ) -> MinInstance:
-        """That of a DiGraph or MultiDiGraph, as network_simplex takes it; without a capacity an edge has 2^63 - 1. With scale=
+        """That of a DiGraph or MultiDiGraph, as network_simplex takes it; without a capacity an edge has no limit. With scale=
         (see dimacs.arrays) numbers are multiples of a unit."""
         return cls._of_graph(graph, scale, "min", demand, capacity, weight)
 
@@ -348,7 +416,7 @@ class MinInstance(Instance):
         for node, supply in zip(self._called(), self.supplies.tolist()):
             graph.nodes[node]["demand"] = -supply
         for key, (tail, head, low, cap, cost) in enumerate(self._listed("lows", "caps", "costs")):
-            graph.add_edge(tail, head, key, capacity=cap - low, weight=cost)
+            graph.add_edge(tail, head, key, **_capacity(cap - low), weight=cost)
             graph.nodes[tail]["demand"] += low
             graph.nodes[head]["demand"] -= low
         graph.graph["cost"] = sum(map(operator.mul, self.lows.tolist(), self.costs.tolist()))
@@ -359,7 +427,7 @@ class MinInstance(Instance):
         from .scipy.entries import incidence
 
         rows = incidence(self.tails, self.heads, self.nodes)
-        bounds = list(zip(self.lows.tolist(), self.caps.tolist()))
+        bounds = [(low, None if cap == math.inf else cap) for low, cap in zip(self.lows.tolist(), self._items("caps"))]
         return {"c": self.costs, "A_eq": rows, "b_eq": self.supplies, "bounds": bounds}
 
     def flows_from(self, flow: Any) -> Amounts:
@@ -374,9 +442,7 @@ class MinInstance(Instance):
             from .scipy.programs import rounded_of
 
             return _amounts(rounded_of(flow, len(self)))
-        from .graphs import entries_of_flow
-
-        entries, arcs = entries_of_flow(flow, "flow[u][v][key]"), enumerate(self._listed("lows"))
+        entries, arcs = _entries(flow, "flow[u][v][key]"), enumerate(self._listed("lows"))
         flows = [low + entries.pop((tail, head, key), 0) for key, (tail, head, low) in arcs]
         for edge, amount in entries.items():
             if amount != 0:
@@ -403,7 +469,7 @@ class Graph(Instance):
         self, nodes: int, tails: Numbers, heads: Numbers, weights: Numbers, names: NodeNames = None, units: Units = None,
         *, base: int = 1,
     ) -> None:
-        self._take(Given(GRAPH, nodes, tails, heads, weights, names=Names(base)), names, units)
+        self._take(Given(GRAPH, nodes, tails, heads, weights, names=base), names, units)
 
     @classmethod
     def from_networkx(cls, graph: Any, *, weight: Any = "weight", scale: Any = None) -> Graph:
@@ -420,7 +486,7 @@ class Graph(Instance):
 
         vertices, tails, heads, weights = arcs_of(matrix, True, False, scale=scale)
         given = Given(GRAPH, vertices, numbers_of(tails), numbers_of(heads), weights, scale=scale)
-        return cls._of(given, range(vertices))
+        return cls._of(given, None, base=0)
 
     def to_networkx(self) -> Any:
         """A MultiDiGraph whose keys are the places of arcs, from 0."""
@@ -434,6 +500,15 @@ class Graph(Instance):
         from .scipy.entries import shortest
 
         return shortest(self.tails, self.heads, self.weights, self.nodes)
+
+
+def _entries(flow: Any, shape: str) -> dict[tuple[Any, ...], int]:
+    """The entries of a flow of networkx by their edges, as ints."""
+    from .graphs import entries_of_flow
+
+    found = entries_of_flow(flow, shape)
+    edges = list(found)
+    return dict(zip(edges, array_of([*found.values()], NUMBERS, lambda k: f"flow of edge {edges[k]!r}").listed(NUMBERS)))
 
 
 def _amounts(numbers: Any) -> Amounts:
@@ -489,7 +564,7 @@ class ByNode(Value):
         cls._fields = (*cls._ids, *(it.name for it in cls._arrays))
 
     def _take(self, *arrays: Numbers, base: int = 1, **source: int) -> None:
-        given = Given(_NO_INSTANCE, names=Names(base))
+        given = Given(_NO_INSTANCE, names=base)
         for kind, numbers in zip(self._arrays, arrays):
             given.add(kind, numbers)
         given.words()
@@ -613,7 +688,7 @@ class Labels(Distances):
 
 
 class Blocks(Mapping[int, Distances]):
-    r"""All blocks of a text of distances, or of labels, by their sources, in the order of the text.
+    r"""All blocks of a text of distances, or of labels, by their sources, in the order of the text, whose kind is the name.
 
     >>> import dimacs
     >>> blocks = dimacs.read("distances", "p distances 2 2\nt 2 0\nt 1 1\nd 2 7\n")
@@ -623,15 +698,15 @@ class Blocks(Mapping[int, Distances]):
     True
     """
 
-    def __init__(self, nodes: int, blocks: Iterable[Distances]) -> None:
+    def __init__(self, nodes: int, blocks: Iterable[Distances], name: str | None = None) -> None:
         self.nodes = number_of(nodes, IDS, "nodes")
         self._blocks: dict[int, Distances] = {}
-        kind = None
         for it in blocks:
-            is_block = isinstance(it, Distances) and len(it) == self.nodes and kind in (None, type(it))
+            is_block = isinstance(it, Distances) and len(it) == self.nodes and name in (None, it.name)
             if not is_block or it.source in self._blocks:
                 raise ValueError(f"{it!r} comes beside blocks of {self.nodes} nodes, one from each source, all of a kind")
-            self._blocks[it.source], kind = it, type(it)
+            self._blocks[it.source], name = it, it.name
+        self.name = name or Distances.name
 
     @property
     def sources(self) -> tuple[int, ...]:
@@ -667,7 +742,7 @@ class Queries(Value):
     tos: Ids | None
 
     def __init__(self, froms: Numbers, tos: Numbers | None = None, *, base: int = 1) -> None:
-        given = Given(_NO_INSTANCE, names=Names(base)).add(FROMS, froms)
+        given = Given(_NO_INSTANCE, names=base).add(FROMS, froms)
         if tos is not None:
             given.add(TOS, tos)
         given.words()

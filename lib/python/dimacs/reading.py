@@ -70,7 +70,7 @@ def _instance(value: type[Instance], text: Buffer) -> Instance:
     by_arc, by_node = ([it.items for it in form.arrays if it.each == each] for each in ("arcs", "nodes"))
     same, others = [_Room(it, (text.length + 1) // _ARC) for it in by_arc], [_Room(it, text.length // _NODE) for it in by_node]
     arrays = _arrays(value.name, text, *numbers, same=same, others=others)
-    return value._made(*(it.value for it in numbers), *arrays, names=None, units=None)
+    return value._made(*(it.value for it in numbers), *arrays, names=None, units=None, unlimited=None, base=1)
 
 
 def _solution(text: Buffer, instance: Instance) -> Solution:
@@ -105,7 +105,7 @@ def _blocks(value: type[Distances], text: Text) -> Blocks:
         source, block = int(it.split()[0]), bytes_of(head + b" 1\nt " + it + b"\n")
         with _explained(value.name, text, source):
             found.append(_by_node(value, block, source))
-    return Blocks(nodes, found)
+    return Blocks(nodes, found, value.name)
 
 
 class _explained(Asked):

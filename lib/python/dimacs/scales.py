@@ -173,6 +173,19 @@ class Units(NamedTuple):
         return None if found == (1, 1) else found
 
 
+def ones_of(given: Any, scale: Units | None) -> tuple[Any, Any] | None:
+    """What 1 stands for by a scale, if it stood for two numbers before, or None. Raises TypeError and ValueError for others."""
+    if given is None:
+        return scale and scale.ones()
+    if not isinstance(given, tuple) or len(given) != 2:
+        raise TypeError(f"units is {given!r}, and has to be a pair: what 1 stands for in amounts, and in costs")
+    exact = [fraction_of(it, partial("units[{}]".format, k)) for k, it in enumerate(given)]
+    if min(exact) <= 0:
+        raise ValueError(f"units is {given!r}, and both have to be above 0")
+    before = [Scale(1 / it, isinstance(unit, decimal.Decimal)) for it, unit in zip(exact, given)]
+    return Units(*map(Scale.times, before, scale or (_WHOLE, _WHOLE))).ones()
+
+
 def units_of(scale: Any, groups: Callable[[str], Iterable[tuple[Sequence[Any], Callable[[int], str]]]]) -> Units | None:
     """The scales that an argument names: None, "exact", one for all, or a pair."""
     if scale is None:

@@ -13,7 +13,7 @@ from . import texts
 from .answers import PastLimit, Refused
 from .arrays import of_values
 from .buffers import IDS, NUMBERS, Numbers, in_form_of, number_of
-from .given import MAX, MIN, MOST_NODES, PAIR_HEADS, PAIR_TAILS, SUMS, Form, Given, Names
+from .given import MAX, MIN, MOST_NODES, PAIR_HEADS, PAIR_TAILS, SUMS, Form, Given
 from .instances import Instance, MaxInstance, MinInstance
 from .reading import read
 from .writing import text_of_instance
@@ -33,9 +33,10 @@ def _spread(call: Any, kind: type[Instance], given: Given, *pairs: Any) -> Any:
         solution = call(text_of_instance(given), claim.encode("ascii"))
     except Refused as it:
         if it.text is None and it.arc is not None:
-            it.arc += base - 1
+            it.arc = given.names.arc(it.arc - 1)
         if it.text == "solution" and it.line is not None:
-            it.numbers = {name: column[it.line - 2] for name, column in zip(("tail", "head"), columns)}
+            ends = zip(("tail", "head"), columns)
+            it.numbers = {name: given.node(column[it.line - 2] + 1 - base) for name, column in ends}
         raise
     return in_form_of(pairs[-1], array(NUMBERS.code, read("solution", solution, instance).flows.tolist()))
 
@@ -56,7 +57,7 @@ def spread_max_arrays(
     >>> spread_max_arrays(2, 1, 2, [1, 1], [2, 2], [3, 5], [1], [2], [6])
     [3, 3]
     """
-    given = Given(MAX, nodes, source, sink, tails, heads, caps, names=Names(base))
+    given = Given(MAX, nodes, source, sink, tails, heads, caps, names=base)
     return _spread(texts.spread_max, MaxInstance, given, pair_tails, pair_heads, sums)
 
 
@@ -75,5 +76,5 @@ def spread_min_arrays(
     if count > MOST_NODES:
         raise PastLimit("NumberRange", node=MOST_NODES + base, numbers={"most": MOST_NODES})
     supplies = memoryview(bytes(NUMBERS.width * count)).cast("q")
-    given = Given(MIN, count, tails, heads, lows, caps, costs, supplies, names=Names(base))
+    given = Given(MIN, count, tails, heads, lows, caps, costs, supplies, names=base)
     return _spread(texts.spread_min, MinInstance, given, pair_tails, pair_heads, sums)

@@ -7,7 +7,7 @@ from typing import Any, Sequence
 
 from . import library
 from .answers import Certified, Explainable, Feasible, Infeasible, NotOptimal, Solved
-from .buffers import Buffer, bytes_of
+from .buffers import UNLIMITED, Buffer, bytes_of
 from .given import FLOWS, TAILS, Given
 from .instances import Blocks, Instance, Solution, Value
 
@@ -43,8 +43,7 @@ def _text_of_solution(value: Solution) -> bytes:
 
 def _text_of_blocks(blocks: Blocks) -> bytes:
     """A problem line, and the lines of each block after its own."""
-    kind = next((it.name for it in blocks.values()), "distances")
-    return f"p {kind} {blocks.nodes} {len(blocks)}\n".encode() + b"".join(
+    return f"p {blocks.name} {blocks.nodes} {len(blocks)}\n".encode() + b"".join(
         write(it).partition(b"\n")[2] for it in blocks.values()
     )
 
@@ -63,18 +62,18 @@ def _text_of_answer(answer: Any) -> bytes:
     return bytes(asked.written(name))
 
 
-def _units(instance: Instance) -> bytes:
-    """A comment on what 1 stands for."""
-    if not instance.units:
-        return b""
+def _comments(instance: Instance) -> bytes:
+    """What 1 stands for, and what stands where an arc has no limit."""
     of = {"max": "an amount of {}", "min": "an amount of {}, a cost of {}", "gr": "a distance of {1}"}
-    return f"c 1 is {of[instance.name].format(*instance.units)}\n".encode()
+    lines = [f"1 is {of[instance.name].format(*instance.units)}"] if instance.units else []
+    lines += [f"an arc without a limit has the capacity {UNLIMITED}"] if instance.unlimited is not None else []
+    return "".join(f"c {it}\n" for it in lines).encode()
 
 
 def write(value: Value | Blocks | Explainable, /) -> bytes:
     r"""The canonical text of what read returns, which read again is the same. A solution has an entry for each arc. If an
-    instance has units, a comment says so. Of an answer it is what was asked for, a certificate or a solution, or the flow of
-    a refusal.
+    instance has units, comments say so, and if an arc has no limit: read gives it 2^63 - 1. Of an answer it is what was asked
+    for, a certificate or a solution, or the flow of a refusal.
 
     Raises PastLimit if a number is past a limit of texts; Refused if the distance of the source isn't 0, or predecessors of
     labels don't lead back to it; ValueError for labels with a radius, and for an answer that was pickled since.
@@ -86,9 +85,9 @@ def write(value: Value | Blocks | Explainable, /) -> bytes:
     b'p cut 3 2\nu 1\nu 2\n'
     """
     if isinstance(value, Instance):
-        return _units(value) + text_of_instance(Given(value._form, *value))
+        return _comments(value) + text_of_instance(Given(value._form, *value))
     if isinstance(value, Solution):
-        return _units(value.instance) + _text_of_solution(value)
+        return _comments(value.instance) + _text_of_solution(value)
     if isinstance(value, Blocks):
         return _text_of_blocks(value)
     if isinstance(value, (Certified, Solved, Infeasible, NotOptimal, Feasible)):

@@ -51,6 +51,7 @@ class Network(Names):
         if csgraph.shape[0] != csgraph.shape[1]:
             raise ValueError("graph must be specified as a square matrix.")
         self.vertices = csgraph.shape[0]
+        self.nodes = range(self.vertices)
         self.source, self.sink = operator.index(source), operator.index(sink)
         if self.source == self.sink:
             raise ValueError("source and sink vertices must differ")
@@ -67,9 +68,6 @@ class Network(Names):
     def given(self) -> Given:
         ends = self.source + 1, self.sink + 1, numbers_of(self.tails), numbers_of(self.heads)
         return Given(MAX, self.vertices, *ends, self.caps, scale=self._scale, names=self)
-
-    def node(self, place: int) -> Any:
-        return place
 
     def arc(self, place: int) -> Any:
         return int(self.tails[place]), int(self.heads[place])

@@ -219,8 +219,6 @@ def certify_linprog(
     program = _Program(c, A_ub, b_ub, A_eq, b_eq, bounds)
     if result.status == 2:
         return CertifiedProgram(None, None, _unmet(program))
-    if result.status != 0:
-        raise ValueError(f"the result has the status {result.status}, and no solution")
     x = rounded_of(result, len(program.costs), allowed)
     try:
         cost, potentials = calls.certify(program.given().add(FLOWS, program.flows(x)))
@@ -244,6 +242,8 @@ def _unmet(program: _Program) -> list[Any]:
 def rounded_of(result: Any, variables: int, allowed: Fraction = Fraction(1, 10**6)) -> list[int]:
     """The whole numbers that the x of a result are near to."""
     found: list[int] = []
+    if result.status != 0:
+        raise ValueError(f"the result has the status {result.status}, and no solution")
     if len(result.x) != variables:
         raise ValueError(f"x has {len(result.x)} numbers, and c has {variables}")
     for place, it in enumerate(result.x):
