@@ -4,8 +4,8 @@ Nodes and arcs are numbered from 1, or from 0 with base=0. The first items of ta
 the first items of supplies, inside, distances, .. to the first node. An array is a list, array.array, numpy array, or
 anything else with a buffer or an iterator. It isn't copied if its items are contiguous and aligned and have the library's
 width: uint32 for tails, heads and predecessors, uint8 or bool for inside, int64 for all others; then no other thread may
-write to it during the call. Otherwise each number is copied or converted. A Series of pandas is read by its places, and not
-by its labels. An item of caps may be inf: such an arc carries any amount.
+write to it during the call. Otherwise, or if Ctrl-C may leave the call, it is copied or converted. A Series of pandas is read
+by its places, and not by its labels. An item of caps may be inf: such an arc carries any amount.
 
 What dimacs.read returns stands in place of its fields: certify_max_arrays(instance, solution). The value of a Solution is
 tested too, and that it is of these arcs. Refusals name arcs and nodes as the instance does, by its names or from 0.

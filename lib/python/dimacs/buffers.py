@@ -39,6 +39,14 @@ class Buffer(NamedTuple):
     def words(self) -> tuple[Any, int]:
         return self.address, self.length
 
+    def owned(self) -> Buffer:
+        """The same items where nobody else can write to them."""
+        view = memoryview(self.kept)
+        if view.readonly or not self.length:
+            return self
+        copy = memoryview(view.tobytes())
+        return Buffer(copy, _address_of(copy), self.length)
+
     def listed(self, items: Items) -> list[int]:
         return array.array(items.code, ctypes.string_at(self.address, self.length * items.width)).tolist()
 
@@ -85,8 +93,8 @@ def bytes_of(text: Any, call: str = "this call") -> Buffer:
         kind, is_value = type(text).__name__, _is_of(text, "dimacs.instances", "Value")
         hint = "pass dimacs.write(..) of it" if is_value else "for a file pass pathlib.Path(..)"
         raise TypeError(f"{call} takes texts, not {kind}: {hint}") from None
-    if view.ndim != 1 or view.itemsize != 1 or not view.c_contiguous:
-        view = memoryview(view.tobytes())
+    if view.ndim != 1 or view.itemsize != 1 or not view.c_contiguous or not view.readonly:
+        view = memoryview(view.tobytes())  # nobody writes to these, also while a call goes on after Ctrl-C
     return Buffer(view, _address_of(view) if len(view) else 0, len(view))
 
 

@@ -47,11 +47,11 @@ def judge(given: Given) -> Verdict:
 
 def certify(given: Given, came: Any = ()) -> Certified:
     """What is handed out has the form of an array that came."""
-    words, kind = given.words(), _claimed(given)
+    words, kind = given.words(owned=True), _claimed(given)
     asked, certificate = AskedOfArrays(f"certify_{kind}", given), _CERTIFICATES[kind]
     with given.named(asked):
         shown, *better = rooms = [given.room(it) for it in (certificate, *[FLOWS] * (kind != "paths"))]
-        status, line = library.call_with_rooms(getattr(library, f"certify_{kind}_arrays"), words, rooms)
+        status, line = library.call_with_rooms(getattr(library, f"certify_{kind}_arrays"), words, rooms, given.count(TAILS))
         if status == library.REFUSED:
             raise _refusal(given, library.refusal(line), asked, came, *better)
         if kind == "infeasible":
@@ -111,7 +111,7 @@ def solve_min(given: Given, came: Any = (), limit: Any = LIMIT) -> Solved:
 
 
 def solve_paths(given: Given, came: Any = ()) -> Solved:
-    _, rooms = _solve("paths", given, given.words(), DISTANCES, PREDECESSORS)
+    _, rooms = _solve("paths", given, given.words(owned=True), DISTANCES, PREDECESSORS)
     return _solved(given, "paths", None, rooms, came)
 
 
@@ -131,7 +131,7 @@ def _solve_bounded(
     kind: str, given: Given, test: Callable[[Given], None], *handed: Array
 ) -> tuple[Verdict, dict[Array, Room]]:
     """Solves with a bound in place of inf. If the library gives up, the bound may be why: then the test raises Unbounded."""
-    words = given.words()
+    words = given.words(owned=True)
     if not given.limitless():
         return _solve(kind, given, words, *handed)
     given.bound_limitless()
@@ -144,14 +144,16 @@ def _solve_bounded(
 
 
 def _has_flow(given: Given, instance: list[Any]) -> bool:
-    status, _ = library.call_with_rooms(library.certify_infeasible_arrays, instance, [given.room(INSIDE), given.room(FLOWS)])
+    rooms = [given.room(INSIDE), given.room(FLOWS)]
+    status, _ = library.call_with_rooms(library.certify_infeasible_arrays, instance, rooms, given.count(TAILS))
     return status == library.REFUSED
 
 
 def _solve(kind: str, given: Given, words: list[Any], *handed: Array) -> tuple[Verdict, dict[Array, Room]]:
     with given.named(AskedOfArrays(f"solve_{kind}", given)):
         rooms = {it: given.room(it) for it in handed}
-        status, line = library.call_with_rooms(getattr(library, f"solve_{kind}_arrays"), words, rooms.values())
+        call = getattr(library, f"solve_{kind}_arrays")
+        status, line = library.call_with_rooms(call, words, rooms.values(), given.count(TAILS))
         if status == library.REFUSED:
             raise library.refusal(line)
         return library.verdict(line), rooms

@@ -47,5 +47,5 @@ def run(verb: str, kind: str, texts: Sequence[Buffer], limit: int = LIMIT) -> tu
     if verb == "solve":
         words.append(limit)
     first, second = [it.length for it in [*read, _NO_TEXT]][:2]
-    status, (printed, *made) = library.call_for_texts(getattr(library, verb), *words, rooms=rooms(first, second))
+    status, (printed, *made) = library.call_for_texts(getattr(library, verb), *words, rooms=rooms(first, second), read=read)
     return status, printed, made

@@ -15,6 +15,7 @@ from typing import Any, Callable, Iterable, Iterator, NamedTuple, Sequence
 from .answers import UNREACHED, PastLimit, Refused, Unbounded
 from .buffers import CAPACITIES, IDS, LENGTHS, MARKS, NUMBERS, UNLIMITED, Buffer, Items, Room, array_of, gone_through
 from .buffers import in_form_of, is_bool, is_numpy, is_single, item, number_of, room_of, test_array, unlabelled, written
+from .library import is_long
 from .scales import units_of
 
 #: The greatest number of nodes.
@@ -145,8 +146,10 @@ class Given:
 
     # ---- the arguments as the library takes them
 
-    def words(self) -> list[Any]:
-        """The arguments. Raises ValueError or TypeError if one of them has a wrong value, length or type."""
+    def words(self, owned: bool = False) -> list[Any]:
+        """The arguments, which keep their memory; nobody else can write to that of a long call, if it is to be owned. Raises
+        ValueError or TypeError if one of them has a wrong value, length or type."""
+        self._buffers = {}
         numbers = {name: self._single(name, IDS) for name in self.form.numbers}
         self._count = {"nodes": numbers["nodes"]} if numbers else {}
         #: The scales of amounts and costs, if numbers aren't whole.
@@ -154,8 +157,11 @@ class Given:
         for kind in self._raw:
             self._convert(kind)
         self._test_lengths()
+        if owned and is_long(self.count(TAILS)):
+            self._buffers = {name: it.owned() for name, it in self._buffers.items()}
         fields = [*numbers.values(), *(it for kind in self.form.arrays for it in self._buffers[kind.name].words())]
         self._instance = self.form.structure(*fields)
+        self._instance.kept = self._buffers
         words: list[Any] = [ctypes.byref(self._instance)]
         for added in self._words:
             if isinstance(added, Array):

@@ -9,7 +9,7 @@ from pathlib import Path
 from typing import Any, Callable, Iterable, Sequence
 
 from .answers import Beyond, GaveUp, Pair, PastLimit, Refused, Verdict
-from .buffers import Room
+from .buffers import Buffer, Room
 
 DONE, REFUSED, MISUSED, NO_MEMORY, GAVE_UP = 0, 1, 2, 4, 5
 
@@ -170,19 +170,61 @@ def raise_for(status: int, line: bytes, function: Callable[..., int], words: Seq
         raise _gave_up(function, words)
 
 
-def call(function: Callable[..., int], *words: Any) -> tuple[int, bytes]:
+#: From so many arcs on a call may be a long one; about as many bytes as the line of an arc has.
+LONG, _ARC = 20_000, 16
+
+
+def is_long(arcs: int) -> bool:
+    """Whether a call over so many arcs may hold up Ctrl-C, which Python raises in the main thread alone."""
+    if arcs < LONG:
+        return False
+    import threading
+
+    return threading.current_thread() is threading.main_thread()
+
+
+def _status(function: Callable[..., int], words: Sequence[Any], arcs: int, *kept: Any) -> int:
+    """Makes a call. Another thread makes a long one: Ctrl-C is raised at once, and the call goes on to its end, with what is
+    kept for it."""
+    if not is_long(arcs):
+        return function(*words)
+    from threading import Event, Thread
+
+    found: list[int] = []
+    ended = Event()  # in place of a join: Ctrl-C in that makes Python 3.11 take the thread for one that has ended
+
+    def make(*_: Any) -> None:
+        try:
+            found.append(function(*words))
+        finally:
+            ended.set()
+
+    try:
+        Thread(target=make, args=kept, daemon=True).start()
+    except RuntimeError:  # no thread can be started
+        return function(*words)
+    while not ended.wait(1):  # Windows raises Ctrl-C between two waits
+        pass
+    return found[0]
+
+
+def call(function: Callable[..., int], *words: Any, read: Sequence[Buffer] = ()) -> tuple[int, bytes]:
     """Makes a call that hands out a text, twice if it is longer than a line. Returns its status and the text."""
-    status, (output,) = call_for_texts(function, *words, rooms=[LINE])
+    status, (output,) = call_for_texts(function, *words, rooms=[LINE], read=read)
     return status, output
 
 
-def call_for_texts(function: Callable[..., int], *words: Any, rooms: Sequence[int]) -> tuple[int, list[bytes]]:
-    """Makes a call that hands out texts, again if one of them is longer than its room. Returns its status and the texts."""
+def call_for_texts(
+    function: Callable[..., int], *words: Any, rooms: Sequence[int], read: Sequence[Buffer] = ()
+) -> tuple[int, list[bytes]]:
+    """Makes a call that hands out texts, again if one of them is longer than its room. Returns its status and the texts. What it
+    reads, the instance first, says whether it is a long one."""
+    arcs = read[0].length // _ARC if read else 0
     while True:
         needed = [_size() for _ in rooms]
         texts = [ctypes.create_string_buffer(room) for room in rooms]
         handed = [word for it in zip(texts, rooms, map(ctypes.byref, needed)) for word in it]
-        status = function(*words, *handed)
+        status = _status(function, (*words, *handed), arcs, read)
         lengths = [it.value for it in needed]
         if all(length <= room for length, room in zip(lengths, rooms)):
             break
@@ -192,15 +234,21 @@ def call_for_texts(function: Callable[..., int], *words: Any, rooms: Sequence[in
     return status, outputs
 
 
-def call_with_rooms(function: Callable[..., int], words: Sequence[Any], rooms: Iterable[Room]) -> tuple[int, bytes]:
-    """Makes a call that hands out items to rooms that have as many. Returns its status and the line."""
-    return call_with_line(function, words, [word for it in rooms for word in (*it.buffer_info(), ctypes.byref(_size()))])
+def call_with_rooms(
+    function: Callable[..., int], words: Sequence[Any], rooms: Iterable[Room], arcs: int = 0
+) -> tuple[int, bytes]:
+    """Makes a call that hands out items to rooms that have as many. Returns its status and the line. The words of one over so
+    many arcs keep the memory of what it reads."""
+    handed = [word for it in rooms for word in (*it.buffer_info(), ctypes.byref(_size()))]
+    return call_with_line(function, words, handed, arcs, rooms)
 
 
-def call_with_line(function: Callable[..., int], words: Sequence[Any], handed: Sequence[Any]) -> tuple[int, bytes]:
+def call_with_line(
+    function: Callable[..., int], words: Sequence[Any], handed: Sequence[Any], arcs: int = 0, kept: Any = None
+) -> tuple[int, bytes]:
     """The same by the words for what is handed out after the line."""
     line, needed = ctypes.create_string_buffer(LINE), _size()
-    status = function(*words, line, LINE, ctypes.byref(needed), *handed)
+    status = _status(function, (*words, line, LINE, ctypes.byref(needed), *handed), arcs, kept)
     output = line.raw[: needed.value]
     raise_for(status, output, function, words)
     return status, output
