@@ -159,8 +159,8 @@ def _description(library: bytes, version: str) -> dict[str, bytes]:
 
 def _sources() -> dict[str, bytes]:
     """The files of the package itself."""
-    files = {it.relative_to(HERE).as_posix(): it.read_bytes() for it in sorted((HERE / NAME).rglob("*.py"))}
-    return {**files, f"{NAME}/py.typed": b""}
+    files = (it for it in sorted((HERE / NAME).rglob("*")) if it.suffix in (".py", ".typed"))
+    return {it.relative_to(HERE).as_posix(): it.read_bytes() for it in files}
 
 
 def _files(library: bytes, version: str) -> dict[str, bytes]:
