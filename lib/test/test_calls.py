@@ -1,9 +1,7 @@
 """The rows of tests/rows/calls: what each call answers."""
 
 import ctypes
-import os
 import signal
-import subprocess
 import sys
 import threading
 import time
@@ -122,32 +120,30 @@ class Interrupted(unittest.TestCase):
 
     def test_calls(self):
         """Solvers and certifiers of arrays and texts, whose arrays are kept, and may be written to then."""
-        text, ends = bytearray(b"p max 2 3\nn 1 s\nn 2 t\na 1 2 5\na 1 2 4\na 1 2 3\n"), ([1] * 3, [2] * 3)
-        flows, caps = (memoryview(bytearray(24)).cast("q") for _ in range(2))
-        done = threading.Event()
-        for call, name, *words in [
-            (dimacs.solve_max_arrays, "solve_max_arrays", 2, 1, 2, *ends, caps),
-            (dimacs.certify_max_arrays, "certify_max_arrays", 2, 1, 2, *ends, caps, flows),
-            (dimacs.solve_paths_arrays, "solve_paths_arrays", 2, *ends, caps, 1),
-            (dimacs.solve_max, "solve", text),
+        for call, name in [
+            (lambda: dimacs.solve_max_arrays(2, 1, 2, [1], [2], caps), "solve_max_arrays"),
+            (lambda: dimacs.certify_max_arrays(2, 1, 2, [1], [2], caps, flows), "certify_max_arrays"),
+            (lambda: dimacs.solve_paths_arrays(2, [1], [2], caps, 1), "solve_paths_arrays"),
+            (lambda: dimacs.solve_max(text), "solve"),
         ]:
-            made, seen = getattr(library, name), []
+            text = bytearray(b"p max 2 1\nn 1 s\nn 2 t\na 1 2 5\n")
+            flows, caps = (memoryview(bytearray(8)).cast("q") for _ in range(2))
+            made, seen, done = getattr(library, name), [], threading.Event()
 
             def late(*given):
                 seen.append(threading.current_thread() is threading.main_thread())
                 done.wait(20)
-                seen.append(made(*given))
-                return seen[-1]
+                status = made(*given)
+                seen.append(status)
+                return status
 
             late.__name__ = name
             with self.subTest(name), mock.patch.multiple(library, LONG=1, _ARC=1, **{name: late}):
-                done.clear()
-                self.interrupt(call, *words)
+                self.interrupt(call)
                 caps[0], flows[0], text[:1] = -1, -1, b"x"
                 done.set()
                 while len(seen) < 2:
                     time.sleep(0.01)
-                caps[0], flows[0], text[:1] = 0, 0, b"p"
                 self.assertEqual(seen, [False, 0])
 
     def test_what_is_kept(self):
@@ -159,29 +155,6 @@ class Interrupted(unittest.TestCase):
         done.set()
         while seen() is not None:
             time.sleep(0.01)
-
-    def test_where(self):
-        """Only the main thread waits, and only for a long call; without another thread it makes the call itself."""
-        seen, main = [], threading.main_thread()
-        make = lambda: seen.append(threading.current_thread())  # noqa: E731
-        other = threading.Thread(target=library._status, args=(make, [], library.LONG))
-        other.start()
-        other.join()
-        library._status(make, [], library.LONG - 1)
-        with mock.patch.object(threading.Thread, "start", side_effect=RuntimeError("can't start new thread")):
-            library._status(make, [], library.LONG)
-        library._status(make, [], library.LONG)
-        self.assertEqual(seen[:3], [other, main, main])
-        self.assertNotIn(seen[3], (other, main))
-
-    def test_exit(self):
-        """A process ends at once, and in its own way, while a call goes on."""
-        code = """import sys, threading, time, _thread; from dimacs import library
-threading.Timer(0.2, _thread.interrupt_main).start()
-try: library._status(time.sleep, [20], library.LONG)
-except KeyboardInterrupt: sys.exit(7)"""
-        environment = {**os.environ, "PYTHONPATH": os.pathsep.join(sys.path)}
-        self.assertEqual(subprocess.run([sys.executable, "-c", code], env=environment, check=False, timeout=15).returncode, 7)
 
 
 if __name__ == "__main__":  # tests/targets.py runs it through node

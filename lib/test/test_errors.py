@@ -211,23 +211,16 @@ class Arrays(Errors):
         edges = pandas.DataFrame({"u": [1, 2], "v": [2, 3], "capacity": [5, 4], "flow": [3, 3]})
         graph = networkx.from_pandas_edgelist(edges, "u", "v", "capacity", networkx.DiGraph)
         frame, never = (dimacs.from_frame(edges, "u", "v", capacity="capacity", supply={1: it, 3: -it}) for it in (4, 6))
-        rows = [
-            ("NotOptimal('NotMaximum', t", lambda: frame.certify_max(1, 3, "flow")),
-            ("Infeasible('Infeasible', c", never.solve_min),
-            ("NotOptimal('NotMaximum', t", lambda: dimacs.certify_networkx_max(graph, 1, 3, {1: {2: 3}, 2: {3: 3}})),
-        ]
+        certify, flow = dimacs.certify_max_arrays, {1: {2: 3}, 2: {3: 3}}
+        rows = [("NotO", frame.certify_max, 1, 3, "flow"), ("Infe", never.solve_min), ("NotO", dimacs.certify_networkx_max, graph, 1, 3, flow)]
         for of in list, numpy.array, pandas.Series:
+            rows += [("NotO", certify, *MAX, of([3, 3])), ("Refu", certify, *MAX, of([6, 6]))]
             least = 2, [1], [2], [0], of([9]), [3]
-            rows += [
-                ("NotOptimal('NotMaximum', t", lambda of=of: dimacs.certify_max_arrays(*MAX, of([3, 3]))),
-                ("Refused('AboveCap', arc=1,", lambda of=of: dimacs.certify_max_arrays(*MAX, of([6, 6]))),
-                ("Infeasible('Infeasible', c", lambda it=least: dimacs.solve_min_arrays(*it, [10, -10])),
-                ("Feasible('Feasible', text=", lambda it=least: dimacs.certify_infeasible_arrays(*it, [6, -6])),
-            ]
+            rows += [("Infe", dimacs.solve_min_arrays, *least, [10, -10]), ("Feas", dimacs.certify_infeasible_arrays, *least, [6, -6])]
             one, again, other = (dimacs.solve_max_arrays(*MAX[:5], of([5, cap])) for cap in (4, 4, 3))
             self.assertTrue(one == again and not one != again and one != other and one == (4, [4, 4], [True, True, False]))
-        for shown, call in rows:
-            self.assertTrue(repr(raised(dimacs.Refused, call)).startswith(shown), shown)
+        for begins, call, *words in rows:
+            self.assertTrue(repr(raised(dimacs.Refused, call, *words)).startswith(begins))
         self.assertTrue(frame.solve_max(1, 3) == frame.solve_max(1, 3) != frame.solve_max(1, 2))
         self.assertEqual(len({dimacs.certify_max(TEXT, "s 3\nf 1 2 3\n") for _ in range(2)}), 1)
 

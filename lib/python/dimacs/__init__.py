@@ -22,11 +22,9 @@ from .answers import Solved, Unbounded, Verdict
 from .arrays import certify_infeasible_arrays, certify_max_arrays, certify_min_arrays, certify_paths_arrays
 from .arrays import judge_infeasible_arrays, judge_max_arrays, judge_min_arrays, judge_paths_arrays, solve_max_arrays
 from .arrays import solve_min_arrays, solve_paths_arrays
-from .drawing import Drawing
 from .graphs import certify_networkx_infeasible, certify_networkx_max, certify_networkx_min, certify_networkx_paths
 from .graphs import judge_networkx_max, judge_networkx_min, solve_networkx_max, solve_networkx_min, solve_networkx_paths
 from .instances import Blocks, Cut, Distances, Graph, Labels, MaxInstance, MinInstance, Potentials, Queries, Solution
-from .pictures import draw
 from .reading import read
 from .spread import spread_max_arrays, spread_min_arrays
 from .texts import certify_infeasible, certify_max, certify_min, certify_paths, convert, judge_infeasible, judge_max
@@ -34,8 +32,13 @@ from .texts import judge_min, judge_paths, show, solve_max, solve_min, solve_pat
 from .writing import write
 
 if TYPE_CHECKING:
-    from . import backend, scipy
+    from . import backend, drawing, scipy
+    from .drawing import Drawing
     from .frames import from_frame
+    from .pictures import draw
+
+#: Where that lies which is imported if it is asked for.
+_LATER = {"Drawing": "drawing", "draw": "pictures", "from_frame": "frames"}
 
 __version__: str = _library.version
 proved: bool = _library.proved
@@ -56,12 +59,10 @@ __all__ = [
 
 
 def __getattr__(name: str) -> Any:
-    """What needs pandas, SciPy or networkx is imported if it is asked for."""
-    if name == "from_frame":
-        from .frames import from_frame
-
-        return from_frame
-    if name not in ("backend", "scipy"):
+    """What draws, or needs pandas, SciPy or networkx, is imported if it is asked for."""
+    if name in _LATER:
+        return getattr(importlib.import_module(f".{_LATER[name]}", __name__), name)
+    if name not in ("backend", "drawing", "scipy"):
         raise AttributeError(f"module 'dimacs' has no attribute {name!r}")
     try:
         return importlib.import_module(f".{name}", __name__)

@@ -3,7 +3,6 @@
 from __future__ import annotations
 
 import reprlib
-from dataclasses import dataclass
 from typing import Any, NamedTuple, cast
 
 #: The distance of a node that isn't reached. Its predecessor is 0.
@@ -63,26 +62,6 @@ class Explainable:
         return str(self._asked.explain())
 
 
-@dataclass(frozen=True)
-class Verdict(Explainable):
-    """A yes.
-
-    kind is "max", "min", "infeasible", "sp" (all distances from so many sources) or "pairs"; value the value of the
-    flow, its cost, or the number of sources; pairs the answers to queries for pairs.
-
-    >>> import dimacs
-    >>> dimacs.judge_max_arrays(3, 1, 3, [1, 2], [2, 3], [5, 4], [4, 4], [True, True, False])
-    Verdict(kind='max', value=4, pairs=())
-    """
-
-    kind: str
-    value: Any = None
-    pairs: tuple[Pair, ...] = ()
-
-    def __bool__(self) -> bool:
-        return True
-
-
 def _items(part: Any) -> Any:
     """A part of an answer that == compares: the items of an array, those of a Series or frame with their index."""
     if hasattr(part, "to_numpy"):
@@ -97,6 +76,27 @@ class Parts(Explainable):
         return isinstance(other, tuple) and [*map(_items, cast(Any, self))] == [*map(_items, other)]
 
     __ne__, __hash__ = object.__ne__, tuple.__hash__
+
+
+class _Verdict(NamedTuple):
+    kind: str
+    value: Any = None
+    pairs: tuple[Pair, ...] = ()
+
+
+class Verdict(Parts, _Verdict):
+    """A yes.
+
+    kind is "max", "min", "infeasible", "sp" (all distances from so many sources) or "pairs"; value the value of the
+    flow, its cost, or the number of sources; pairs the answers to queries for pairs.
+
+    >>> import dimacs
+    >>> dimacs.judge_max_arrays(3, 1, 3, [1, 2], [2, 3], [5, 4], [4, 4], [True, True, False])
+    Verdict(kind='max', value=4, pairs=())
+    """
+
+    def __bool__(self) -> bool:
+        return True
 
 
 class _Shown(Parts):
@@ -238,8 +238,7 @@ class Placed(Exception):
     def __repr__(self) -> str:
         fields = [repr(self.reason)]
         for name, it in vars(self).items():
-            is_empty = it is None or isinstance(it, dict) and not it  # an array can't be tested so
-            if name != "reason" and name[0] != "_" and not is_empty:
+            if name != "reason" and name[0] != "_" and not (it is None or isinstance(it, dict) and not it):
                 fields.append(f"{name}={it!r}" if name in self._PLACES else f"{name}={reprlib.repr(it)}")
         return f"{type(self).__name__}({', '.join(fields)})"
 

@@ -26,7 +26,6 @@ set or a masked array.
 
 from __future__ import annotations
 
-import inspect
 from functools import wraps
 from typing import Any, Callable, ParamSpec, Protocol, TypeVar, overload
 
@@ -49,7 +48,8 @@ class _Call(Protocol[_Words, _Answer]):
 
 def of_values(call: Callable[_Words, _Answer]) -> _Call[_Words, _Answer]:
     """The same call, which takes values in place of their fields too."""
-    names = [it.name for it in inspect.signature(call).parameters.values() if it.kind is it.POSITIONAL_OR_KEYWORD]
+    code = call.__code__
+    names = [*code.co_varnames[: code.co_argcount]]  # inspect takes long to import
 
     @wraps(call)
     def made(*words: Any, **more: Any) -> Any:

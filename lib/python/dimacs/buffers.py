@@ -4,18 +4,15 @@ from __future__ import annotations
 
 import array
 import ctypes
-import gzip
 import math
 import operator
 import os
 import struct
 import sys
-import zlib
 from collections.abc import Mapping, Set
 from decimal import MAX_EMAX, MIN_EMIN, Context, Decimal
 from functools import partial
 from numbers import Number, Rational
-from pathlib import Path
 from typing import TYPE_CHECKING, Any, Callable, Iterable, NamedTuple, Sequence, TypeAlias, Union
 
 from .answers import UNREACHED
@@ -64,14 +61,16 @@ def _address_of(view: memoryview) -> int:
     return address
 
 
-def _bytes_in(path: Path) -> bytes:
+def _bytes_in(named: Any) -> bytes:
     """The bytes of a file. Raises ValueError with its name if it ends with .gz and isn't whole, or is no such file."""
-    if path.suffix != ".gz":
-        return path.read_bytes()
+    import gzip
+    import zlib
+
+    path, open_it = os.fspath(named), gzip.open if os.fspath(named).endswith(".gz") else open
     try:
-        with gzip.open(path) as packed:
-            text = packed.read()
-        if not text and not path.stat().st_size:
+        with open_it(path, "rb") as file:
+            text: bytes = file.read()
+        if open_it is gzip.open and not text and not os.path.getsize(path):
             raise EOFError("the file is empty")
         return text
     except (EOFError, gzip.BadGzipFile, zlib.error) as it:
@@ -82,7 +81,7 @@ def bytes_of(text: Any, call: str = "this call") -> Buffer:
     """The bytes of a text, or of the file that a Path names: what is packed in it, if the name ends with .gz. A str is one of
     ASCII; a letter beyond that becomes bytes that no text has."""
     if isinstance(text, os.PathLike):
-        text = _bytes_in(Path(text))
+        text = _bytes_in(text)
     if isinstance(text, str):
         text = text.encode("utf-8", "surrogatepass")
     if type(text) is bytes:

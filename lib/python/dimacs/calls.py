@@ -144,8 +144,8 @@ def _solve_bounded(
 
 
 def _has_flow(given: Given, instance: list[Any]) -> bool:
-    rooms = [given.room(INSIDE), given.room(FLOWS)]
-    status, _ = library.call_with_rooms(library.certify_infeasible_arrays, instance, rooms, given.count(TAILS))
+    rooms, certify = [given.room(INSIDE), given.room(FLOWS)], library.certify_infeasible_arrays
+    status, _ = library.call_with_rooms(certify, instance, rooms, given.count(TAILS))
     return status == library.REFUSED
 
 

@@ -147,8 +147,7 @@ class Given:
     # ---- the arguments as the library takes them
 
     def words(self, owned: bool = False) -> list[Any]:
-        """The arguments, which keep their memory; nobody else can write to that of a long call, if it is to be owned. Raises
-        ValueError or TypeError if one of them has a wrong value, length or type."""
+        """The arguments, which own the memory of a long call if they have to. Raises ValueError or TypeError for a wrong one."""
         self._buffers = {}
         numbers = {name: self._single(name, IDS) for name in self.form.numbers}
         self._count = {"nodes": numbers["nodes"]} if numbers else {}

@@ -21,7 +21,6 @@ import operator
 from array import array
 from collections import Counter
 from collections.abc import Hashable, Iterable, Mapping, Sized
-from dataclasses import dataclass
 from typing import TYPE_CHECKING, Any, ClassVar, Iterator, Sequence, TypeVar, Union
 
 from . import library
@@ -86,6 +85,9 @@ class Value(Sized, Iterable[Any]):
     def _set(self, *fields: Any, **more: Any) -> None:
         for name, it in (*zip(self._fields, fields), *more.items()):
             object.__setattr__(self, name, it)
+
+    def __setattr__(self, name: str, *_: Any) -> None:
+        raise AttributeError(f"{name!r} of a {type(self).__name__} can't be set: a value doesn't change")
 
     def __setstate__(self, state: dict[str, Any]) -> None:
         """A copy, whose arrays can't be written to either."""
@@ -165,7 +167,6 @@ def _names(given: Any, nodes: int) -> NodeNames:
 UNITS = "dimacs_units"
 
 
-@dataclass(frozen=True, eq=False, repr=False, init=False)
 class Instance(Value):
     """What MaxInstance, MinInstance and Graph have in common."""
 
@@ -278,16 +279,10 @@ class Instance(Value):
         return frame
 
 
-def _capacity(cap: Any) -> dict[str, Any]:
-    """That of an edge, if it has a limit."""
-    return {} if cap == math.inf else {"capacity": cap}
-
-
 #: What the numbers of arcs are called in a frame.
 _COLUMNS = {"lows": "low", "caps": "capacity", "costs": "cost", "weights": "weight"}
 
 
-@dataclass(frozen=True, eq=False, repr=False, init=False)
 class MaxInstance(Instance):
     """A maximum flow instance: nodes, source and sink, and the tail, head and capacity of each arc, inf for no limit. Nodes are
     numbered from 1, or with base=0 from 0, in what is given and by calls over the value, whose fields have them from 1. Its
@@ -336,7 +331,7 @@ class MaxInstance(Instance):
         graph, sums = self._digraph("DiGraph"), Counter[Any]()
         for tail, head, cap in self._listed("caps"):
             sums[tail, head] += cap
-        graph.add_edges_from((*ends, _capacity(cap)) for ends, cap in sums.items())
+        graph.add_edges_from((*ends, {"capacity": cap} if cap < math.inf else {}) for ends, cap in sums.items())
         return graph
 
     def to_scipy(self) -> Any:
@@ -376,7 +371,6 @@ class MaxInstance(Instance):
         return _amounts(spread_max_arrays(self, *columns))
 
 
-@dataclass(frozen=True, eq=False, repr=False, init=False)
 class MinInstance(Instance):
     """A minimum cost flow instance: the tail, head, lower bound, capacity and cost of each arc, and the supply of each node,
     which is what leaves it less what enters it. Numbers of nodes, arrays, names and units are as in MaxInstance.
@@ -416,7 +410,7 @@ class MinInstance(Instance):
         for node, supply in zip(self._called(), self.supplies.tolist()):
             graph.nodes[node]["demand"] = -supply
         for key, (tail, head, low, cap, cost) in enumerate(self._listed("lows", "caps", "costs")):
-            graph.add_edge(tail, head, key, **_capacity(cap - low), weight=cost)
+            graph.add_edge(tail, head, key, **({"capacity": cap - low} if cap < math.inf else {}), weight=cost)
             graph.nodes[tail]["demand"] += low
             graph.nodes[head]["demand"] -= low
         graph.graph["cost"] = sum(map(operator.mul, self.lows.tolist(), self.costs.tolist()))
@@ -450,7 +444,6 @@ class MinInstance(Instance):
         return _amounts(flows)
 
 
-@dataclass(frozen=True, eq=False, repr=False, init=False)
 class Graph(Instance):
     """A graph, for shortest paths: the tail, head and weight of each arc. Numbers of nodes, arrays, names and units are as in
     MaxInstance.
@@ -517,7 +510,6 @@ def _amounts(numbers: Any) -> Amounts:
     return found
 
 
-@dataclass(frozen=True, eq=False, repr=False, init=False)
 class Solution(Value):
     """A claimed value or cost, and the amount that each arc of an instance carries.
 
@@ -582,7 +574,6 @@ class ByNode(Value):
         return [it for it in self if isinstance(it, int)], arrays
 
 
-@dataclass(frozen=True, eq=False, repr=False, init=False)
 class Cut(ByNode):
     """A cut or a set: whether each node is inside.
 
@@ -609,7 +600,6 @@ class Cut(ByNode):
         return len(self) - bytes(self.inside.tobytes()).count(0)
 
 
-@dataclass(frozen=True, eq=False, repr=False, init=False)
 class Potentials(ByNode):
     """A potential for each node.
 
@@ -630,7 +620,6 @@ class Potentials(ByNode):
         return f"Potentials of {len(self)} nodes"
 
 
-@dataclass(frozen=True, eq=False, repr=False, init=False)
 class Distances(ByNode):
     """The distance of each node from a source, UNREACHED of a node that isn't reached. With base=0 the source is numbered
     from 0 in what is given.
@@ -656,7 +645,6 @@ class Distances(ByNode):
         return f"{type(self).__name__} of {len(self)} nodes from {self.source}"
 
 
-@dataclass(frozen=True, eq=False, repr=False, init=False)
 class Labels(Distances):
     """The same with the predecessor of each node, which is 0 at the source and where there is no label (with base=0 it is -1 in
     what is given). If there is a radius, nodes without a label are farther, and may be reached.
@@ -725,7 +713,6 @@ class Blocks(Mapping[int, Distances]):
         return f"Blocks of {self.nodes} nodes from {', '.join(map(str, self))}"
 
 
-@dataclass(frozen=True, eq=False, repr=False, init=False)
 class Queries(Value):
     """What distances are asked for: from each node of froms to that of tos, or to all nodes if tos is None. With base=0 nodes
     are numbered from 0 in what is given.

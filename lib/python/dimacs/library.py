@@ -5,7 +5,7 @@ from __future__ import annotations
 import ctypes
 import os
 import sys
-from pathlib import Path
+import threading
 from typing import Any, Callable, Iterable, Sequence
 
 from .answers import Beyond, GaveUp, Pair, PastLimit, Refused, Verdict
@@ -16,31 +16,31 @@ DONE, REFUSED, MISUSED, NO_MEMORY, GAVE_UP = 0, 1, 2, 4, 5
 #: Room for any line, except for answers to pairs.
 LINE = 256
 
-_HERE = Path(__file__).resolve().parent
+_HERE = os.path.dirname(os.path.realpath(__file__))
 
 
 #: Where the library of a system is in `build`. In the package it has the same name.
 BUILT = {"linux": "libdimacs.so", "win32": "windows/dimacs.dll"}
 
 
-def places(platform: str, named: str | None = None) -> list[Path]:
+def places(platform: str, named: str | None = None) -> list[str]:
     """Where the library is looked for: the one that DIMACS_LIBRARY names, else that of this package, or the one of proved
     code that make built."""
     if named:
-        return [Path(named)]
+        return [named]
     if platform not in BUILT:
         raise ImportError(
             f"there is no library of dimacs for {platform}, but for Linux and Windows: elsewhere `npx dimacs` judges, "
             "and so does the page for browsers"
         )
-    built = _HERE.parents[2] / "build" / BUILT[platform]
-    return [_HERE / built.name, built]
+    top, built = os.path.realpath(f"{_HERE}/../../.."), BUILT[platform]
+    return [f"{_HERE}/{os.path.basename(built)}", f"{top}/build/{built}"]
 
 
-def _find() -> Path:
+def _find() -> str:
     looked = places(sys.platform, os.environ.get("DIMACS_LIBRARY"))
     for place in looked:
-        if place.is_file():
+        if os.path.isfile(place):
             return place
     raise ImportError(
         f"{looked[-1]} isn't there: build it by `make`, or by `make quick`, unproved, and name it by "
@@ -50,8 +50,9 @@ def _find() -> Path:
 
 _address, _number, _limit, _size = ctypes.c_void_p, ctypes.c_uint32, ctypes.c_uint64, ctypes.c_size_t
 _room = [_address, _size, ctypes.POINTER(_size)]
+_Call = Callable[..., int]
 
-_library = ctypes.CDLL(str(_find()))
+_library = ctypes.CDLL(_find())
 
 
 def _description() -> str:
@@ -151,13 +152,13 @@ _GAVE_UP = {
 }
 
 
-def _gave_up(function: Callable[..., int], words: Sequence[Any]) -> GaveUp:
+def _gave_up(function: _Call, words: Sequence[Any]) -> GaveUp:
     name = function.__name__.removeprefix("dimacs_")
     name = f"solve_{'max' if words[0] == 0 else 'min'}" if name == "solve" else name.replace("max_arrays", "max")
     return GaveUp(_GAVE_UP.get(name, "a limit was reached").format(limit=words[-1]))
 
 
-def raise_for(status: int, line: bytes, function: Callable[..., int], words: Sequence[Any]) -> None:
+def raise_for(status: int, line: bytes, function: _Call, words: Sequence[Any]) -> None:
     """Raises the exception of a status that leaves the claim undecided, or whose certificate doesn't fit."""
     if status == NO_MEMORY:
         raise MemoryError("there was not enough memory to judge")
@@ -176,22 +177,15 @@ LONG, _ARC = 20_000, 16
 
 def is_long(arcs: int) -> bool:
     """Whether a call over so many arcs may hold up Ctrl-C, which Python raises in the main thread alone."""
-    if arcs < LONG:
-        return False
-    import threading
-
-    return threading.current_thread() is threading.main_thread()
+    return arcs >= LONG and threading.current_thread() is threading.main_thread()
 
 
-def _status(function: Callable[..., int], words: Sequence[Any], arcs: int, *kept: Any) -> int:
-    """Makes a call. Another thread makes a long one: Ctrl-C is raised at once, and the call goes on to its end, with what is
-    kept for it."""
+def _status(function: _Call, words: Sequence[Any], arcs: int, *kept: Any) -> int:
+    """Makes a call; a long one in a thread, which goes on to its end with what is kept for it if Ctrl-C is raised here."""
     if not is_long(arcs):
         return function(*words)
-    from threading import Event, Thread
-
     found: list[int] = []
-    ended = Event()  # in place of a join: Ctrl-C in that makes Python 3.11 take the thread for one that has ended
+    ended = threading.Event()  # in place of a join: Ctrl-C in that makes Python 3.11 take the thread for one that has ended
 
     def make(*_: Any) -> None:
         try:
@@ -199,24 +193,19 @@ def _status(function: Callable[..., int], words: Sequence[Any], arcs: int, *kept
         finally:
             ended.set()
 
-    try:
-        Thread(target=make, args=kept, daemon=True).start()
-    except RuntimeError:  # no thread can be started
-        return function(*words)
+    threading.Thread(target=make, args=kept, daemon=True).start()
     while not ended.wait(1):  # Windows raises Ctrl-C between two waits
         pass
     return found[0]
 
 
-def call(function: Callable[..., int], *words: Any, read: Sequence[Buffer] = ()) -> tuple[int, bytes]:
+def call(function: _Call, *words: Any, read: Sequence[Buffer] = ()) -> tuple[int, bytes]:
     """Makes a call that hands out a text, twice if it is longer than a line. Returns its status and the text."""
     status, (output,) = call_for_texts(function, *words, rooms=[LINE], read=read)
     return status, output
 
 
-def call_for_texts(
-    function: Callable[..., int], *words: Any, rooms: Sequence[int], read: Sequence[Buffer] = ()
-) -> tuple[int, list[bytes]]:
+def call_for_texts(function: _Call, *words: Any, rooms: Sequence[int], read: Sequence[Buffer] = ()) -> tuple[int, list[bytes]]:
     """Makes a call that hands out texts, again if one of them is longer than its room. Returns its status and the texts. What it
     reads, the instance first, says whether it is a long one."""
     arcs = read[0].length // _ARC if read else 0
@@ -234,17 +223,14 @@ def call_for_texts(
     return status, outputs
 
 
-def call_with_rooms(
-    function: Callable[..., int], words: Sequence[Any], rooms: Iterable[Room], arcs: int = 0
-) -> tuple[int, bytes]:
-    """Makes a call that hands out items to rooms that have as many. Returns its status and the line. The words of one over so
-    many arcs keep the memory of what it reads."""
+def call_with_rooms(function: _Call, words: Sequence[Any], rooms: Iterable[Room], arcs: int = 0) -> tuple[int, bytes]:
+    """Makes a call over so many arcs that hands out items to rooms that have as many. Returns its status and the line."""
     handed = [word for it in rooms for word in (*it.buffer_info(), ctypes.byref(_size()))]
     return call_with_line(function, words, handed, arcs, rooms)
 
 
 def call_with_line(
-    function: Callable[..., int], words: Sequence[Any], handed: Sequence[Any], arcs: int = 0, kept: Any = None
+    function: _Call, words: Sequence[Any], handed: Sequence[Any], arcs: int = 0, kept: Any = None
 ) -> tuple[int, bytes]:
     """The same by the words for what is handed out after the line."""
     line, needed = ctypes.create_string_buffer(LINE), _size()
