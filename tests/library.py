@@ -57,6 +57,11 @@ CPP_TESTS = [
 ]
 
 
+# Prints where networkx 3.3 or later is, and what describes it.
+WHERE_NETWORKX_IS = """import importlib.metadata, networkx
+networkx._dispatchable
+print(networkx.__path__[0], importlib.metadata.distribution("networkx")._path, sep="\\n")"""
+
 # How the needs end that Debian doesn't have.
 NOT_OF_DEBIAN = ("networkx 3.3", "these tests need 3.3")
 
@@ -241,18 +246,32 @@ def test_python(counts, build, place):
     test_networkx(counts, environment, place)
 
 
+def linked_networkx(place):
+    """A folder with links to the first networkx, 3.3 or later, that a Python has, and to what describes it."""
+    folder = os.path.join(place, "linked")
+    os.mkdir(folder)
+    found = (run(python, "-c", WHERE_NETWORKX_IS) for python in pythons())
+    for it in next((ran.stdout.splitlines() for ran in found if ran.returncode == 0), []):
+        os.symlink(it, os.path.join(folder, os.path.basename(it)))
+    return folder
+
+
 def test_networkx(counts, environment, place):
-    """networkx' own tests, with the backend in place, by each Python that has what they need."""
-    lacking = []
-    for python in pythons():
-        ran = run(python, f"{TEST}/networkx_tests.py", cwd=place, env=environment)
-        lacks = re.fullmatch(r"left out: no (.*)\n", ran.stdout)
-        if lacks:
-            lacking.append(lacks[1])
-        else:
-            counts.add(f"networkx' own tests by {python}", ran, by_count)
-    if len(lacking) == len(pythons()):
-        counts.leave_out("networkx' own tests", lacking[-1])
+    """networkx' own tests, with the backend in place, by each Python that has what they need; if none has, by each that has it
+    with the networkx of another."""
+    linked = {**environment, "PYTHONPATH": f"{linked_networkx(place)}:{environment['PYTHONPATH']}"}
+    for how in environment, linked:
+        lacking = []
+        for python in pythons():
+            ran = run(python, f"{TEST}/networkx_tests.py", cwd=place, env=how)
+            lacks = re.fullmatch(r"left out: no (.*)\n", ran.stdout)
+            if lacks:
+                lacking.append(lacks[1])
+            else:
+                counts.add(f"networkx' own tests by {python}", ran, by_count)
+        if len(lacking) < len(pythons()):
+            return
+    counts.leave_out("networkx' own tests", lacking[-1])
 
 
 def test_agreement(counts, build, place, instances):

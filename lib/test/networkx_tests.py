@@ -1,7 +1,7 @@
 #!/usr/bin/env python3
 """Runs networkx' own tests of flows and shortest paths with the backend in place: networkx_tests.py
 
-They are those of the networkx that is installed, 3.3 or later, and need pytest, numpy and SciPy. Each call that the
+They are those of the networkx that is found, 3.3 or later, and need pytest, numpy and SciPy. Each call that the
 backend takes is answered by it, the others by networkx itself. It prints a table of the functions, for each how many
 calls were answered by the backend and how many were left to networkx, and why; then the tests that fail. Those that are
 known to are counted as passed, and printed with the reason.
@@ -28,7 +28,7 @@ def lacking():
     for name in "networkx", "numpy", "scipy.sparse", "pytest":
         try:
             __import__(name)
-        except ImportError:
+        except (ImportError, SyntaxError):  # of a Python that networkx is too new for
             return name
     import networkx
 
