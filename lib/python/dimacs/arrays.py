@@ -48,8 +48,7 @@ class _Call(Protocol[_Words, _Answer]):
 
 def of_values(call: Callable[_Words, _Answer]) -> _Call[_Words, _Answer]:
     """The same call, which takes values in place of their fields too."""
-    code = call.__code__
-    names = [*code.co_varnames[: code.co_argcount]]  # inspect takes long to import
+    names = [*call.__code__.co_varnames[: call.__code__.co_argcount]]  # inspect takes long to import
 
     @wraps(call)
     def made(*words: Any, **more: Any) -> Any:

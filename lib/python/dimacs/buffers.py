@@ -38,10 +38,9 @@ class Buffer(NamedTuple):
 
     def owned(self) -> Buffer:
         """The same items where nobody else can write to them."""
-        view = memoryview(self.kept)
-        if view.readonly or not self.length:
+        if memoryview(self.kept).readonly or not self.length:
             return self
-        copy = memoryview(view.tobytes())
+        copy = memoryview(memoryview(self.kept).tobytes())
         return Buffer(copy, _address_of(copy), self.length)
 
     def listed(self, items: Items) -> list[int]:
@@ -66,11 +65,14 @@ def _bytes_in(named: Any) -> bytes:
     import gzip
     import zlib
 
-    path, open_it = os.fspath(named), gzip.open if os.fspath(named).endswith(".gz") else open
+    path: str = os.fspath(named)
+    if not path.endswith(".gz"):
+        with open(path, "rb") as file:
+            return file.read()
     try:
-        with open_it(path, "rb") as file:
-            text: bytes = file.read()
-        if open_it is gzip.open and not text and not os.path.getsize(path):
+        with gzip.open(path) as packed:
+            text = packed.read()
+        if not text and not os.path.getsize(path):
             raise EOFError("the file is empty")
         return text
     except (EOFError, gzip.BadGzipFile, zlib.error) as it:

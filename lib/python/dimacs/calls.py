@@ -144,9 +144,8 @@ def _solve_bounded(
 
 
 def _has_flow(given: Given, instance: list[Any]) -> bool:
-    rooms, certify = [given.room(INSIDE), given.room(FLOWS)], library.certify_infeasible_arrays
-    status, _ = library.call_with_rooms(certify, instance, rooms, given.count(TAILS))
-    return status == library.REFUSED
+    words = library.certify_infeasible_arrays, instance, [given.room(INSIDE), given.room(FLOWS)], given.count(TAILS)
+    return library.call_with_rooms(*words)[0] == library.REFUSED
 
 
 def _solve(kind: str, given: Given, words: list[Any], *handed: Array) -> tuple[Verdict, dict[Array, Room]]:
