@@ -1,10 +1,9 @@
 -- Arrays that are written as a text come back from it.
 use Rattle.std.proofs.Common.{◌≡◌, ◌∙◌, ◌≤◌, ◌<◌, ◌+◌, ◌==◌, ◌++◌, ℕ, ℤ, zero, suc, pos, List, [], ◌∷◌, true, false, Ok, Err, Some, length, get_or, map, take, drop, refl, sym, ap, subst, arith}
-use Rattle.std.proofs.lemmas.Bool.{ne_eqb}
-use Rattle.std.proofs.lemmas.List.{ext_get_or, get_or-map, length-map, take-append-le, take_all}
+use Rattle.std.proofs.{lemmas.Bool.{ne_eqb}, lemmas.List.{ext_get_or, get_or-map, length-map, take-append-le, take_all}}
 use Rattle.std.proofs.lemmas.List.FromFn.{get_or-map-range_with_len, length-map-range_with_len}
-use Rattle.std.specs.{List.{range_with_len, zip}, Ordering.{eq_by_cmp, nat_cmp}}
-use Rattle.std.specs.{Cmp.{nat_cmp_total, unsigned_tied}, FinMap.{from_entries, get, get-from_entries}, FinMap.Entries.{find}, Option.{unwrap_or}}
+use Rattle.std.specs.{List.{range_with_len, zip}, Ordering.{eq_by_cmp, nat_cmp}, Cmp.{nat_cmp_total, unsigned_tied}}
+use Rattle.std.specs.{FinMap.{from_entries, get, get-from_entries}, FinMap.Entries.{find}, Option.{unwrap_or}}
 use Rattle.dimacs_lines.specs.Lines.{lines}
 use Rattle.dimacs_records.specs.{declared.kinds.TextKind.{TextKind}, Readings.{LineRecord}, Texts.{SpellsValue}}
 use Rattle.dimacs_records.proofs.{NameLemmas.{value-without_zeros}, ReadLaws.{spells_one_value}}
@@ -13,8 +12,8 @@ use Rattle.dimacs_instance.specs.{Graph.{GivesGraph, canonical_graph}, MaxTexts.
 use Rattle.dimacs_instance.specs.{MinFlows.{supply_of}, MinTexts.{GivesMin, canonical_min}}
 use Rattle.dimacs_instance.proofs.{GraphLemmas.{graph_round_trip, one_graph}, MaxTextLemmas.{max_round_trip, one_max}}
 use Rattle.dimacs_instance.proofs.MinTextLemmas.{min_round_trip, one_min}
-use Rattle.dimacs_arrays.specs.GraphArrays.{graph_spelled, weighted_arc}
-use Rattle.dimacs_arrays.specs.{MaxArrays.{max_arc, max_spelled}, MinArrays.{min_arc, min_spelled}}
+use Rattle.dimacs_arrays.specs.{GraphArrays.{graph_spelled, weighted_arc}, MaxArrays.{max_arc, max_spelled}}
+use Rattle.dimacs_arrays.specs.MinArrays.{min_arc, min_spelled}
 use Rattle.dimacs_fill.specs.{Filling.{Array, IsFilled, ReadsArcsInto}, GraphFilled.{HoldGraph, graph_sizes}}
 use Rattle.dimacs_fill.specs.{MaxFilled.{HoldMax, max_sizes}, MinFilled.{HoldMin, min_sizes, supplies_of}}
 use Rattle.dimacs_c.specs.Laws.{Gets, GraphArraysLaw, MaxArraysLaw, MinArraysLaw}
@@ -54,8 +53,7 @@ module _ (arc_of : ℕ → ArcView) (n : ℕ) where
 pub graph_back : GraphArraysLaw
 graph_back a heads_long weights_long lawful tails heads weights sizes reads =
     let n = length a.tails.now in
-    let (sized, (ts, hs, ws)) = come_back kinds.Graph GivesGraph (canonical_graph (graph_spelled a)) (graph_spelled a) one_graph (graph_round_trip (graph_spelled a) lawful) graph_sizes (HoldGraph tails heads weights) sizes reads in
-    (
+    let (sized, (ts, hs, ws)) = come_back kinds.Graph GivesGraph (canonical_graph (graph_spelled a)) (graph_spelled a) one_graph (graph_round_trip (graph_spelled a) lawful) graph_sizes (HoldGraph tails heads weights) sizes reads in (
       sized ∙ ap (λ k. record { nodes = a.nodes; arcs = k }) (many (weighted_arc a) n),
       front _ a.tails.now tails (column (weighted_arc a) n (λ (x : ArcView). x.tail) a.tails.now 0 refl (λ k. refl)) ts,
       front _ a.heads.now heads (column (weighted_arc a) n (λ (x : ArcView). x.head) a.heads.now 0 heads_long (λ k. refl)) hs,
@@ -65,8 +63,7 @@ graph_back a heads_long weights_long lawful tails heads weights sizes reads =
 pub max_back : MaxArraysLaw
 max_back a heads_long caps_long lawful tails heads caps sizes reads =
     let n = length a.tails.now in
-    let (sized, (ts, hs, cs)) = come_back kinds.Max GivesMax (canonical_max (max_spelled a)) (max_spelled a) one_max (max_round_trip (max_spelled a) lawful) max_sizes (HoldMax tails heads caps) sizes reads in
-    (
+    let (sized, (ts, hs, cs)) = come_back kinds.Max GivesMax (canonical_max (max_spelled a)) (max_spelled a) one_max (max_round_trip (max_spelled a) lawful) max_sizes (HoldMax tails heads caps) sizes reads in (
       sized ∙ ap (λ k. record { nodes = a.nodes; source = a.source; sink = a.sink; arcs = k }) (many (max_arc a) n),
       front _ a.tails.now tails (column (max_arc a) n (λ (x : ArcView). x.tail) a.tails.now 0 refl (λ k. refl)) ts,
       front _ a.heads.now heads (column (max_arc a) n (λ (x : ArcView). x.head) a.heads.now 0 heads_long (λ k. refl)) hs,
@@ -96,8 +93,7 @@ min_back a heads_long lows_long caps_long costs_long supplies_long lawful tails 
     let long : length (supplies_of (min_spelled a)) ≡ length xs = length-map-range_with_len (supply_of (min_spelled a)) 1 a.nodes ∙ sym supplies_long in
     let same : supplies_of (min_spelled a) ≡ xs = ext_get_or (pos 0) (supplies_of (min_spelled a)) xs long (λ k inside.
     let within : k < length xs = omega (arith, inside, long) in
-    get_or-map-range_with_len (supply_of (min_spelled a)) 1 a.nodes k (1 + k) (pos 0) (omega (arith, within, supplies_long)) (omega arith) ∙ at k within) in
-    (
+    get_or-map-range_with_len (supply_of (min_spelled a)) 1 a.nodes k (1 + k) (pos 0) (omega (arith, within, supplies_long)) (omega arith) ∙ at k within) in (
       sized ∙ ap (λ k. record { nodes = a.nodes; arcs = k }) (many (min_arc a) n),
       front _ a.tails.now tails (column (min_arc a) n (λ (x : ArcView). x.tail) a.tails.now 0 refl (λ k. refl)) ts,
       front _ a.heads.now heads (column (min_arc a) n (λ (x : ArcView). x.head) a.heads.now 0 heads_long (λ k. refl)) hs,

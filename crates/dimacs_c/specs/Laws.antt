@@ -3,11 +3,11 @@ use Rattle.std.specs.Prelude.{ℕ, ℤ, ◌≡◌, ◌≤◌, List, Ok, length, 
 use Rattle.dimacs_instance.specs.{Graph.{IsGraph, canonical_graph}, MaxFlows.{IsMax}, MaxTexts.{canonical_max}}
 use Rattle.dimacs_instance.specs.{MinFlows.{IsMin}, MinTexts.{canonical_min}}
 use Rattle.dimacs_arrays.specs.{declared.graph.GraphArrays.{GraphArrays}, GraphArrays.{graph_spelled}}
-use Rattle.dimacs_arrays.specs.{declared.max.MaxArrays.{MaxArrays}, MaxArrays.{max_spelled}}
-use Rattle.dimacs_arrays.specs.{declared.min.MinArrays.{MinArrays}, MinArrays.{min_spelled}}
-use Rattle.dimacs_fill.specs.{declared.graph.GraphSizes.{GraphSizes}, declared.max.MaxSizes.{MaxSizes}}
-use Rattle.dimacs_fill.specs.{declared.min.MinSizes.{MinSizes}, Filling.{Array}, GraphFilled.{ReadsGraphInto}}
-use Rattle.dimacs_fill.specs.{MaxFilled.{ReadsMaxInto}, MinFilled.{ReadsMinInto}}
+use Rattle.dimacs_arrays.specs.{declared.max.MaxArrays.{MaxArrays}, MaxArrays.{max_spelled}, MinArrays.{min_spelled}}
+use Rattle.dimacs_arrays.specs.declared.min.MinArrays.{MinArrays}
+use Rattle.dimacs_fill.specs.{declared.graph.GraphSizes.{GraphSizes}, declared.max.MaxSizes.{MaxSizes}, Filling.{Array}}
+use Rattle.dimacs_fill.specs.{declared.min.MinSizes.{MinSizes}, GraphFilled.{ReadsGraphInto}, MaxFilled.{ReadsMaxInto}}
+use Rattle.dimacs_fill.specs.MinFilled.{ReadsMinInto}
 
 -- the array gets these items, if it has room for them
 abbrev pub Gets : {X : Type 0} → List X → Array X → Type 0

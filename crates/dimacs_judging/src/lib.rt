@@ -56,7 +56,7 @@ pub use laws::{
     violated_has_no_flow,
 };
 pub use least::{judge_min, judge_min_placed};
-pub use lightest::lightest_arcs;
+pub use lightest::{LightestArcs, lightest_arcs};
 pub use max_claim::{max_claim_tests, max_in_one_pass};
 pub use maximum::{judge_max, judge_max_placed};
 pub use min_claim::{min_claim_tests, min_in_one_pass};

@@ -3,7 +3,8 @@ use Rattle.std.proofs.Common.{◌≡◌, ◌∙◌, ℕ, List, length, refl, sym
 use Rattle.dimacs_lines.specs.Lines.{lines}
 use Rattle.dimacs_records.specs.{declared.kinds.TextKind.{TextKind}, Readings.{LineRecord}, Texts.{SpellsValue}}
 use Rattle.dimacs_claims.specs.{Cuts.{GivesCut, canonical_cut}, DistanceTexts.{GivesDistances, canonical_distances}}
-use Rattle.dimacs_claims.specs.{LabelTexts.{GivesLabels, canonical_labels}, Potentials.{GivesPotentials, canonical_potentials}}
+use Rattle.dimacs_claims.specs.LabelTexts.{GivesLabels, canonical_labels}
+use Rattle.dimacs_claims.specs.Potentials.{GivesPotentials, canonical_potentials}
 use Rattle.dimacs_claims.specs.SolutionTexts.{GivesSolution, canonical_solution, renumbered}
 use Rattle.dimacs_claims.proofs.{CutLemmas.{cut_round_trip}, DistanceLaws.{distances_round_trip}}
 use Rattle.dimacs_claims.proofs.{LabelLaws.{fit_spelled, labels_round_trip}, PotentialsLemmas.{potentials_round_trip}}
@@ -12,7 +13,8 @@ use Rattle.dimacs_instance.specs.{Graph.{GivesGraph, canonical_graph}, MaxTexts.
 use Rattle.dimacs_instance.specs.{MinTexts.{GivesMin, canonical_min}, QueryTexts.{GivesQueries, canonical_queries}}
 use Rattle.dimacs_instance.proofs.{GraphLemmas.{graph_round_trip}, MaxTextLemmas.{max_round_trip}}
 use Rattle.dimacs_instance.proofs.{MinTextLemmas.{min_round_trip}, QueriesLemmas.{queries_round_trip}}
-use Rattle.dimacs_runs.specs.{declared.status.Status.TheVariants.{Done}, Laws.{FixedPointLaw}, Runs.{FaultOr, IsPrinted}}
+use Rattle.dimacs_runs.specs.{declared.status.Status.TheVariants.{Done}, Laws.{FixedPointLaw}}
+use Rattle.dimacs_runs.specs.Runs.{FaultOr, IsPrinted}
 use Rattle.dimacs_runs.proofs.LabelCounts.{distances_fit}
 use Rattle.dimacs_records.specs.declared.kinds.TextKind.TheVariants as kinds
 

@@ -12,7 +12,8 @@ use Rattle.dimacs_records.specs.declared.kinds.TextKind.TheVariants.{Distances}
 use Rattle.dimacs_claims.specs.{declared.block.Label.{Label}, DistanceTexts.{GivesDistances, SpellsDistances, bare}}
 use Rattle.dimacs_claims.specs.Labels.{AreLabels, BlockValue, IsBlock, LabelsValue, label, label_in, no_label}
 use Rattle.dimacs_claims.specs.{LabelTexts.{FitText, block_lines, label_line, label_records}, inside.ById.{id_at}}
-use Rattle.dimacs_claims.proofs.{BlockLemmas.{is_some-label, label_id}, ByIdLemmas.{fresh_apart}, LabelLaws.{fit_spelled}}
+use Rattle.dimacs_claims.proofs.{BlockLemmas.{is_some-label, label_id}, ByIdLemmas.{fresh_apart}}
+use Rattle.dimacs_claims.proofs.LabelLaws.{fit_spelled}
 use Rattle.dimacs_judging.specs.{inside.Labels.{block_at}, QueryTests.{HasBlock}}
 use Rattle.dimacs_judging.proofs.BlockNumbers.{block_found}
 use Rattle.dimacs_decide.specs.CertifiedPaths.{AreLabelsOfAll, block_source}

@@ -14,12 +14,15 @@ use Rattle.dimacs_instance.specs.{MinFlows.{MinValue}, MinTexts.{GivesMin}}
 use Rattle.dimacs_instance.proofs.{GraphLemmas.{graph_faultless, one_graph}, MaxTextLemmas.{max_faultless, one_max}}
 use Rattle.dimacs_instance.proofs.MinTextLemmas.{min_faultless, one_min}
 use Rattle.dimacs_judging.specs.{MaxJudge.{IsMaxClaim, max_claim_rows}, MinJudge.{IsMinClaim, min_claim_rows}}
-use Rattle.dimacs_judging.specs.{declared.verdict.Where.{Where}, Optimum.{Least, Maximum, NoFlow}, Tests.{AllClear, Row}}
+use Rattle.dimacs_judging.specs.{declared.verdict.Where.{Where}, Optimum.{Least, Maximum, NoFlow}}
+use Rattle.dimacs_judging.specs.Tests.{AllClear, Row}
 use Rattle.dimacs_judging.proofs.Firsts.{none_first}
 use Rattle.dimacs_runs.specs.Certified.{CertificateOr, Certified, CertifiesDistances, CertifiesInfeasible, CertifiesLeast, CertifiesMaximum, uncertified}
-use Rattle.dimacs_solve.{specs.Climbing.{GivesUp}, proofs.ClimbingLemmas.{enough_limit}}
-use Rattle.dimacs_runs.specs.{Laws.{AreTrueDistances, IsTrueMax, IsTrueMin, RunLimitLaw, TrueClaimLaw}, Solved.{FaultAloneOr}, declared.status.Status.{Status}}
+use Rattle.dimacs_runs.specs.Laws.{AreTrueDistances, IsTrueMax, IsTrueMin, RunLimitLaw, TrueClaimLaw}
+use Rattle.dimacs_runs.specs.{Solved.{FaultAloneOr}, declared.status.Status.{Status}}
 use Rattle.dimacs_runs.specs.declared.status.Status.TheVariants.{Done, GaveUp, Refused}
+use Rattle.dimacs_solve.specs.Climbing.{GivesUp}
+use Rattle.dimacs_solve.proofs.ClimbingLemmas.{enough_limit}
 use Rattle.dimacs_judging.proofs.MaxJudge as max
 use Rattle.dimacs_judging.proofs.MinJudge as min
 use Rattle.dimacs_records.specs.declared.faults.ReadError.TheVariants as read_errors

@@ -4,16 +4,15 @@ use Rattle.std.specs.{Prelude.{ℕ, ℤ, pos, ◌≡◌, ◌≢◌, ◌≤◌, �
 use Rattle.dimacs_claims.specs.{DistanceTexts.{SpellsDistances}, Labels.{BlockValue, LabelsValue}}
 use Rattle.dimacs_claims.specs.{LabelTexts.{FitText, canonical_labels}, SolutionTexts.{SolutionValue, SpellsSolution}}
 use Rattle.dimacs_network.specs.Arcs.{NetworkValue}
-use Rattle.dimacs_instance.specs.{Graph.{SpellsGraph}, QueryTexts.{QueriesValue, SpellsQueries}}
-use Rattle.dimacs_instance.specs.{MaxFlows.{MaxValue}, MaxTexts.{SpellsMax}, MinFlows.{MinValue}, MinTexts.{SpellsMin}}
+use Rattle.dimacs_instance.specs.{Graph.{SpellsGraph}, QueryTexts.{QueriesValue, SpellsQueries}, MaxFlows.{MaxValue}}
+use Rattle.dimacs_instance.specs.{MaxTexts.{SpellsMax}, MinFlows.{MinValue}, MinTexts.{SpellsMin}}
 use Rattle.dimacs_judging.specs.{Feasible.{value}, MaxJudge.{IsMaxClaim}, MinJudge.{IsMinClaim}}
-use Rattle.dimacs_judging.specs.Optimum.{Least, Maximum, NoFlow}
-use Rattle.dimacs_judging.specs.QueryTests.{nodes_asked, sources_asked}
+use Rattle.dimacs_judging.specs.{Optimum.{Least, Maximum, NoFlow}, QueryTests.{nodes_asked, sources_asked}}
 use Rattle.dimacs_decide.specs.CertifiedPaths.{AreAllDistances, sources_of}
 use Rattle.dimacs_records.specs.declared.kinds.TextKind.{TextKind}
 use Rattle.dimacs_runs.specs.{declared.jobs.JudgeKind.{JudgeKind}, declared.jobs.SolveJob.{SolveJob}, Solved.{Solved}}
-use Rattle.dimacs_runs.specs.{declared.text.TextForm.TheVariants.{Canonical}, Runs.{Prints}}
-use Rattle.dimacs_runs.specs.{declared.jobs.JudgeKind.TheVariants.{Max, Min, Infeasible, Paths}, Certified.{Certified}}
+use Rattle.dimacs_runs.specs.{declared.text.TextForm.TheVariants.{Canonical}, Runs.{Prints}, Certified.{Certified}}
+use Rattle.dimacs_runs.specs.declared.jobs.JudgeKind.TheVariants.{Max, Min, Infeasible, Paths}
 use Rattle.dimacs_runs.specs.{declared.status.Status.{Status}, Judged.{Judged, paths_lines}}
 use Rattle.dimacs_runs.specs.declared.status.Status.TheVariants.{Done, GaveUp}
 use Rattle.dimacs_runs.specs.declared.jobs.JudgeKind.TheVariants as judges
