@@ -188,7 +188,7 @@ CASES = [
     ("FieldCount", "convert gr T", {"T": "p sp 1 1\na\n"}, ["the line has 1 field, and"]),
     ("TooFew", "convert dist T", {"T": "p dist 3 1\nt 1 1\n"}, ["declares 1 d line, and has 0 before this place\n"]),
     # A line of the source, and a blank that ends no field.
-    ("NumberRange", "convert dist T", {"T": "p dist 3 1\nt 1 1\nd 1 0 0\n"}, ["PRED", "\nnode 1 is the source of the block: it has the distance 0, and no d line\n$"]),
+    ("NumberRange", "convert dist T", {"T": "p dist 3 1\nt 1 1\nd 1 0 0\n"}, ["\nnode 1 is the source of the block: it has the distance 0, and no d line\n$"]),
     ("FieldCount", "convert gr T", {"T": "p sp 2 1\na 1\u00a02 5\n"}, ["T:2: a 1\\xc2\\xa02 5\n", "the line has 3 fields"]),
     ("FieldCount", "convert gr T", {"T": "p sp 2 1\na 1\u30002\u20095\n"}, ["T:2: a 1\\xe3\\x80\\x802\\xe2\\x80\\x895\n", "the line has 2 fields"]),
     ("UnknownLine", "convert gr T", {"T": "p sp 1 0\n".encode("utf-32")}, ["UTF-32"]),
