@@ -113,7 +113,9 @@ class Solves(unittest.TestCase):
         arcs = "".join(f"a {node} {node + 1} 1000000000000\n" for node in range(1, nodes))
         graph = f"p sp {nodes} {nodes - 1}\n{arcs}"
         queries = f"p aux sp ss {nodes}\n" + "".join(f"s {node}\n" for node in range(1, nodes + 1))
-        labels = dimacs.solve_paths(graph, queries).certificate
+        solved = dimacs.solve_paths(graph, queries)
+        self.assertEqual(solved.pairs, solved.solution)
+        labels = solved.certificate
         self.assertGreater(len(labels), 3 * len(graph))
         self.assertEqual(dimacs.judge_paths(graph, queries, labels).value, nodes)
 

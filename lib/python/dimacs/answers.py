@@ -166,6 +166,11 @@ class Solved(_Shown, _Solved):
         """That of calls about paths."""
         return self._of(self.solution, "paths")
 
+    @property
+    def pairs(self) -> Any:
+        """That of queries for pairs in texts, as of a Verdict."""
+        return self._of(self.solution, "paths")
+
 
 #: What an exception says of the numbers that were compared, by its reason: the first line that has all of them.
 _SAID = {
