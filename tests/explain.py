@@ -210,11 +210,7 @@ CASES = [
 # The same of a text whose file can't be read again, or is the claim's. The command of the package for Python says more of
 # these: it keeps what it reads and makes.
 UNREAD = [
-    ("NotMaximum", "certify-max I S S", {"S": "s 0\n"}, ["the flow is feasible, and a better one has the value 6: it goes to S\n"]),
-    ("NotMaximum", "certify-max I S ./S", {"S": "s 0\n"}, ["the flow is feasible, and a better one has the value 6: it goes to ./S\n"]),
-    ("NotLeast", "certify-min MI S S", {"S": DEAR}, ["the flow is feasible, and a better one costs 14: it goes to S\n"]),
     ("NotMaximum", "certify-max I S /dev/null", {"S": "s 0\n"}, ["S:1: s 0", "a better one has the value 6: it goes to /dev/null\n"]),
-    ("", "certify-max I S ./S", {}, ["the numbers are left out: the certificate has taken the place of S\n$"]),
 ]
 
 # Reasons that no case gives: one that no text is refused for, and one of 10^12 lines.
