@@ -207,7 +207,7 @@ CASES = [
     ("NoTightArc", "certify-paths G D", {"G": "p sp 4 3\na 1 2 5\na 2 3 0\na 3 2 0\n", "D": "p distances 4 2\nt 1 2\nd 2 5\nd 3 5\nt 4 2\nd 2 1\nd 3 1\n"}, ["D:6: d 2 1\nin the block from source 4 (line 5) the arcs that lead to the distance of node 2 come from nodes that"]),
 ]
 
-# The same of a text whose file can't be read again, or is the claim's. The command of the package for Python says more of
+# The same of a text whose file can't be read again. The command of the package for Python says more of
 # these: it keeps what it reads and makes.
 UNREAD = [
     ("NotMaximum", "certify-max I S /dev/null", {"S": "s 0\n"}, ["S:1: s 0", "a better one has the value 6: it goes to /dev/null\n"]),
