@@ -3,7 +3,8 @@
 
 COMMAND and FILES are those of build/referee/judge, which is run first, and needn't be right. Then a file of Coq is written:
 the bytes of the texts, the theorem that this is the answer to them, and what it means. Coq checks it; --keep keeps it.
-So neither extraction nor OCaml, Zarith or main.ml has to be right: only Coq, the definitions, and that these are the bytes.
+So neither extraction nor main.ml has to be right: only Coq, with its OCaml and Zarith, the definitions, and that these are
+the bytes.
 
 Prints and writes what the judge does, and ends with its status; with 5 also if the answer isn't accepted, and says so.
 """
