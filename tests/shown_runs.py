@@ -1,9 +1,9 @@
 #!/usr/bin/env python3
 """Repeats the runs that the pages show: tests/shown_runs.py [BINARY]
 
-Each line '$ dimacs WORDS', '$ referee/referee.py WORDS' or, where Coq is there, '$ build/referee/judge WORDS' in a page's
-block of code is run beside a copy of the examples, where it may write files. What it prints is compared with the lines under it, up to a line '...' and without
-remarks, which begin with '  # '. Its exit status is compared with what these lines mean; the standard error has to stay
+Each line '$ dimacs WORDS', '$ referee/referee.py WORDS' or '$ build/referee/judge WORDS' in a page's block of code is run
+beside a copy of the examples, where it may write files. What it prints is compared with the lines under it, up to a line
+'...' and without remarks, which begin with '  # '. Its exit status is compared with what these lines mean; the standard error has to stay
 empty. A page that shows no run has failed, and so has one that does and isn't read here.
 BINARY is the built program; crates/dimacs/out/dimacs by default.
 """
@@ -62,7 +62,8 @@ def cases(binary):
     if shutil.which("coqc") and shutil.which("ocamlfind"):
         subprocess.run(["make", "--no-print-directory", "referee"], check=True)
     else:
-        print(f"left out: the runs of {programs.pop(JUDGE)}: there is no coqc or ocamlfind")
+        print(f"left out: {JUDGE}: there is no coqc or ocamlfind; {binary} makes its runs, whose files others read")
+        programs[JUDGE] = binary
     yield from ((fault, False) for fault in wrong_pages())
     with tempfile.TemporaryDirectory() as place:
         shutil.copytree("examples", os.path.join(place, "examples"))
