@@ -19,7 +19,7 @@
  *   - During a call no other thread writes what it reads, or reads or writes what it writes. Otherwise calls may run in
  *     several threads at once, even over the same texts and arrays.
  *   - No call is made in a signal handler, or in the forked child of a process with threads. In Python a call that Ctrl-C
- *     left is such a thread until it ends.
+ *     left goes on in a thread until it ends.
  *   - The calling thread has 64 KB of stack left.
  */
 #ifndef DIMACS_H

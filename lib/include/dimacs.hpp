@@ -487,8 +487,8 @@ class [[nodiscard]] Answer {
     bool has_value() const noexcept { return it_.index() == 0; }
     explicit operator bool() const noexcept { return has_value(); }
 
-    // The yes. If it is a no, the behaviour is undefined, as for std::optional. What refers into an answer wants one that
-    // stands in a variable; one that is gone at once hands out its yes by value.
+    // The yes. If it is a no, the behaviour is undefined, as for std::optional. What refers into an answer needs one that
+    // stands in a variable; `*` of any other returns its yes by value.
     const Yes &operator*() const & noexcept { return *std::get_if<0>(&it_); }
     Yes operator*() && { return std::move(*std::get_if<0>(&it_)); }
     const Yes *operator->() const & noexcept { return std::get_if<0>(&it_); }

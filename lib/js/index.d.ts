@@ -288,7 +288,7 @@ export function write(kind: "distances", distances: DistancesFrom): string;
 
 /**
  * The calls over arrays. They throw what those over texts do; RangeError if a number doesn't fit, isn't whole or is a
- * number from 2^53 that should be a BigInt, or if an array has a wrong length; PastLimit, which is a RangeError, if a
+ * number from 2^53 on that should be a BigInt, or if an array has a wrong length; PastLimit, which is a RangeError, if a
  * number is past a limit of instances; TypeError for what is no number or array.
  */
 export function judgeMaxArrays(instance: MaxInstance, flows: Amounts, inside: Marks): Verdict;

@@ -9,7 +9,7 @@ An arc with the capacity inf has no limit: caps has 2^63 - 1 there, and unlimite
 An instance unpacks into the arguments that make it, with inf there, and calls see these. names has what nodes are called where
 it comes from, node 1 first, or is None; calls name them so, and count from the base that the instance was made with. units
 has what 1 stands for in its amounts and in its costs, as (Fraction(1, 100), 1), or is None if numbers are as they came; graphs
-and frames keep them as "dimacs_units". Instances are equal if all of this is but the base; solutions if their instances are.
+and frames keep them as "dimacs_units". Instances are equal if all of this but the base is; solutions if their instances are.
 """
 
 from __future__ import annotations

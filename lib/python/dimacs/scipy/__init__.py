@@ -5,7 +5,7 @@
 It needs SciPy 1.8 or later. Vertices are numbered from 0, as the rows and columns of the matrix. Each answer was judged;
 the calls that begin with certify_ certify those of SciPy. Sums of entries at one place are exact: ValueError is raised if
 one of a matrix that is given has more than 64 bits, and GaveUp if one of the answer has. Unlike in SciPy, a negative capacity
-raises ValueError, a loop of negative weight is a negative cycle, and a zero that no mask hides an edge.
+raises ValueError, a loop of negative weight is a negative cycle, and a zero that no mask hides is an edge.
 """
 
 from .flows import MaximumFlowResult, certify_maximum_flow, maximum_flow
