@@ -16,7 +16,7 @@ TOP = os.path.dirname(os.path.dirname(os.path.abspath(__file__)))
 # What runs side by side: what it needs, how much has to pass in it, and its commands, one after the other. First comes
 # what needs nothing that is built, then what needs the program alone, and of the rest what takes longest.
 TABLE = """
-nothing | 46     | tests/second_proof.py
+nothing | 51     | tests/second_proof.py
 nothing | 420    | tests/lower_addresses.py
 nothing | 34     | tests/gate_test.py
 nothing | 0      | tools/try_bodies.py --apply
