@@ -82,7 +82,7 @@ def like_the_program(binary, words):
 
 
 def lying(folder, script):
-    """kernel.py with a judge that is a shell script, and that's file."""
+    """The file of kernel.py where the judge is a shell script."""
     os.makedirs(f"{folder}/build/referee")
     os.mkdir(f"{folder}/referee")
     os.symlink(kernel.__file__, f"{folder}/referee/kernel.py")
