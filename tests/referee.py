@@ -204,7 +204,7 @@ RUNS = [
 
 # Those of certifiers, which the referee in Python doesn't have.
 CERTIFIED_RUNS = [
-    *["max max flow", "max max flow made", "max max zero", "max max zero made", "max max zero zero", "infeasible min made"],
+    *["max max flow", "max max flow made", "max max zero", "max max zero made", "infeasible min made"],
     *["paths gr near made", "max max flow made more", "max max", "infeasible", "infeasible min made more"],
     *["max max flow \udcff", "max max flow folder", "max max zero absent/made", "max faulty flow made"],
     *["max max absent made", "max max flow /dev/full", "max max flow long", "max max zero long", "infeasible min long"],

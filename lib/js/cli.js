@@ -168,10 +168,17 @@ function writeTexts(job, handed, created) {
     }
 }
 
-/** Blanks, which separate words. In a file's name others stand in for them, which lines show as they are. */
+/** Blanks, which separate words. In a file's name others stand in for them, which lines show as a blank, and commands in octal. */
 const BLANKS = [" ", "\t", "\r"];
 
-const replaced = (text, from, to) => from.reduce((made, it, i) => made.replaceAll(it, to[i]), text);
+const replaced = (text, from, to) => from.reduce((made, it, i) => made.replaceAll(it, () => to[i]), text);
+const octal = (text) => [...Buffer.from(text)].map((it) => `\\${it.toString(8).padStart(3, "0")}`).join("");
+
+/** A name that isn't seen whole, as the program writes it in a command. */
+function typed(name) {
+    const [front, back] = name.endsWith("\n") ? ["$'", "'"] : [`"$(printf '`, `')"`];
+    return `${front}${[...name].map((it) => (/^[A-Za-z0-9]$/.test(it) ? it : octal(it))).join("")}${back}`;
+}
 
 /** So many characters that stand in none of these texts. */
 function unusedIn(given, count) {
@@ -184,15 +191,18 @@ function unusedIn(given, count) {
 }
 
 /** The lines of an answer, and those that explain it, over the texts that were read and those that were made. */
-function explained(texts, {explains, reads}, read, made) {
-    const given = [...read, ...made], [a, b, c, ...ends] = unusedIn([Buffer.from(explains.join("")), ...given], 3 + reads.length);
+function explained(texts, {explains, reads}, read, written) {
+    const given = [...read, ...written], [a, b, c, ...ends] = unusedIn([Buffer.from(explains.join("")), ...given], 3 + reads.length);
     const words = explains.map((it) => replaced(it, BLANKS, [a, b, c])), lasts = reads.map((it) => [...it].at(-1));
     // A stream that is named once more has another text, so it takes another name.
     reads.forEach((name, i) => {
         if (reads.indexOf(name) < i) words[1 + i] = words[1 + i].slice(0, -lasts[i].length) + ends[i];
     });
     const {handed: [lines]} = texts.explain(Buffer.from(words.join(" ")), given);
-    return replaced(Buffer.from(lines).toString(), [a, b, c, ...ends], [" ", " ", " ", ...lasts]);
+    const hidden = explains.map((name, i) => [name, words[i]]).filter(([name]) => /[\t\r]/.test(name));
+    const quoted = hidden.map(([, word]) => `'${word.replaceAll("'", "'\\''")}'`), typeds = hidden.map(([name]) => typed(name));
+    const made = replaced(replaced(Buffer.from(lines).toString(), quoted, typeds), [a, b, c].map(octal), BLANKS.map(octal));
+    return replaced(made, [a, b, c, ...ends], [" ", " ", " ", ...lasts]);
 }
 
 function run(texts, job) {

@@ -175,7 +175,7 @@ def _run(job: _Job) -> int:
     return status
 
 
-#: Blanks separate words. In a file's name others stand in for them, which lines show as a blank.
+#: Blanks separate words. In a file's name others stand in for them, which lines show as a blank, and commands in octal.
 _BLANKS = " \t\r"
 
 
@@ -189,6 +189,16 @@ def _encoded(words: Sequence[str]) -> bytes:
     return " ".join(words).encode("utf-8", "surrogateescape")
 
 
+def _octal(text: str) -> str:
+    return "".join(f"\\{it:03o}" for it in text.encode())
+
+
+def _typed(name: str) -> str:
+    """A name that isn't seen whole, as the program writes it in a command."""
+    front, back = ("$'", "'") if name.endswith("\n") else ("\"$(printf '", "')\"")
+    return front + "".join(it if it.isascii() and it.isalnum() else _octal(it) for it in name) + back
+
+
 def _explained(job: _Job, texts: Sequence[bytes]) -> bytes:
     *ends, a, b, c = _unused_in([_encoded(job.explained), *texts], len(job.reads) + len(_BLANKS))
     words = [it.translate(str.maketrans(_BLANKS, a + b + c)) for it in job.explained]
@@ -198,8 +208,13 @@ def _explained(job: _Job, texts: Sequence[bytes]) -> bytes:
             words[1 + place] = words[1 + place][:-1] + end
             shown[ord(end)] = ord(name[-1])
     given = [word for it in (_encoded(words), *texts, b"", b"", b"") for word in bytes_of(it).words()][:8]
-    _, lines = library.call(library.explain, *given)
-    return bytes(lines).decode().translate(shown).encode("utf-8", "surrogateescape")
+    lines = bytes(library.call(library.explain, *given)[1]).decode()
+    for name, word in zip(job.explained, words):
+        if "\t" in name or "\r" in name:
+            lines = lines.replace("'" + word.replace("'", "'\\''") + "'", _typed(name))
+    for it, blank in zip(a + b + c, _BLANKS):
+        lines = lines.replace(_octal(it), _octal(blank))
+    return lines.translate(shown).encode("utf-8", "surrogateescape")
 
 
 def _answered(words: list[str]) -> int:
