@@ -132,7 +132,7 @@ fn without_arguments(rt: &HostRuntime, error: io::Error) -> u8 {
     refuse(rt, complaint_of_bytes(rt.alloc()))
 }
 
-/// Complains of arguments that ask for nothing, and returns the exit status. If memory runs out, no more than the first
+/// Complains of arguments that are wrong, and returns the exit status. If memory runs out, no more than the first
 /// line is written.
 fn refuse(rt: &HostRuntime, text: Result<String, AllocError>) -> u8 {
     complain(rt, NO_RUN);

@@ -199,7 +199,7 @@ static ENDING: &str = "\
 Exit status:
   0  done; a judge said yes                3  a file failed, or isn't there
   1  refused: the line begins with x       4  out of memory
-  2  the arguments ask for nothing         5  a solve run gave up: g limit
+  2  the arguments are wrong               5  a solve run gave up: g limit
 
 Example:
   dimacs judge-max pipes.max pipes.solution pipes.cut

@@ -1,5 +1,5 @@
 -- The theorems: what runs write with `Done`, the judge's run answers yes; a claim is certified exactly if it is true; a
--- canonical text is converted to itself; and with a limit that is great enough no maximum stays unfound.
+-- canonical text is converted to itself; and with a great enough limit a solver of maximum flow doesn't give up.
 use Rattle.std.specs.{Prelude.{ℕ, ℤ, pos, ◌≡◌, ◌≢◌, ◌≤◌, ◌<◌, ◌<ℤ◌, ◌⊎◌, ◌↔◌, List, [], ◌∷◌}, List.{All, Contains}}
 use Rattle.dimacs_claims.specs.{DistanceTexts.{SpellsDistances}, Labels.{BlockValue, LabelsValue}}
 use Rattle.dimacs_claims.specs.{LabelTexts.{FitText, canonical_labels}, SolutionTexts.{SolutionValue, SpellsSolution}}

@@ -1,8 +1,8 @@
 //! Theorems: what runs write is judged yes, a claim is certified exactly if it is true, a canonical text is converted to
-//! itself, and a great enough limit is enough.
+//! itself, and with a great enough limit a solver of maximum flow doesn't give up.
 //!
-//! The contract of a function here states the theorem. The body is empty on purpose: there is nothing to compute. They
-//! are about `Judged`, which the contract of `run_judge` cites: if it allows the answer yes, it allows no other.
+//! The contract of a function here states the theorem. The body is empty on purpose: there is nothing to compute.
+//! `Judged` is what the contract of `run_judge` cites: if it allows the answer yes, it allows no other.
 
 ghost use Rattle.dimacs_runs.specs.Laws.{CertifiedLaw, FixedPointLaw, RunLimitLaw, SolvedLaw, TrueClaimLaw};
 
