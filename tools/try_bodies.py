@@ -327,7 +327,11 @@ def try_together(edits):
     rest = [it for it in edits if it.result is None]
     if 0 < len(rest) < len(edits):
         return report.minutes + try_together(rest)
-    return sum(map(try_together, settle(rest, trial, report)), report.minutes)
+    # If the check reports of none, one of them keeps the crate from being read: it is found by halves.
+    is_read = any(verdict_at(it, report) for paths in trial.paths.values() for it in paths)
+    half = len(rest) // 2
+    again = settle(rest, trial, report) if is_read or not half else [rest[:half], rest[half:]]
+    return sum(map(try_together, again), report.minutes)
 
 
 def settle(edits, trial, report):
