@@ -68,6 +68,7 @@ WRONG = [
 
 # Runs over an instance i and a solution s, which is linked too, whose target is likely a slip: the words, and what is
 # said of it. None does anything but what solves: its files are named, and it goes on.
+SLIPPED = {"i": "p max 2 1\nn 1 s\nn 2 t\na 1 2 3\n", "s": "s 3\nf 1 2 3\n"}
 SLIPS = [
     ("certify-max i s ./i", "INSTANCE and CERTIFICATE are the same file: ./i"),
     ("certify-max i s linked", "SOLUTION and CERTIFICATE are the same file: linked"),
@@ -142,8 +143,7 @@ def slips(binary):
     """Yields what was asked of files that are likely a slip, the answer, and whether that is right."""
     for words, line in SLIPS:
         with tempfile.TemporaryDirectory() as folder:
-            texts = {"i": "p max 2 1\nn 1 s\nn 2 t\na 1 2 3\n", "s": "s 3\nf 1 2 3\n"}
-            for name, text in texts.items():
+            for name, text in SLIPPED.items():
                 pathlib.Path(folder, name).write_text(text, encoding="ascii")
             os.link(f"{folder}/s", f"{folder}/linked")
             status, printed, complaint = answer = run(binary, words.split(), folder)
@@ -154,7 +154,7 @@ def slips(binary):
             is_right = status != 2 and complaint == f"dimacs: {line}\n"
         else:
             is_right = complaint.startswith(f"dimacs: usage\n{line}\n") and (status, printed) == (2, "")
-            is_right = is_right and left == {**texts, "linked": texts["s"]}
+            is_right = is_right and left == {**SLIPPED, "linked": SLIPPED["s"]}
         yield words, answer, is_right
 
 

@@ -11,84 +11,28 @@ import warnings
 from unittest import mock
 
 import explain  # tests/explain.py
+import usage
 from dimacs import __main__
+from rows import rows
 
 TOP = pathlib.Path(__file__).parents[2]
 PROGRAM = pathlib.Path(os.environ.get("DIMACS_LIBRARY", "")).parent / "dimacs"
 
-# Commands over files of examples/; those that are written are called out and more.
+# What no row of tests/rows/commands has, and no words of tests/usage.py.
 RUNS = """
-judge-max pipes.max pipes.solution pipes.cut
-judge-max pipes.max pipes-careless.solution pipes.cut
-judge-min canning.min canning.solution canning.pot
-judge-infeasible shortage.min shortage.cut
-judge-infeasible shortage.min pipes.cut
-judge-paths road.gr road.query road.dist
-judge-paths road-faulty.gr road.query road.dist
-certify-max pipes.max pipes.solution
-certify-max pipes.max pipes-careless.solution out
-certify-min freight.min freight-dear.solution out
-certify-min canning.min canning.solution out
-certify-infeasible shortage.min out
-certify-infeasible freight.min out
-certify-paths road.gr road.distances out
-certify-paths romania.gr road.near out
-solve-max pipes.max out more
-solve-max pipes.max out more --limit 0
-solve-max pipes.max out more --limit +07
-solve-max road.gr out more
-solve-max pipes.max out out
-solve-max nowhere out out
-spread-max bridges.max bridges-sums.solution bridges-sums.solution
-solve-min freight.min out more --limit 1000000000
-solve-min shortage.min out more
-solve-paths romania.gr romania.query out
-solve-paths road.gr pipes.max out
-spread-max bridges.max bridges-sums.solution out
-spread-max bridges.max pipes.solution out
-convert max pipes.max
-convert gr road-faulty.gr
-show dist road.dist
-show dist nowhere
+solve-max pipe a b --limit +07
+solve-max pipe a a
+solve-max absent a a
+solve-min supply a b --limit 1000000000
+spread-max max turned absent/a
 show dist .
-certify-max pipes.max nowhere out
-solve-max pipes.max out nowhere/more
-solve-max nowhere out more
-spread-max bridges.max bridges-sums.solution nowhere/out
-"""
-
-# Slips that aren't refused unless they are explained.
-SLIPS = """
-solve-max pipes.max pipes.max out
-solve-max pipes.max out --limit
-solve-paths road.gr road.query ./road.query
-"""
-
-# What asks for nothing.
-MISUSED = """
-judge-max pipes.max
-judge-maxx pipes.max pipes.solution pipes.cut
-solve-max pipes.max out more --limit 1000000001
-solve-max pipes.max out more --limit -1
-solve-max pipes.max out more --limit x
-solve-max pipes.max out more --limit
-solve-paths road.gr road.query out --limit 5
-show infeasible shortage.min
-show max
 convert
-explain
-explain help
-certify-max pipes.max pipes.solution out more
-help me
+show infeasible unmet
 --version now
-certify-max pipes.max pipes.solution ./pipes.max
-certify-max pipes.max pipes.solution pipes.solution
-certify-infeasible shortage.min shortage.min
-spread-max pipes.max pipes.solution pipes.max
-explain solve-max pipes.max out pipes.max
-certify-max pipes.max pipes.solution --version
+--version
 """
-
+COMMANDS = RUNS.strip().splitlines() + [words for words, *_ in [*rows("commands"), *usage.SLIPS]]
+WRONG = [words for words, _, _ in usage.WRONG if all(isinstance(it, str) for it in words)]
 
 # Names with characters that separate words, or might stand in for these.
 ODD = {"two words.max": "pipes.max", "two\1words.max": "pipes-careless.solution", "two\twords.max": "pipes.cut"}
@@ -100,6 +44,7 @@ NAMED = [
 
 EXAMPLES = {it.name: it.read_bytes() for it in (TOP / "examples").glob("*.*")}
 EXAMPLES.update({name: EXAMPLES[it] for name, it in ODD.items() if it in EXAMPLES})
+FILES = dict(rows("files")) | usage.SLIPPED
 
 
 def by_program(words, folder):
@@ -128,26 +73,30 @@ class Command(unittest.TestCase):
         with tempfile.TemporaryDirectory() as folder:
             for name, text in texts.items():
                 pathlib.Path(folder, name).write_bytes(text if isinstance(text, bytes) else text.encode())
-            return *run(words, folder), {it.name: it.read_bytes() for it in pathlib.Path(folder).iterdir()}
+            os.mkdir(pathlib.Path(folder, "denied"))
+            return *run(words, folder), {it.name: it.read_bytes() for it in pathlib.Path(folder).iterdir() if it.is_file()}
 
-    def same(self, *words, texts=EXAMPLES):
+    def same(self, words, texts=FILES):
+        """Runs both; their status. Messages about words that ask for nothing differ: both begin alike."""
         with self.subTest(words):
             theirs, ours = (self.ran(it, words, texts) for it in (by_program, by_package))
+            if theirs[0] == 2:
+                theirs, ours = ((*it[:2], it[2].split(b"\n")[0], it[3]) for it in (theirs, ours))
             self.assertEqual(ours, theirs)
-            return ours
+            return ours[0]
 
     def test_runs(self):
-        statuses = {self.same(*line.split())[0] for line in (RUNS + SLIPS).split("\n") if line}
-        self.assertEqual(statuses, {0, 1, 3, 5})
+        statuses = {self.same(it) for it in [[], *WRONG, *map(str.split, COMMANDS)]}
+        self.assertEqual(statuses, {0, 1, 2, 3, 5})
 
     def test_explained(self):
-        for line in RUNS.strip().splitlines():
-            if not line.startswith(("show", "convert")):
-                self.same("explain", *line.split())
+        for words in map(str.split, COMMANDS):
+            if words[0] not in ("show", "convert") and "/dev/null" not in words:  # which can't be read again
+                self.same(["explain", *words])
         for words in NAMED:
-            self.same("explain", *words)
+            self.same(["explain", *words], EXAMPLES)
         for _, words, own, _ in explain.CASES + explain.YES + explain.OTHERS:
-            self.same("explain", *words.split(), texts={**explain.TEXTS, **own})
+            self.same(["explain", *words.split()], {**explain.TEXTS, **own})
 
     def test_a_stream_that_is_named_twice(self):
         """The program can't read a pipe again, to explain it. The answer is the same."""
@@ -159,19 +108,10 @@ class Command(unittest.TestCase):
                 answers.append((ran.returncode, *ran.stdout.splitlines()[:1]))
             self.assertEqual(*answers)
 
-    def test_arguments(self):
-        """The messages differ: both begin alike, and ask for nothing."""
-        for line in "", *MISUSED.strip().splitlines():
-            with self.subTest(line):
-                theirs, ours = (self.ran(it, line.split(), EXAMPLES) for it in (by_program, by_package))
-                self.assertEqual((ours[:2], ours[3]), (theirs[:2], theirs[3]))
-                self.assertEqual(ours[2].split(b"\n")[0], b"dimacs: usage")
+    def test_help(self):
         for words in ["help"], ["--help"], ["help", "solve-max"]:
             self.assertIn(b"solve-max INSTANCE SOLUTION CUT [--limit N]", self.ran(by_package, words, {})[1])
         self.assertEqual(self.ran(by_package, ["help", "help"], {})[:2], (0, b"dimacs help [COMMAND]\n"))
-
-    def test_version(self):
-        self.same("--version")
 
     def test_a_closed_output(self):
         words = [sys.executable, "-m", "dimacs", "show", "max", "pipes.max"]
