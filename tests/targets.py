@@ -29,7 +29,9 @@ import tempfile
 
 import scripts
 import usage
+from instances import Folder
 from library import CC, TEST, WARN, WRAPPED, package, run
+from rows import rows
 from scripts import TOP
 
 JS = f"{TOP}/tests/js"
@@ -157,32 +159,19 @@ def runs_over_examples():
     return found
 
 
-# What no example shows, and no words of tests/usage.py: a line for each, with the words of the command.
+# What no example shows, no row of tests/rows/commands, and no words of tests/usage.py: a line for each.
 SPECIAL = """
 
-convert gr examples/missing.gr
 convert gr examples
-certify-max examples/pipes.max examples/pipes.solution
-certify-max examples/pipes.max examples/pipes.solution missing/out
 certify-max examples/pipes.max examples/pipes-careless.solution examples/missing/out
 certify-min examples/freight.min examples
 certify-paths examples/road-faulty.gr examples out
 judge-max examples/pipes.max examples/road.gr examples
 judge-max examples/pipes.max examples examples/pipes.cut
 judge-infeasible examples/shortage.min examples
-solve-max examples/pipes.max out cut --limit 0
 solve-max examples/pipes.max out cut --limit +1000
 solve-min examples/freight.min out pot --limit 2
 solve-min examples/freight.min out out
-solve-max own own own
-solve-max own cut --limit
-spread-max own examples/pipes.solution own
-certify-max own examples/pipes.solution ./own
-explain solve-max own out own
-certify-max own examples/pipes.solution --version
-solve-max examples/missing.max out cut
-solve-max examples/pipes.max out missing/cut
-help show gr
 solv-max
 slove-max
 show idst examples/road.dist
@@ -192,15 +181,6 @@ solve-max --limit --limit 5
 solve-max examples/pipes.max out cut --limit --limit 5
 explain explain
 explain convert gr examples/road-faulty.gr
-explain judge-max examples/pipes.max examples/pipes.solution examples/pipes.cut
-explain judge-infeasible examples/shortage.min examples/shortage.cut
-explain judge-paths examples/road.gr examples/road.query examples/road.dist
-explain certify-max examples/pipes.max examples/pipes-careless.solution
-explain certify-max examples/pipes.max examples/pipes-careless.solution out
-explain certify-paths examples/road.gr examples/road-near.distances out
-explain solve-min examples/freight.min out pot
-explain solve-max examples/road.gr out cut
-explain spread-max examples/pipes.max examples/pipes.solution out
 explain show gr missing
 """
 
@@ -221,11 +201,13 @@ def outcome(words, room, **outputs):
     place = tempfile.mkdtemp(dir=room)
     for name, example in {"examples": "", **ODD}.items():
         os.symlink(f"{TOP}/examples/{example}", f"{place}/{name}")
-    shutil.copy(f"{TOP}/examples/pipes.max", f"{place}/own")
+    os.mkdir(f"{place}/denied")
+    for name, text in {**dict(rows("files")), **usage.SLIPPED}.items():
+        Folder(place).write(name, text)
     outputs = {"stdout": subprocess.PIPE, "stderr": subprocess.PIPE} | outputs
     ran = subprocess.run(words, cwd=place, check=False, **outputs)
     files = {}
-    for name in set(os.listdir(place)) - {"examples", *ODD}:
+    for name in set(os.listdir(place)) - {"examples", "denied", *ODD}:
         with open(f"{place}/{name}", "rb") as it:
             files[name] = it.read()
     return ran.returncode, ran.stdout or b"", ran.stderr or b"", files
@@ -235,7 +217,9 @@ def compare_commands(tests, name, words, likened=lambda text: text):
     """Runs another command as the program for this system: over the examples, for help and misuse, and with a full output."""
     over_examples = runs_over_examples()
     every = 1 if tests.is_all else max(1, len(over_examples) // 40)
-    special = [line.split() for line in SPECIAL.split("\n")[1:-1]]
+    special = [line.split() for line in SPECIAL.split("\n")[1:-1]] + [words.split() for words, _ in usage.SLIPS]
+    for row, *_ in rows("commands"):
+        special.append(row.split() if row.startswith(("convert", "show")) else ["explain", *row.split()])
     helped = ["--help", "-h", "--version", "-V", "help", *(f"help {it}" for it in usage.usages())]
     wrong = [it for it, _, _ in usage.WRONG]
 
@@ -297,8 +281,8 @@ def test_reasons(tests):
     """The page knows what each reason of the page on judging says of a claim."""
     kinds = scripts.read("lib/page/kinds.js")
     found = set(" ".join(re.findall(r'^    \w+: "([A-Z][\w ]+)"', kinds, re.MULTILINE)).split())
-    rows = re.search(r"## What a refusal means\n\n.*\n.*\n((?:\|.*\n)+)\n", scripts.read("docs/JUDGING.md"))[1]
-    wanted = set(re.findall(r"[A-Z]\w+", "".join(row.split("|")[1] for row in rows.split("\n") if row)))
+    table = re.search(r"## What a refusal means\n\n.*\n.*\n((?:\|.*\n)+)\n", scripts.read("docs/JUDGING.md"))[1]
+    wanted = set(re.findall(r"[A-Z]\w+", "".join(row.split("|")[1] for row in table.split("\n") if row)))
     tests.expect("the reasons", wanted == found, f"{wanted ^ found}")
 
 
