@@ -17,7 +17,7 @@ import tempfile
 import scripts
 from instances import BINARY, MEMORY, Folder
 from scripts import TOP
-from second_proof import BUILT, NEEDED, coqc, link_built
+from second_proof import BUILT, built_judge, coqc, link_built
 from spoiled_texts import judged_texts
 import kernel  # the folder of which spoiled_texts.py adds to the path
 
@@ -185,11 +185,8 @@ def keeping():
 
 def main():
     binary = os.path.abspath([*sys.argv, BINARY][1])
-    lacking = [it for it in NEEDED if not shutil.which(it)]
-    if lacking:
-        print(f"left out: Coq's kernel: there is no {' '.join(lacking)}")
+    if not built_judge():
         scripts.finish(1, 0)
-    subprocess.run(["make", "--no-print-directory", "referee"], cwd=TOP, check=True)
     counts = scripts.Counts()
     with concurrent.futures.ThreadPoolExecutor(4) as pool:
         jobs = [(it, pool.submit(like_the_program, binary, it.split())) for it in EXAMPLES.strip().replace("\n", " | ").split(" | ")]

@@ -4,13 +4,13 @@
 The program and the judge in Coq certify what they write. One whose package isn't there isn't run, and the output says so.
 """
 import os
-import shutil
 import subprocess
 import sys
 import tempfile
 
 import scripts
 from instances import BINARY
+from second_proof import built_judge
 
 # Each recipe, how it is built, what asks whether its package is there, and what is certified, by the command, in turn.
 TEXTS = "instance", "claim"
@@ -28,10 +28,7 @@ def printed(words, folder):
 
 
 def main():
-    programs = [os.path.abspath((sys.argv[1:] or [BINARY])[0])]
-    if shutil.which("coqc") and shutil.which("ocamlfind"):
-        subprocess.run(["make", "--no-print-directory", "referee"], cwd=scripts.TOP, check=True)
-        programs.append(f"{scripts.TOP}/build/referee/judge")
+    programs = list(filter(None, [os.path.abspath((sys.argv[1:] or [BINARY])[0]), built_judge()]))
     counts = scripts.Counts()
     for recipe, build, asks, verdicts in RECIPES:
         if subprocess.run(asks, capture_output=True, check=False).returncode:

@@ -16,7 +16,6 @@ import concurrent.futures
 import csv
 import itertools
 import os
-import shutil
 import subprocess
 import sys
 import tempfile
@@ -26,14 +25,11 @@ import scripts
 from certified import Texts, run
 from instances import BINARY, MEMORY, refusing_library
 from rows import TEXTS, Runs, certifiers, rows
+from second_proof import built_judge
 from spoiled_texts import JUDGES, KINDS, judged_texts
 import referee  # the folder of which spoiled_texts.py adds to the path
 
 WORKERS = 4
-
-# The judge in Coq.
-JUDGE = f"{scripts.TOP}/build/referee/judge"
-NEEDED = ["coqc", "ocamlfind", "flock"]
 
 # The judges in turn. Labels have the most places where they can fail.
 COMMANDS = ["max", "min", "infeasible", "paths", "paths"]
@@ -107,16 +103,6 @@ def to_be_met():
 def write(folder, texts):
     for name, text in texts.items():
         Texts(folder).write(name, text)
-
-
-def second_judge():
-    """The judge in Coq, built if Coq is there."""
-    lacking = [it for it in NEEDED if not shutil.which(it)]
-    if lacking:
-        print(f"left out: the judge in Coq: there is no {' '.join(lacking)}")
-        return None
-    subprocess.run(["make", "--no-print-directory", "referee"], cwd=scripts.TOP, check=True)
-    return JUDGE
 
 
 def answer(words, folder):
@@ -341,7 +327,7 @@ def judge_tables(judge):
 def main():
     binary, count, seed = [*sys.argv[1:], *[BINARY, "10000", "1"][len(sys.argv) - 1 :]]
     binary = os.path.abspath(binary)
-    second = second_judge()
+    second = built_judge()
     parts = [compare_all(binary, second, int(count), seed), compare_commands(binary, second), judge_tables(second)]
     parts += [certifier_tables(second), compare_batches(binary, second)]
     parts += [certify_all(binary, second, int(count) // 5, seed)] if second else []

@@ -122,15 +122,22 @@ def unfound(file, wanted, edits):
             yield f"found is {found or 'nothing'}, and not: {wanted}"
 
 
-def main():
+def built_judge():
+    """The judge in Coq, built if Coq is there. If its proofs aren't accepted all ends."""
     lacking = [it for it in NEEDED if not shutil.which(it)]
     if lacking:
         print(f"left out: the judge in Coq: there is no {' '.join(lacking)}")
-        scripts.finish(1, 0)
+        return None
     ran = subprocess.run(["make", "--no-print-directory", "referee"], cwd=TOP, capture_output=True, text=True, check=False)
     if ran.returncode:
         print(f"{ran.stdout}{ran.stderr}FAILED: the proofs aren't accepted")
         scripts.finish(0, 1)
+    return f"{BUILT}/judge"
+
+
+def main():
+    if not built_judge():
+        scripts.finish(1, 0)
     with tempfile.TemporaryDirectory() as folder:
         link_built(folder)
         failures = [*wrong_in(folder), *unstated(), *impure()]
