@@ -82,8 +82,6 @@ CLOSED = [
     ("solve-max pipe a b", "<&- >&-", 3, errno.EBADF),
     ("solve-max pipe a b", "<&- >&- 2>&-", 3, errno.EBADF),
     ("certify-max pipe zero a", "<&- >&-", 3, errno.EBADF),
-    ("judge-max max flow cut", "<&- >&-", 3, errno.EBADF),
-    ("judge-max max flow cut", "<&- 2>&-", 0, None),
     ("convert gr road", "<&- >&-", 3, errno.EBADF),
 ]
 

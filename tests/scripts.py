@@ -34,7 +34,7 @@ program | 4      | tests/plain_recipes.py {program}
 program | 290    | tests/batch.py {program}
 program | 150    | tests/large_runs.py {program}
 program | 40     | tests/malicious.py {program} 50000
-program | 101    | tests/refusals.py {program}
+program | 99     | tests/refusals.py {program}
 program | 650    | tests/draw.py {program}
 program | 950    | tests/rows.py {program}
 program | 1050   | tests/explain.py {program} 80
