@@ -14,7 +14,6 @@ const SMALLER = "s 2\nf 1 3 2\nf 3 4 2\n";
 const CUT = "p cut 4 1\nu 1\n";
 const MIN = "p min 4 5\nn 1 4\nn 4 -4\na 1 2 0 4 2\na 1 3 0 2 2\na 2 3 0 2 1\na 2 4 0 3 3\na 3 4 0 5 1\n";
 const LEAST = "s 14\nf 1 2 2\nf 1 3 2\nf 2 3 2\nf 3 4 4\n";
-const DEARER = "s 17\nf 1 2 3\nf 1 3 1\nf 2 3 1\nf 2 4 2\nf 3 4 2\n";
 const POT = "p pot 4 3\ny 1 4\ny 2 2\ny 3 1\n";
 const SHORT = "p min 2 1\nn 1 5\nn 2 -5\na 1 2 0 3 1\n";
 const GRAPH = "p sp 4 3\na 1 2 5\na 2 3 4\na 3 2 0\n";

@@ -38,13 +38,12 @@ function random(count) {
 }
 const any = (list) => list[random(list.length)];
 
-const focus = (person, slot) => person.page.evaluate(`void ${element(slot)}.focus()`);
-const press = (command) => async (person, slot) => (await focus(person, slot), person.page.press(command));
+const press = (command) => async (person, slot) => (await person.focus(slot), person.page.press(command));
 const script = (...words) => async (person, slot) => {
-    await focus(person, slot);
+    await person.focus(slot);
     await person.page.evaluate(`document.execCommand(${words.map((it) => quoted(it)).join(", ")})`);
 };
-const type = (text) => async (person, slot) => (await focus(person, slot), person.page.type(text ?? any(TEXTS)));
+const type = (text) => async (person, slot) => (await person.focus(slot), person.page.type(text ?? any(TEXTS)));
 const drop = (name, isBeside) => {
     const named = (it) => [it, Buffer.isBuffer(GIVEN[it]) ? [...GIVEN[it]] : GIVEN[it]];
     return (person, slot) => {
