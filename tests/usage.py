@@ -32,7 +32,6 @@ NONE = r"Usage: dimacs COMMAND FILE\.\.\.\n\n`dimacs help` lists the commands\n"
 # Arguments that ask for nothing: what is wrong with them, and the command whose usage follows, if they name one.
 WRONG = [
     (["judgemax"], "no command judgemax: judge-max?", None),
-    (["judgemax", "a", "b", "c"], "no command judgemax: judge-max?", None),
     (["Convert", "gr", "a"], "no command Convert: convert?", None),
     (["help", "judgemax"], "no command judgemax: judge-max?", None),
     (["explain", "judgemax", "a"], "no command judgemax: judge-max?", None),

@@ -254,14 +254,11 @@ class Scales(Errors):
             ("caps[1] is 0.125, not a multiple of 1/100: the nearest is 0.12", certify, [1, 0.125], 100),
             ("caps[0] is 1/3, not a multiple of 1/100: the nearest is 0.33", certify, [Fraction(1, 3), 1], 100),
             ("caps[0] is nan, not a finite number", certify, [NAN, 1], 100),
-            ("scale is -1, and has to be above 0", certify, [1, 1], -1),
             ("caps[1] is 1e+18, which has more than 64 bits in units of 1/100", certify, [1, 1e18], 100),
             (f"caps[1] is 1e+30: {wide}", certify, [1, 1e30], "exact"),
         )
-        message = "scale is 0.1: pass an int or a Fraction, by which numbers are multiplied, or a Decimal, their unit"
         pair = "scale is (1,): a pair is one for amounts and one for costs"
-        rows = [(message, certify, [1, 1], 0.1), ("caps[0] is 'x', not a number", certify, ["x", 1], 100)]
-        self.rows(TypeError, *rows, (pair, certify, [1, 1], (1,)))
+        self.rows(TypeError, ("caps[0] is 'x', not a number", certify, ["x", 1], 100), (pair, certify, [1, 1], (1,)))
 
 
 class Texts(Errors):

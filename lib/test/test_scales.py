@@ -248,7 +248,5 @@ class FromZero(Said):
     def test_refusals(self):
         message = "arc 1 AboveCap: it carries 4, its capacity is 3"
         self.says(dimacs.Refused, message, dimacs.certify_max_arrays, 2, 0, 1, [0, 0], [1, 1], [3, 3], [3, 4], base=0)
-        message = "node 2 NodeRange: nodes are numbered from 0, and there are 2"
-        self.says(dimacs.PastLimit, message, dimacs.certify_max_arrays, 2, 0, 2, [0], [1], [3], [3], base=0)
         message = "node 1 NodeRange: its predecessor is 2, and there are 2 nodes"
         self.says(dimacs.Refused, message, dimacs.judge_paths_arrays, 2, [0], [1], [3], 0, [0, 3], [-1, 2], base=0)
