@@ -135,16 +135,18 @@ impl<'a, A: Reopen> Explanation<'a, A> {
         Ok(None)
     }
 
-    /// Writes a negative cycle that a source reaches, if one is found.
-    pub(crate) fn write_cycle(&mut self, source: u32) -> Said<'a> {
-        if !self
-            .page
-            .has(self.page.texts.instance()?, Wanted::NegativeWeight)
-        {
-            return Ok(());
+    fn negative_cycle(&self, source: u32) -> OrStop<'a, Vec<IndexedArc>> {
+        let instance = self.page.texts.instance()?;
+        if !self.page.has(instance, Wanted::NegativeWeight) {
+            return Ok(Vec::new(self.page.alloc));
         }
         let graph = self.graph()?;
-        let cycle = negative_cycle(self.page.alloc, graph.network(), source)?;
+        Ok(negative_cycle(self.page.alloc, graph.network(), source)?)
+    }
+
+    /// Writes a negative cycle that a source reaches, if one is found.
+    pub(crate) fn write_cycle(&mut self, source: u32) -> Said<'a> {
+        let cycle = self.negative_cycle(source)?;
         let mut weights = Sum::new(self.page.alloc);
         for (index, arc) in cycle {
             weights.add_arc(index, arc, "WEIGHT");

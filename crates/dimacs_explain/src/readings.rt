@@ -36,26 +36,39 @@ impl<'a, A: Reopen> Explanation<'a, A> {
     }
 
     pub(crate) fn flow<N: Network>(&self, network: &N, solution: &Solution) -> OrStop<'a, Flow> {
-        flow_of(self.page.alloc, network, solution).map_err(|_| Stop::Done)
+        let Ok(flow) = flow_of(self.page.alloc, network, solution) else {
+            return Err(Stop::Done);
+        };
+        Ok(flow)
     }
 
     pub(crate) fn set<R: Source>(&self, certificate: &mut R) -> OrStop<'a, Cut> {
-        read_cut(self.page.alloc, certificate).map_err(|_| Stop::Done)
+        let Ok(set) = read_cut(self.page.alloc, certificate) else {
+            return Err(Stop::Done);
+        };
+        Ok(set)
     }
 
     pub(crate) fn potentials<R: Source>(&self, certificate: &mut R) -> OrStop<'a, Potentials> {
-        read_potentials(self.page.alloc, certificate).map_err(|_| Stop::Done)
+        let Ok(potentials) = read_potentials(self.page.alloc, certificate) else {
+            return Err(Stop::Done);
+        };
+        Ok(potentials)
     }
 
     /// Labels, or distances as labels.
     pub(crate) fn labels(&self, text: TextFile<'a>) -> OrStop<'a, Labels> {
         let mut source = self.page.source(text)?;
         let labels = match text.kind {
-            TextKind::Distances => read_distances(self.page.alloc, &mut source).map(
-                |it| it.into_labels(),
-            ),
+            TextKind::Distances => match read_distances(self.page.alloc, &mut source) {
+                Ok(distances) => Ok(distances.into_labels()),
+                Err(error) => Err(error),
+            },
             _ => read_labels(self.page.alloc, &mut source),
         };
-        labels.map_err(|_| Stop::Memory)
+        match labels {
+            Ok(labels) => Ok(labels),
+            Err(_) => Err(Stop::Memory),
+        }
     }
 }
