@@ -192,6 +192,7 @@ def label_cases(n):
     asked = text("p aux sp ss 1", "s 1")
     solved, wide_solved = [apart[0], asked], [wide[0], asked]
     yield "solve-paths: IDs far apart", "solve-paths I S shown", solved, wide_solved, PAGES_LIMIT
+    yield from queue_cases(n, asked)
     count = n // 3
     kind = distances([[2 * i + 1, 2 * i + 2] for i in range(count)], MOST)
     ends = distances([[i + 1, MOST - i] for i in range(count)], MOST)
@@ -209,6 +210,29 @@ def label_cases(n):
     paths = [[i, *chain] for i in range(1, count)]
     many, few = (claimed(label_texts(nodes, arcs, paths)) for nodes in (chain[-1], 64 * chain[-1]))
     yield "certify-paths: few arcs for each of many blocks", "certify-paths I S shown", many, few, LIMIT
+
+
+def queue_cases(n, asked):
+    """Cases in which many walks of a search wait together: arcs from the source, or from a node beside a far one."""
+    words = "solve-paths I S shown"
+
+    def star(weight):
+        return [text(f"p sp {n + 3} {n}", *(f"a 1 {i + 4} {weight(i)}" for i in range(n))), asked]
+
+    def beside(weight):
+        arcs = (f"a 2 {i + 4} {weight(i)}" for i in range(n))
+        return [text(f"p sp {n + 3} {n + 2}", "a 1 2 0", f"a 1 3 {2**62}", *arcs), asked]
+
+    weights = [random.Random(1).randrange(1, 10000) for _ in range(n)]
+    kind = star(lambda i: weights[i])
+    for name, weight in (
+        ("of one weight", lambda i: 999),
+        ("of no weight", lambda i: 0),
+        ("whose weights fall", lambda i: n - i),
+        ("whose weights double", lambda i: 2 ** (i % 62)),
+    ):
+        yield f"solve-paths: arcs {name}", words, star(weight), kind, LIMIT
+        yield f"solve-paths: arcs {name}, beside a far node", words, beside(weight), kind, LIMIT
 
 
 def hub_cases(n):

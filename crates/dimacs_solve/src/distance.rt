@@ -16,6 +16,9 @@ pub(crate) trait SearchDistance: Copy + Ord {
         requires { value self + weight < limit }
         ensures { value result ≡ value self + weight };
 
+    /// Half of the sum, rounded down.
+    fn middle(self, other: Self) -> Self;
+
     fn to_i128(self) -> i128
         requires { value self < 2 ^ 127 }
         ensures { result ≡ pos (value self) };
@@ -43,6 +46,11 @@ impl SearchDistance for u64 {
     }
 
     #[inline(always)]
+    fn middle(self, other: u64) -> u64 {
+        self.midpoint(other)
+    }
+
+    #[inline(always)]
     fn to_i128(self) -> i128 {
         i128::from(self)
     }
@@ -65,6 +73,11 @@ impl SearchDistance for u128 {
     #[inline(always)]
     fn plus(self, weight: u64) -> u128 {
         self + u128::from(weight)
+    }
+
+    #[inline(always)]
+    fn middle(self, other: u128) -> u128 {
+        self.midpoint(other)
     }
 
     #[inline(always)]

@@ -4,6 +4,7 @@ ghost use Rattle.std.specs.Prelude.{◌≡◌, ◌∷◌, [], OnOk, MatchOption,
 ghost use Rattle.dimacs_solve.specs.inside.Frontiers.{walk_of, IsNearest};
 
 use crate::distance::SearchDistance;
+use crate::piles::{Pile, middle_of, put_aside, split};
 use dimacs_lines::Memory;
 use std::alloc::Global;
 use std::cmp::Reverse;
@@ -18,23 +19,33 @@ pub(crate) struct Walk<D> {
     pub pred: u32,
 }
 
+/// How many walks the heap may have before the farther ones leave it.
+const MOST_NEAR: usize = 1024;
+
 /// A node may be in it more than once.
+///
+/// The heap has the walks up to `bound`, so that it stays small. Piles have the longer ones, each pile those that are
+/// longer than all before it: they become the heap in turn.
 #[derive(Drop)]
 pub(crate) struct Frontier<D: SearchDistance> {
-    heap: BinaryHeap<Reverse<Walk<D>>>,
+    alloc: Global,
+    near: BinaryHeap<Reverse<Walk<D>>>,
+    most_near: usize,
+    bound: D,
+    piles: Vec<Pile<D>>,
 }
 
 impl<D: SearchDistance> Model for Frontier<D> {
-    ghost use Rattle.std.specs.Prelude.{List, map, ℕ};
-    ghost use Rattle.std.specs.BinaryHeap.{heap_items, IsHeap};
+    ghost use Rattle.std.specs.Prelude.{List, ℕ, ◌++◌};
+    ghost use Rattle.std.specs.BinaryHeap.{heap_items};
     ghost use Rattle.dimacs_solve.specs.declared.frontier.Walk.{Walk};
-    ghost use Rattle.dimacs_solve.specs.inside.Frontiers.{walk_cmp, walk_in};
+    ghost use Rattle.dimacs_solve.specs.inside.Frontiers.{IsFrontier, in_piles, walks_in};
 
     ghost Value = { List (Walk ℕ) };
 
-    ghost view = { λ f. map (walk_in D.value) (heap_items f.heap) };
+    ghost view = { λ f. walks_in D.value (heap_items f.near) ++ in_piles D.value f.piles.items };
 
-    ghost invariant = { λ f. IsHeap (λ x y. walk_cmp D.Ord.cmp y.0 x.0) (heap_items f.heap) };
+    ghost invariant = { λ f. IsFrontier D.value D.Ord.cmp (heap_items f.near) (D.value f.bound) f.piles.items };
 }
 
 impl<D: SearchDistance> Frontier<D> {
@@ -42,15 +53,25 @@ impl<D: SearchDistance> Frontier<D> {
         ensures { result ≡ [] }
     {
         Frontier {
-            heap: BinaryHeap::new(alloc),
+            alloc,
+            near: BinaryHeap::new(alloc),
+            most_near: MOST_NEAR,
+            bound: D::zero(),
+            piles: Vec::new(alloc),
         }
     }
 
-    #[inline]
+    #[inline(always)]
     pub(crate) fn push(&mut self, walk: Walk<D>) -> Result<(), Memory>
         ensures { OnOk result (IsPermutation (walk_of D.value walk ∷ self.old) self.new) }
     {
-        self.heap.push(Reverse(walk))?;
+        if self.bound < walk.dist {
+            return put_aside(self.alloc, &mut self.piles, walk);
+        }
+        self.near.push(Reverse(walk))?;
+        if self.near.len() > self.most_near {
+            self.spill()?;
+        }
         Ok(())
     }
 
@@ -60,7 +81,39 @@ impl<D: SearchDistance> Frontier<D> {
             (walk_of D.value walk ∷ self.new)
             × IsNearest (walk_of D.value walk) self.new) }
     {
-        let Reverse(walk) = self.heap.pop()?;
+        if let Some(Reverse(walk)) = self.near.pop() {
+            return Some(walk);
+        }
+        if self.piles.is_empty() {
+            return None;
+        }
+        let pile = self.piles.remove(0);
+        self.near = BinaryHeap::from(pile.walks);
+        self.most_near = MOST_NEAR;
+        self.bound = pile.ceiling;
+        let Reverse(walk) = self.near.pop()?;
         Some(walk)
+    }
+
+    /// Moves the walks in the farther half of the heap's range to a pile. If they are few, the heap may grow before the
+    /// next try. So all tries together take linear time.
+    #[inline(never)]
+    fn spill(&mut self) -> Result<(), Memory>
+        ensures { OnOk result (IsPermutation self.old self.new) }
+    {
+        let middle = middle_of(self.near.as_slice());
+        let (closer, farther) = split(self.alloc, self.near.as_slice(), middle)?;
+        let more = closer.len().saturating_sub(farther.len());
+        self.most_near = more.saturating_mul(2).max(MOST_NEAR);
+        if !farther.is_empty() {
+            let pile = Pile {
+                ceiling: self.bound,
+                walks: farther,
+            };
+            self.piles.insert(0, pile)?;
+            self.near = BinaryHeap::from(closer);
+            self.bound = middle;
+        }
+        Ok(())
     }
 }

@@ -87,8 +87,8 @@ fn relax<D: SearchDistance>(
     let out_arcs = adjacency.leaving(node);
     for out_arc in out_arcs {
         let walk = Walk {
-            dist: dist.plus(out_arc.weight),
-            node: out_arc.head,
+            dist: dist.plus(out_arc.weight()),
+            node: out_arc.head(),
             pred: node,
         };
         offer(walk, node_states, frontier)?;

@@ -1,0 +1,50 @@
+//! An arc in 12 bytes.
+
+ghost use Rattle.std.specs.Prelude.{◌≡◌};
+
+use crate::adjacency::WeightedArc;
+use std::marker::Model;
+
+/// An arc in the list of its tail. Its weight lies in two halves, so that it takes 12 bytes and not 16.
+#[derive(Drop)]
+pub(crate) struct PackedArc {
+    low: u32,
+    high: u32,
+    head: u32,
+}
+
+impl Model for PackedArc {
+    ghost use Rattle.std.specs.Prelude.{◌+◌, ◌*◌};
+    ghost use Rattle.dimacs_solve.specs.declared.adjacency.WeightedArc.{WeightedArc};
+
+    ghost Value = { WeightedArc };
+
+    ghost view = { λ a. record { weight = a.high * 4294967296 + a.low; head = a.head } };
+}
+
+impl PackedArc {
+    #[inline(always)]
+    pub(crate) fn of(arc: WeightedArc) -> PackedArc
+        ensures { result ≡ arc }
+    {
+        PackedArc {
+            low: (arc.weight % 4294967296) as u32,
+            high: (arc.weight / 4294967296) as u32,
+            head: arc.head,
+        }
+    }
+
+    #[inline(always)]
+    pub(crate) fn weight(&self) -> u64
+        ensures { result ≡ self.now.weight }
+    {
+        u64::from(self.high) * 4294967296 + u64::from(self.low)
+    }
+
+    #[inline(always)]
+    pub(crate) fn head(&self) -> u32
+        ensures { result ≡ self.now.head }
+    {
+        self.head
+    }
+}
