@@ -1,6 +1,6 @@
 //! The numbers that a method computes with.
 
-/// A signed whole number: of 32 or 64 bits if all values fit, otherwise of 128. Sums and products wrap.
+/// A signed whole number of 32, 64 or 128 bits. Sums and products wrap.
 pub(crate) trait Number: Copy + Default {
     fn of(value: i64) -> Self;
 
@@ -40,6 +40,18 @@ pub(crate) trait Number: Copy + Default {
     #[inline(always)]
     final fn is_zero(self) -> bool {
         self.wide() == 0
+    }
+
+    /// Sums and differences of seven smaller numbers don't wrap.
+    #[inline(always)]
+    final fn small_end() -> Self {
+        Self::greatest().halved(3)
+    }
+
+    #[inline(always)]
+    final fn is_small(self) -> bool {
+        let end = Self::small_end();
+        self.is_below(end) && end.negated().is_below(self)
     }
 
     #[inline(always)]

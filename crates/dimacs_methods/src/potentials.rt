@@ -58,9 +58,6 @@ pub enum Guess {
 /// How many links and groups the search may visit, for each arc and each node.
 const BUDGET: u64 = 256;
 
-/// If the sum of all absolute costs is less than this, 2^57, then sums over a few walks fit into 64 bits.
-const NARROW: u128 = 144115188075855872;
-
 /// Looks for potentials that are slack for a flow, or for a cycle that makes it cheaper. `amounts` are in the order of
 /// the arcs, within their bounds. Takes memory for the arcs and for the nodes that have one.
 pub fn guess_potentials<N: Network>(
@@ -69,31 +66,45 @@ pub fn guess_potentials<N: Network>(
     amounts: &[i64],
 ) -> Result<Guess, Memory> {
     let claim = Claim::new(alloc, instance, amounts)?;
-    if claim.cost_sum() < NARROW {
-        tie_and_link::<N, i64>(alloc, &claim)
-    } else {
-        tie_and_link::<N, i128>(alloc, &claim)
+    let cost_bits = claim.cost_bits();
+    if let Some(guess) = tie_and_link::<N, i32>(alloc, &claim, cost_bits)? {
+        return Ok(guess);
+    }
+    if let Some(guess) = tie_and_link::<N, i64>(alloc, &claim, cost_bits)? {
+        return Ok(guess);
+    }
+    match tie_and_link::<N, i128>(alloc, &claim, cost_bits)? {
+        Some(guess) => Ok(guess),
+        None => Ok(Guess::GaveUp(Potentials::new(alloc, instance.network().nodes()))),
     }
 }
 
-/// Stages 1 and 2.
+/// Stages 1 and 2, then the others. None if a number isn't small.
 fn tie_and_link<N: Network, V: Number>(
     alloc: Global,
     claim: &Claim<'_, N>,
-) -> Result<Guess, Memory> {
+    cost_bits: u64,
+) -> Result<Option<Guess>, Memory> {
+    if V::small_end().wide() <= i128::from(cost_bits) {
+        return Ok(None);
+    }
     let mut groups: Groups<V> = Groups::apart(alloc, claim.numbers.count())?;
     let tied = groups.tie_all(claim);
-    let places = groups.into_places(alloc)?;
+    let Some(places) = groups.into_places(alloc)? else {
+        return Ok(None);
+    };
     if !tied {
-        return cycle_within(alloc, claim, &places);
+        return Ok(Some(cycle_within(alloc, claim, &places)?));
     }
     let Some(links) = all_links(alloc, claim, &places)? else {
-        return cycle_within(alloc, claim, &places);
+        return Ok(Some(cycle_within(alloc, claim, &places)?));
     };
     let mut distances = vec![in alloc; V::of(0); places.groups as usize]?;
     if rounds_suffice(&links, &mut distances) {
-        let potentials = potentials(alloc, claim, &places, &distances)?;
-        return Ok(Guess::Optimal(potentials));
+        let Some(potentials) = potentials(alloc, claim, &places, &distances)? else {
+            return Ok(None);
+        };
+        return Ok(Some(Guess::Optimal(potentials)));
     }
     drop(distances);
     join_and_correct(alloc, claim, places, links)
@@ -105,7 +116,7 @@ fn join_and_correct<N: Network, V: Number>(
     claim: &Claim<'_, N>,
     places: GroupPlaces<V>,
     links: Vec<Link<V>>,
-) -> Result<Guess, Memory> {
+) -> Result<Option<Guess>, Memory> {
     let Some(joints) = joints(alloc, &links, places.groups)? else {
         return correct_labels(alloc, claim, &places, links);
     };
@@ -113,7 +124,7 @@ fn join_and_correct<N: Network, V: Number>(
     places.join(&joints);
     match joined_links(links, &joints) {
         Some(links) => correct_labels(alloc, claim, &places, links),
-        None => cycle_within(alloc, claim, &places),
+        None => Ok(Some(cycle_within(alloc, claim, &places)?)),
     }
 }
 
@@ -123,41 +134,43 @@ fn correct_labels<N: Network, V: Number>(
     claim: &Claim<'_, N>,
     places: &GroupPlaces<V>,
     links: Vec<Link<V>>,
-) -> Result<Guess, Memory> {
+) -> Result<Option<Guess>, Memory> {
     let listing = Listing::new(alloc, &links, places.groups)?;
     drop(links);
     let mut tree = Tree::new(alloc, places.groups)?;
     let size = u64::from(claim.network().arcs()) + u64::from(claim.numbers.count());
     let end = lower_all(alloc, &listing, &mut tree, size * BUDGET)?;
     drop(listing);
-    match end {
-        SearchEnd::Optimal => {
-            let potentials = potentials(alloc, claim, places, &tree.distances)?;
-            Ok(Guess::Optimal(potentials))
-        }
-        SearchEnd::Cycle(groups) => cycle_over(alloc, claim, places, &groups),
-        SearchEnd::TooLong => {
-            let potentials = potentials(alloc, claim, places, &tree.distances)?;
-            Ok(Guess::GaveUp(potentials))
-        }
+    if let SearchEnd::Cycle(groups) = &end {
+        return Ok(Some(cycle_over(alloc, claim, places, groups)?));
     }
+    let Some(potentials) = potentials(alloc, claim, places, &tree.distances)? else {
+        return Ok(None);
+    };
+    Ok(Some(match end {
+        SearchEnd::Optimal => Guess::Optimal(potentials),
+        _ => Guess::GaveUp(potentials),
+    }))
 }
 
-/// The distances, negated.
+/// The distances, negated. None if one isn't small.
 fn potentials<N: Network, V: Number>(
     alloc: Global,
     claim: &Claim<'_, N>,
     places: &GroupPlaces<V>,
     distances: &[V],
-) -> Result<Potentials, Memory> {
+) -> Result<Option<Potentials>, Memory> {
     let mut potentials = Potentials::new(alloc, claim.instance.network().nodes());
     for number in 0..claim.numbers.count() {
         let place = places.of(number);
-        let distance = member(distances, place.group, V::of(0)).plus(place.shift);
-        let value = distance.negated().wide();
+        let distance = member(distances, place.group, V::of(0));
+        if !distance.is_small() {
+            return Ok(None);
+        }
+        let value = distance.plus(place.shift).negated().wide();
         set_potential(&mut potentials, claim.numbers.id(number), value)?;
     }
-    Ok(potentials)
+    Ok(Some(potentials))
 }
 
 /// Sets a potential that is 0 until now. Ignores an ID that is no node, and a value out of range.

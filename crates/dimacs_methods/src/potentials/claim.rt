@@ -64,14 +64,13 @@ impl<'a, N: Network> Claim<'a, N> {
         }
     }
 
-    /// The sum of all absolute costs.
-    pub(crate) fn cost_sum(&self) -> u128 {
+    /// All bits that the absolute costs have.
+    pub(crate) fn cost_bits(&self) -> u64 {
         let network = self.network();
-        let mut sum: u128 = 0;
+        let mut bits: u64 = 0;
         for i in 0..network.arcs() {
-            let cost = network.arc(i).cost;
-            sum = sum.wrapping_add(u128::from(cost.unsigned_abs()));
+            bits |= network.arc(i).cost.unsigned_abs();
         }
-        sum
+        bits
     }
 }

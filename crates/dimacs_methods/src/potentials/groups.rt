@@ -128,19 +128,23 @@ impl<V: Number> Groups<V> {
         true
     }
 
-    pub(crate) fn into_places(mut self, alloc: Global) -> Result<GroupPlaces<V>, Memory> {
+    /// None if a shift isn't small.
+    pub(crate) fn into_places(mut self, alloc: Global) -> Result<Option<GroupPlaces<V>>, Memory> {
         let nodes = count_of(&self.parents);
         let mut places = vec![in alloc; place_at(0); nodes as usize]?;
         let groups = self.number_roots(&mut places);
         for node in 0..nodes {
             let root = self.find(node);
+            if !root.shift.is_small() {
+                return Ok(None);
+            }
             let own = GroupPlace {
                 shift: root.shift,
                 group: place_of(&places, root.group).group,
             };
             set_member(&mut places, node, own);
         }
-        Ok(GroupPlaces { places, groups })
+        Ok(Some(GroupPlaces { places, groups }))
     }
 
     /// Numbers the groups at their roots. Returns how many there are.

@@ -26,7 +26,7 @@ struct Joining<'a, V> {
 }
 
 /// Joins each group with only one link in, or out, to the link's other end. If slack potentials exist, then some of
-/// them make the link tight. None if less than an eighth of the groups can be joined.
+/// them make the link tight. None if less than an eighth of the groups can be joined, or a shift isn't small.
 pub(crate) fn joints<V: Number>(
     alloc: Global,
     links: &[Link<V>],
@@ -43,8 +43,7 @@ pub(crate) fn joints<V: Number>(
     if joining.joined < groups / 8 {
         return Ok(None);
     }
-    let places = joining.groups.into_places(alloc)?;
-    Ok(Some(places))
+    joining.groups.into_places(alloc)
 }
 
 impl<'a, V: Number> Joining<'a, V> {

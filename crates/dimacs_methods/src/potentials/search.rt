@@ -13,7 +13,7 @@ pub(crate) enum SearchEnd {
     Optimal,
     /// The groups of a cycle of negative cost, in the order of its links.
     Cycle(Vec<u32>),
-    /// The budget is used up.
+    /// The budget is used up, or a distance isn't small.
     TooLong,
 }
 
@@ -28,7 +28,7 @@ pub(crate) fn lower_all<V: Number>(
         let Some(group) = tree.queue.pop() else {
             return Ok(SearchEnd::Optimal);
         };
-        if tree.work() > budget {
+        if tree.work() > budget || !tree.are_small {
             break;
         }
         if let Some(first) = tree.relax_links(links, group) {

@@ -45,6 +45,8 @@ const WALKS: u64 = 2;
 #[derive(Drop)]
 pub(crate) struct Tree<V> {
     pub distances: Vec<V>,
+    /// Whether all distances are small. Once one isn't, sums may wrap.
+    pub are_small: bool,
     nodes: Vec<GroupNode>,
     pub queue: GroupQueue,
     scanned_links: u64,
@@ -84,6 +86,7 @@ impl<V: Number> Tree<V> {
         }
         Ok(Tree {
             distances,
+            are_small: true,
             nodes,
             queue,
             scanned_links: 0,
@@ -110,7 +113,7 @@ impl<V: Number> Tree<V> {
         self.node(group).parent
     }
 
-    /// Relaxes the links out of a group. Returns the head of a link that closes a cycle.
+    /// Relaxes the links out of a group while distances are small. Returns the head of a link that closes a cycle.
     #[inline(always)]
     pub(crate) fn relax_links(&mut self, links: &Listing<Link<V>>, from: u32) -> Option<u32> {
         if self.node(from).children == OUT {
@@ -126,6 +129,9 @@ impl<V: Number> Tree<V> {
             let change = start.plus(link.cost).minus(self.distance(link.to));
             if !self.lower(link.to, from, change) {
                 return Some(link.to);
+            }
+            if !self.are_small {
+                return None;
             }
             at = at.wrapping_add(1);
         }
@@ -188,6 +194,9 @@ impl<V: Number> Tree<V> {
     #[inline(always)]
     fn change(&mut self, group: u32, change: V) {
         let distance = self.distance(group).plus(change);
+        if !distance.is_small() {
+            self.are_small = false;
+        }
         set_member(&mut self.distances, group, distance);
         self.queue.push(group);
     }
