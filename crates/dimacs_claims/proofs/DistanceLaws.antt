@@ -1,9 +1,8 @@
 -- The records of distances have no fault, give only one value, and can be spelled: all as those of labels.
 use Rattle.std.proofs.Common.{◌≡◌, ℕ, ◌==◌, suc, ◌∷◌, ◌++◌, [], List, Bool, true, false, Option, Some, None, length, map, refl, ap, ap₂, sym, ◌∙◌, subst, arith}
-use Rattle.std.proofs.lemmas.List.{length-map, map-append}
+use Rattle.std.proofs.{lemmas.Bool.{cond_both}, lemmas.List.{length-map, map-append}}
 use Rattle.std.proofs.lemmas.List.Elements.{All-head, All-map, All-tail, All-weaker}
-use Rattle.std.specs.Prelude.{IsTrue, ◌||◌, codes, if◌then◌else◌, is_none}
-use Rattle.std.specs.List.{All, flat_map, fold, filter, list_any}
+use Rattle.std.specs.{Prelude.{IsTrue, ◌||◌, codes, if◌then◌else◌, is_none}, List.{All, flat_map, fold, list_any}}
 use Rattle.dimacs_records.specs.{declared.kinds.TextKind.TheVariants.{Labels, Distances}, Canonical.{CanBeSpelled}}
 use Rattle.dimacs_records.specs.{declared.order.Declared.{Declared}, declared.reasons.Reason.{Reason}}
 use Rattle.dimacs_records.specs.declared.reasons.Reason.TheVariants.{NodeRange, NodeTwice, ProblemMissing, ProblemTwice, RecordOrder, TooFew, TooMany}
@@ -38,11 +37,9 @@ bare_counted r = refl
 
 pub bare_counted_in : (rs : List Record) → counted_in (map bare rs) ≡ counted_in rs
 bare_counted_in [] = refl
-bare_counted_in (r ∷ rs) = rw (bare_counted r) (by_test (is_counted r) (bare_counted_in rs))
-  where
-    by_test : (b : Bool) → length (filter is_counted (map bare rs)) ≡ length (filter is_counted rs) → length (if b then bare r ∷ filter is_counted (map bare rs) else filter is_counted (map bare rs)) ≡ length (if b then r ∷ filter is_counted rs else filter is_counted rs)
-    by_test true same = ap suc same
-    by_test false same = same
+bare_counted_in (r ∷ rs) =
+    let same = bare_counted_in rs in
+    rw (bare_counted r) (cond_both (is_counted r) _ _ (λ records. length records ≡ counted_in (r ∷ rs)) (λ e. rw e (ap suc same)) (λ e. rw e same))
 
 bare_names : (id : ℕ) (r : Record) → names id (bare r) ≡ names id r
 bare_names id (LabelsProblem nodes blocks) = refl

@@ -1,6 +1,6 @@
 -- Lists of IDs, and the IDs from 1 on that pass a test.
 use Rattle.std.proofs.Common.{◌≡◌, inl, inr, ℕ, zero, suc, ◌<◌, ◌≤◌, ◌+◌, ◌-◌, ◌==◌, ◌||◌, ◌&&◌, List, [], ◌∷◌, ◌++◌, length, map, Option, Some, None, Bool, true, false, cond, refl, sym, ◌∙◌, ap, arith, rules}
-use Rattle.std.proofs.{lemmas.Bool.{eqb-true, cases_lt, cond_both}, lemmas.Bool.Decides.{nat_tests}}
+use Rattle.std.proofs.{lemmas.Bool.{and_right, eqb-true, cases_lt, cond_both}, lemmas.Bool.Decides.{nat_tests}}
 use Rattle.std.proofs.{lemmas.List.{append-nil, map-append}, lemmas.List.Elements.{filter-append, All-nil, All-cons}}
 use Rattle.std.specs.{Prelude.{count_by}, List.{All, filter, list_any, range_with_len}}
 use Rattle.dimacs_records.specs.{declared.records.Record.{Record}, Canonical.{AreLines, records_of_line}}
@@ -88,12 +88,9 @@ lines_of_passing p line spells n each = record {
   none = refl;
   more = λ i rec within e.
       let next : passing p (i + 1) ≡ passing p i ++ filter p ((i + 1) ∷ []) = search (rules, passing_below p (i + 1) (omega arith)) in
-      ap (map line) next ∙ map-append line (passing p i) (filter p ((i + 1) ∷ [])) ∙ ap (λ rs. map line (passing p i) ++ rs) (by_test (i + 1) rec (p (i + 1)) (each i rec within e));
+      ap (map line) next ∙ map-append line (passing p i) (filter p ((i + 1) ∷ [])) ∙ ap (λ rs. map line (passing p i) ++ rs)
+      (cond_both (p (i + 1)) _ _ (λ ids. map line ids ≡ records_of_line rec) (λ t. rw (each i rec within e, t) refl) (λ t. rw (each i rec within e, t) refl));
 }
-  where
-    by_test : (id : ℕ) (rec : Option Record) (b : Bool) → rec ≡ cond b (Some (line id)) None → map line (cond b (id ∷ []) []) ≡ records_of_line rec
-    by_test id rec true is = rw is refl
-    by_test id rec false is = rw is refl
 
 length_filter : (p : ℕ → Bool) (a n : ℕ) → length (filter p (range_with_len a n)) ≤ n
 length_filter p a zero = omega arith
@@ -117,11 +114,7 @@ All-passing P p (x ∷ xs) h =
 
 -- an ID is in the filtered list if it passes and is in the list
 listed_passing : (p : ℕ → Bool) (id : ℕ) (xs : List ℕ) → list_any (is_id id) (filter p xs) ≡ (p id && list_any (is_id id) xs)
-listed_passing p id [] = and_false (p id)
-  where
-    and_false : (b : Bool) → false ≡ (b && false)
-    and_false true = refl
-    and_false false = refl
+listed_passing p id [] = sym (and_right (p id) false refl)
 listed_passing p id (x ∷ xs) = by_tests (x == id) (p x) refl refl (listed_passing p id xs)
   where
     by_tests : (s b : Bool) → (x == id) ≡ s → p x ≡ b → list_any (is_id id) (filter p xs) ≡ (p id && list_any (is_id id) xs)

@@ -1,8 +1,8 @@
 -- Potentials, and one more record of potentials while their text is read.
 use Rattle.std.proofs.Common.{◌≡◌, ◌≢◌, ℕ, suc, ◌<◌, ◌≤◌, ◌∷◌, ◌++◌, [], List, Bool, true, false, Option, Some, None, length, map, cond, ◌+◌, ◌-◌, ◌==◌, ◌||◌, refl, ap, ap₂, sym, ◌∙◌, subst, arith}
 use Rattle.std.proofs.{lemmas.List.{map-append, map-id, length-append, length-map}, lemmas.Simd.{map-map}}
-use Rattle.std.proofs.{lemmas.List.Elements.{All-nil, All-cons, All-map}, lemmas.Bool.{le-ltb, eqb-true}}
-use Rattle.std.proofs.{lemmas.Bool.Decides.{nat_tests}, lemmas.Int.{ints}}
+use Rattle.std.proofs.{lemmas.List.Elements.{All-nil, All-cons, All-map}, lemmas.Bool.Decides.{nat_tests}}
+use Rattle.std.proofs.{lemmas.Bool.{cond-true, cond_both, le-ltb, eqb-true}, lemmas.Int.{ints}}
 use Rattle.std.specs.{Prelude.{ℤ, pos, codes, is_some, nat_lt, nat_le, not, count_by, unwrap_or}, Ordering.{nat_cmp}}
 use Rattle.std.specs.{List.{All, filter, list_any, range_with_len}, Cmp.{nat_cmp_total, unsigned_tied}}
 use Rattle.std.specs.FinMap.{FinMap, empty, get, insert, from_entries, same_map, get-from_entries, nat_cmp-IsAntisymmetric}
@@ -166,24 +166,17 @@ nonzero_named p law = record {
 -- none of them has potential 0
 all_have_values : (p : PotentialsValue) (ids : List ℕ) → filter has_value (with_values p (filter (nonzero_at p) ids)) ≡ with_values p (filter (nonzero_at p) ids)
 all_have_values p [] = refl
-all_have_values p (id ∷ ids) = by_test (nonzero_at p id) refl (all_have_values p ids)
-  where
-    by_test : (b : Bool) → nonzero_at p id ≡ b → filter has_value (with_values p (filter (nonzero_at p) ids)) ≡ with_values p (filter (nonzero_at p) ids)
-        → filter has_value (with_values p (cond b (id ∷ filter (nonzero_at p) ids) (filter (nonzero_at p) ids))) ≡ with_values p (cond b (id ∷ filter (nonzero_at p) ids) (filter (nonzero_at p) ids))
-    by_test true e rest =
-        ap (λ b. cond b ((id, potential_of p id) ∷ filter has_value (with_values p (filter (nonzero_at p) ids))) (filter has_value (with_values p (filter (nonzero_at p) ids)))) e
-        ∙ ap (λ xs. (id, potential_of p id) ∷ xs) rest
-    by_test false e rest = rest
+all_have_values p (id ∷ ids) =
+    let rest = all_have_values p ids in
+    cond_both (nonzero_at p id) _ _ (λ xs. filter has_value (with_values p xs) ≡ with_values p xs)
+    (λ e. cond-true (nonzero_at p id) _ _ e ∙ ap (λ xs. (id, potential_of p id) ∷ xs) rest) (λ _. rest)
 
 found_listed : (p : PotentialsValue) (id : ℕ) (ids : List ℕ) → find nat_cmp id (with_values p ids) ≡ cond (list_any (is_id id) ids) (Some (potential_of p id)) None
 found_listed p id [] = refl
 found_listed p id (x ∷ ids) =
-    ap (λ b. cond b (Some (potential_of p x)) (find nat_cmp id (with_values p ids))) (unsigned_tied id x ∙ same_test id x) ∙ by_test (x == id) refl (found_listed p id ids)
-  where
-    by_test : (b : Bool) → (x == id) ≡ b → find nat_cmp id (with_values p ids) ≡ cond (list_any (is_id id) ids) (Some (potential_of p id)) None
-        → cond b (Some (potential_of p x)) (find nat_cmp id (with_values p ids)) ≡ cond (b || list_any (is_id id) ids) (Some (potential_of p id)) None
-    by_test true same rest = ap (λ n. Some (potential_of p n)) (eqb-true x id same)
-    by_test false apart rest = rest
+    ap (λ b. cond b (Some (potential_of p x)) (find nat_cmp id (with_values p ids))) (unsigned_tied id x ∙ same_test id x)
+    ∙ cond_both (x == id) _ _ (λ found. found ≡ cond (list_any (is_id id) (x ∷ ids)) (Some (potential_of p id)) None)
+    (λ same. rw same (ap (λ n. Some (potential_of p n)) (eqb-true x id same))) (λ apart. rw apart (found_listed p id ids))
 
 kept_value : (p : PotentialsValue) → ArePotentials p → (id : ℕ) → get p.values id ≡ cond (nonzero_at p id) (Some (potential_of p id)) None
 kept_value p law id = by_case (get p.values id) refl

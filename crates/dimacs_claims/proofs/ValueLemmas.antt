@@ -1,8 +1,8 @@
 -- Lemmas about potentials.
-use Rattle.std.proofs.Common.{◌≡◌, ◌≤◌, ℕ, ◌==◌, Bool, true, false, Option, Some, None, cond, refl, sym, ◌∙◌, ap, arith}
-use Rattle.std.proofs.{lemmas.Bool.{eqb-true}, lemmas.Int.{ints}}
-use Rattle.std.specs.Prelude.{ℤ, pos, unwrap_or, if◌then◌else◌, Result, Ok, Err, OnOk, OnErr}
-use Rattle.std.specs.{Ordering.{nat_cmp, int_eq}, FinMap.{FinMap, get, insert, remove, get-empty}}
+use Rattle.std.proofs.{Common.{◌≡◌, ◌≤◌, ℕ, ◌==◌, Option, Some, None, refl, sym, ◌∙◌, ap, arith}, lemmas.Int.{ints}}
+use Rattle.std.proofs.lemmas.Bool.{cond_both, eqb-true}
+use Rattle.std.specs.{Prelude.{ℤ, pos, unwrap_or, Result, Ok, Err, OnOk, OnErr}, Ordering.{nat_cmp, int_eq}}
+use Rattle.std.specs.FinMap.{FinMap, get, insert, remove, get-empty}
 use Rattle.dimacs_lines.specs.Limits.{most_nodes, IsNode}
 use Rattle.dimacs_network.proofs.Nodes.{get-insert}
 use Rattle.dimacs_records.specs.{Ranges.{IsWide}, NodeValues.{without_zeros}}
@@ -13,22 +13,14 @@ pub zero_law : (nodes : ℕ) → nodes ≤ most_nodes → ArePotentials (zero_po
 zero_law nodes few = record { nodes_few = few; within = λ id n e. absurd (cc (get-empty nat_cmp id, e)) }
 
 pub law_with_potential : (p : PotentialsValue) (id : ℕ) (n : ℤ) → ArePotentials p → IsNode p.nodes id → IsWide n → ArePotentials (with_potential p id n)
-law_with_potential p id n law node wide = record { nodes_few = law.nodes_few; within = λ other w e. by_value (int_eq n (pos 0)) refl other w e }
-  where
-    removed : (other : ℕ) (w : ℤ) (b : Bool) → cond b None (get p.values other) ≡ Some w → IsPotential p.nodes other w
-    removed other w true e = absurd (cc)
-    removed other w false e = law.within other w e
-
-    inserted : (other : ℕ) (w : ℤ) (b : Bool) → int_eq n (pos 0) ≡ false → (other == id) ≡ b → cond b (Some n) (get p.values other) ≡ Some w → IsPotential p.nodes other w
-    inserted other w true some same e =
-        let is : other ≡ id = eqb-true other id same in
-        let value : w ≡ n = cc in
-        rw (is, value) (node, isnt_zero n some, wide)
-    inserted other w false some apart e = law.within other w e
-
-    by_value : (b : Bool) → int_eq n (pos 0) ≡ b → (other : ℕ) (w : ℤ) → get (if b then remove p.values id else insert p.values id n) other ≡ Some w → IsPotential p.nodes other w
-    by_value true e other w is = removed other w (other == id) (sym (get-removed p.values id other) ∙ is)
-    by_value false e other w is = inserted other w (other == id) e refl (sym (get-insert p.values id other n) ∙ is)
+law_with_potential p id n law node wide = record {
+  nodes_few = law.nodes_few;
+  within = λ other w e. let within : get p.values other ≡ Some w → IsPotential p.nodes other w = law.within other w in
+      cond_both (int_eq n (pos 0)) (remove p.values id) (insert p.values id n) (λ values. get values other ≡ Some w → IsPotential p.nodes other w)
+      (λ _ is. cond_both (other == id) None (get p.values other) (λ v. v ≡ Some w → IsPotential p.nodes other w) (λ _ none. absurd (cc)) (λ _. within) (sym (get-removed p.values id other) ∙ is))
+      (λ some is. cond_both (other == id) (Some n) (get p.values other) (λ v. v ≡ Some w → IsPotential p.nodes other w)
+      (λ same set. let value : w ≡ n = cc in rw (eqb-true other id same, value) (node, isnt_zero n some, wide)) (λ _. within) (sym (get-insert p.values id other n) ∙ is)) e;
+}
 
 -- after a value was set, or not
 pub law_after_set : {E : Type 0} (nodes : ℕ) (old new : FinMap nat_cmp ℤ) (id : ℕ) (n : ℤ) (r : Result Unit E) → OnOk r (new ≡ insert old id n) → OnErr r (new ≡ old)

@@ -1,8 +1,8 @@
 -- The records of maximum flow instances, and their texts.
-use Rattle.std.proofs.Common.{◌≡◌, ◌≢◌, ℕ, ◌<◌, ◌∷◌, ◌++◌, [], List, Bool, true, false, Some, length, map, refl, ap, ap₂, sym, ◌∙◌, arith, inl, inr, length-append}
-use Rattle.std.proofs.{lemmas.Bool.{ne_eqb}, lemmas.Int.{ints}, lemmas.List.{length-map}}
+use Rattle.std.proofs.Common.{◌≡◌, ◌≢◌, ℕ, ◌<◌, ◌∷◌, ◌++◌, [], List, false, Some, length, map, refl, ap, ap₂, sym, ◌∙◌, arith, inl, inr, length-append}
+use Rattle.std.proofs.{lemmas.Bool.{cond_both, ne_eqb}, lemmas.Int.{ints}, lemmas.List.{length-map}}
 use Rattle.std.proofs.lemmas.List.Elements.{All-cons, All-head, All-map, All-tail}
-use Rattle.std.specs.{Prelude.{ℤ, pos, ◌≤ℤ◌, codes, int_lt, nat_lt, if◌then◌else◌}, List.{All, list_any}}
+use Rattle.std.specs.{Prelude.{ℤ, pos, ◌≤ℤ◌, codes, int_lt, nat_lt}, List.{All, list_any}}
 use Rattle.dimacs_lines.specs.{Lines.{lines}, Limits.{IsNode}}
 use Rattle.dimacs_records.specs.{declared.kinds.TextKind.TheVariants.{Max}, declared.records.End.{End}}
 use Rattle.dimacs_records.specs.{declared.records.End.TheVariants.{Source, Sink}, declared.records.Record.{Record}}
@@ -148,19 +148,17 @@ max_faultless rs m h = elim h.0 [
 
 -- the canonical text of an instance spells it
 pub max_round_trip : (m : MaxValue) → IsMax m → SpellsMax (canonical_max m) m
-max_round_trip m is = by_order (nat_lt m.source m.sink)
-  where
-    by_order : (below : Bool) → SpellsMax (canonical_text (max_records m (if below then (MaxNode m.source Source, MaxNode m.sink Sink) else (MaxNode m.sink Sink, MaxNode m.source Source)))) m
-    by_order true = record {
+max_round_trip m is =
+    cond_both (nat_lt m.source m.sink) (MaxNode m.source Source, MaxNode m.sink Sink) (MaxNode m.sink Sink, MaxNode m.source Source) (λ ends. SpellsMax (canonical_text (max_records m ends)) m)
+    (λ _. record {
       by_line = map (λ (r : Record). Some r) (max_records m (MaxNode m.source Source, MaxNode m.sink Sink));
       spelled = all_spelled m.nodes (source_line m) (sink_line m) m.arcs (source_first m is);
       given = (inl (numbered_all (max_records m (MaxNode m.source Source, MaxNode m.sink Sink))), is);
-    }
-    by_order false = record {
+    }) (λ _. record {
       by_line = map (λ (r : Record). Some r) (max_records m (MaxNode m.sink Sink, MaxNode m.source Source));
       spelled = all_spelled m.nodes (sink_line m) (source_line m) m.arcs (sink_first m is);
       given = (inr (numbered_all (max_records m (MaxNode m.sink Sink, MaxNode m.source Source))), is);
-    }
+    })
 
 -- the arc of a record, and the instance of a problem line, node lines and arcs
 arc_of : Record → ArcView

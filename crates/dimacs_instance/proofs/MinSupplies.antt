@@ -1,6 +1,6 @@
 -- Supplies by node: lines and sums.
-use Rattle.std.proofs.Common.{◌≡◌, ℕ, zero, suc, ◌≤◌, ◌∷◌, ◌++◌, [], List, Option, Some, None, map, ◌+◌, ◌*◌, ◌^◌, cond, refl, ap, ap₂, sym, ◌∙◌, add-one, arith, ◌<◌, Bool, true, false}
-use Rattle.std.proofs.{lemmas.Int.{ints}, lemmas.List.{append-nil, map-append}}
+use Rattle.std.proofs.Common.{◌≡◌, ℕ, zero, suc, ◌≤◌, ◌∷◌, ◌++◌, [], List, Option, Some, None, map, ◌+◌, ◌*◌, ◌^◌, cond, refl, ap, ap₂, sym, ◌∙◌, add-one, arith, ◌<◌}
+use Rattle.std.proofs.{lemmas.Bool.{cond_both}, lemmas.Int.{ints}, lemmas.List.{append-nil, map-append}}
 use Rattle.std.proofs.lemmas.List.Sums.{sum_by-append, sum_by-cons}
 use Rattle.std.specs.{Prelude.{ℤ, pos, negsuc, ◌≤ℤ◌, ◌<ℤ◌, ◌+ℤ◌, sum_by, unwrap_or}, List.{filter}}
 use Rattle.std.specs.FinMap.{get, entries, values}
@@ -101,9 +101,6 @@ supply_lines m law spells n each = record {
   none = ap (map min_node) (first_supplies m law);
   more = λ i rec within e.
       ap (map min_node) (next_supplies m law (i + 1)) ∙ map-append min_node (supplies_below m (i + 1)) (filter has_value ((i + 1, supply_of m (i + 1)) ∷ []))
-      ∙ ap (λ rs. map min_node (supplies_below m (i + 1)) ++ rs) (by_test (i + 1, supply_of m (i + 1)) rec (is_nonzero (supply_of m (i + 1))) (each i rec within e));
+      ∙ ap (λ rs. map min_node (supplies_below m (i + 1)) ++ rs)
+      (cond_both (is_nonzero (supply_of m (i + 1))) _ _ (λ s. map min_node s ≡ records_of_line rec) (λ t. rw (each i rec within e, t) refl) (λ t. rw (each i rec within e, t) refl));
 }
-  where
-    by_test : (s : ℕ × ℤ) (rec : Option Record) (b : Bool) → rec ≡ cond b (Some (min_node s)) None → map min_node (cond b (s ∷ []) []) ≡ records_of_line rec
-    by_test s rec true is = rw is refl
-    by_test s rec false is = rw is refl

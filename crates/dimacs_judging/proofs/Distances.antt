@@ -1,6 +1,6 @@
 -- Labels that pass are distances over all walks.
 use Rattle.std.proofs.Common.{◌≡◌, ◌≢◌, ◌⊎◌, inl, inr, ℕ, ◌==◌, ℤ, pos, ◌+ℤ◌, ◌≤ℤ◌, ◌<ℤ◌, Bool, true, false, cond, List, [], ◌∷◌, ◌++◌, All, Contains, Option, Some, None, refl, sym, subst, eq-eqb, ◌∙◌, arith}
-use Rattle.std.proofs.{lemmas.Int.{ints, by_lt_z}, lemmas.List.{append_assoc, append-nil}}
+use Rattle.std.proofs.{lemmas.Bool.{cond_both}, lemmas.Int.{ints, by_lt_z}, lemmas.List.{append_assoc, append-nil}}
 use Rattle.std.proofs.lemmas.List.Elements.{Contains-append_right, All-contains, All-head, All-tail, All-nil, All-cons, All-weaker}
 use Rattle.std.proofs.lemmas.Bool.Decides.{eqb_tells}
 use Rattle.dimacs_network.specs.declared.network.ArcView.{ArcView}
@@ -88,11 +88,7 @@ abbrev IsListed : List Label → Label → Type 0
 IsListed labels m = (d : ℤ) × (distance_in labels m.id ≡ Some d)
 
 listed_after : (l : Label) (labels : List Label) (m : Label) → IsListed labels m → IsListed (l ∷ labels) m
-listed_after l labels m (d, e) = go (l.id == m.id)
-  where
-    go : (b : Bool) → (f : ℤ) × (cond b (Some l.dist) (distance_in labels m.id) ≡ Some f)
-    go true = (l.dist, refl)
-    go false = (d, e)
+listed_after l labels m (d, e) = cond_both (l.id == m.id) (Some l.dist) (distance_in labels m.id) (λ v. (f : ℤ) × (v ≡ Some f)) (λ _. (l.dist, refl)) (λ _. (d, e))
 
 listed_first : (l : Label) (labels : List Label) → IsListed (l ∷ labels) l
 listed_first l labels = let same : (l.id == l.id) ≡ true = eq-eqb l.id l.id refl in (l.dist, rw same refl)

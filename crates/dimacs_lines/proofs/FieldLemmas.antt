@@ -1,9 +1,9 @@
 -- The runs of a line, one after another.
 use Rattle.std.proofs.Common.{◌≡◌, ◌+◌, ◌<◌, ◌≤◌, ◌∷◌, [], ℕ, suc, List, Bool, true, false, length, take, drop, get_or, refl, ap, sym, ◌∙◌, subst, arith, drop-cons, length-drop}
-use Rattle.std.proofs.{Math.ListN.{drop_of_length-le}, lemmas.Bool.{eq-eqb}, lemmas.Bool.Decides.{nat_tests}}
+use Rattle.std.proofs.{Math.ListN.{drop_of_length-le}, lemmas.Bool.{cond_both, eq-eqb}, lemmas.Bool.Decides.{nat_tests}}
 use Rattle.std.proofs.{lemmas.List.{drop-drop}, lemmas.List.Elements.{All-nil, All-cons, All-head, All-tail}}
 use Rattle.std.proofs.lemmas.List.Sums.{passes_at_first}
-use Rattle.std.specs.{Prelude.{not, ◌==◌, if◌then◌else◌}, List.{position_or_len, All}}
+use Rattle.std.specs.{Prelude.{not, ◌==◌}, List.{position_or_len, All}}
 use Rattle.dimacs_lines.specs.Fields.{is_blank, Run, onto_runs, runs_from}
 
 -- no run of what starts at place i starts before it
@@ -16,19 +16,17 @@ starts_later i j (run ∷ runs) le all = All-cons (StartsFrom i) run runs (omega
 
 onto_starts : (b i : ℕ) (runs : List Run) → All (StartsFrom (suc i)) runs → All (StartsFrom i) (onto_runs b i runs)
 onto_starts b i [] all = All-cons (StartsFrom i) _ [] (omega arith) (All-nil (StartsFrom i))
-onto_starts b i (run ∷ runs) all = by_test (run.start == suc i)
-  where
-    by_test : (t : Bool) → All (StartsFrom i) (if t then record { text = b ∷ run.text; start = i } ∷ runs else record { text = b ∷ []; start = i } ∷ run ∷ runs)
-    by_test true = All-cons (StartsFrom i) _ runs (omega arith) (starts_later i (suc i) runs (omega arith) (All-tail (StartsFrom (suc i)) run runs all))
-    by_test false = All-cons (StartsFrom i) _ (run ∷ runs) (omega arith) (starts_later i (suc i) (run ∷ runs) (omega arith) all)
+onto_starts b i (run ∷ runs) all =
+    cond_both (run.start == suc i) _ _ (All (StartsFrom i))
+    (λ _. All-cons (StartsFrom i) _ runs (omega arith) (starts_later i (suc i) runs (omega arith) (All-tail (StartsFrom (suc i)) run runs all)))
+    (λ _. All-cons (StartsFrom i) _ (run ∷ runs) (omega arith) (starts_later i (suc i) (run ∷ runs) (omega arith) all))
 
 pub runs_start : (i : ℕ) (xs : List ℕ) → All (StartsFrom i) (runs_from i xs)
 runs_start i [] = All-nil (StartsFrom i)
-runs_start i (b ∷ bs) = by_test (is_blank b) (runs_start (suc i) bs)
-  where
-    by_test : (t : Bool) → All (StartsFrom (suc i)) (runs_from (suc i) bs) → All (StartsFrom i) (if t then runs_from (suc i) bs else onto_runs b i (runs_from (suc i) bs))
-    by_test true later = starts_later i (suc i) (runs_from (suc i) bs) (omega arith) later
-    by_test false later = onto_starts b i (runs_from (suc i) bs) later
+runs_start i (b ∷ bs) =
+    let later = runs_from (suc i) bs in
+    let start = runs_start (suc i) bs in
+    cond_both (is_blank b) _ _ (All (StartsFrom i)) (λ _. starts_later i (suc i) later (omega arith) start) (λ _. onto_starts b i later start)
 
 same_runs : (i j : ℕ) (xs ys : List ℕ) → i ≡ j → xs ≡ ys → runs_from i xs ≡ runs_from j ys
 same_runs i j xs ys p q = cc

@@ -1,8 +1,8 @@
 -- Nodes with numbers as lists, one more of them, and as maps.
 use Rattle.std.proofs.Common.{◌≡◌, ◌≢◌, ◌≤◌, ℕ, ◌∷◌, ◌++◌, ◌||◌, [], List, map, Bool, true, false, Option, Some, None, is_some, refl, ap, ap₂, sym, ◌∙◌, cond, arith}
-use Rattle.std.proofs.{lemmas.Bool.{eqb-true, false_from_ne_true}, lemmas.Option.{cond_some}}
+use Rattle.std.proofs.{lemmas.Bool.{cond_both, eqb-true, false_from_ne_true, not-false}, lemmas.Option.{cond_some}}
 use Rattle.std.proofs.lemmas.List.Elements.{All-push}
-use Rattle.std.specs.{Prelude.{ℤ, count_by, not, pos, unwrap_or}, List.{filter, list_any}}
+use Rattle.std.specs.{Prelude.{ℤ, count_by, pos, unwrap_or}, List.{filter, list_any}}
 use Rattle.std.specs.{Ordering.{eq_by_cmp, int_eq, nat_cmp}, Cmp.{nat_cmp_total, signed_Decides, unsigned_tied}}
 use Rattle.std.specs.FinMap.{FinMap, empty, from_entries, from_entries_push, get, get-empty, get-from_entries, get-retain_keys, insert, nat_cmp-IsAntisymmetric, same_map}
 use Rattle.std.specs.FinMap.Entries.{find, is_some-find}
@@ -34,11 +34,7 @@ get_nonzero m id n e = of_found (get m id) (sym (get-without_zeros m id) ∙ e)
 -- the value is the same without the zeros
 same_value : (found : Option ℤ) → unwrap_or (unless_zero found) (pos 0) ≡ unwrap_or found (pos 0)
 same_value None = refl
-same_value (Some n) = by_test (int_eq n (pos 0)) refl
-  where
-    by_test : (b : Bool) → int_eq n (pos 0) ≡ b → unwrap_or (cond (not b) (Some n) None) (pos 0) ≡ n
-    by_test true e = sym ((signed_Decides n (pos 0)).0 e)
-    by_test false e = refl
+same_value (Some n) = cond_both (is_nonzero n) (Some n) None (λ v. unwrap_or v (pos 0) ≡ n) (λ _. refl) (λ e. sym ((signed_Decides n (pos 0)).0 (not-false _ e)))
 
 pub value-without_zeros : (m : FinMap nat_cmp ℤ) (id : ℕ) → unwrap_or (get (without_zeros m) id) (pos 0) ≡ unwrap_or (get m id) (pos 0)
 value-without_zeros m id = ap (λ o. unwrap_or o (pos 0)) (get-without_zeros m id) ∙ same_value (get m id)

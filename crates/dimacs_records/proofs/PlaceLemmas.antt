@@ -1,6 +1,7 @@
 -- The first fault of a line's fields is the first condition in the order.
 use Rattle.std.proofs.Common.{◌≡◌, ℕ, zero, suc, ◌≤◌, ◌∷◌, ◌++◌, [], List, Bool, true, false, Option, Some, None, length, refl, ◌∙◌, arith}
-use Rattle.std.proofs.{lemmas.Bool.{eq-eqb, ne_eqb}, lemmas.List.Elements.{All-nil, All-cons, All-head, All-tail}}
+use Rattle.std.proofs.lemmas.Bool.{cond_both, eq-eqb, ne_eqb}
+use Rattle.std.proofs.lemmas.List.Elements.{All-nil, All-cons, All-head, All-tail}
 use Rattle.std.specs.{Prelude.{◌==◌, not, if◌then◌else◌}, List.{All}}
 use Rattle.dimacs_records.specs.{declared.reasons.Reason.{Reason}, declared.faults.LineFault.{LineFault}}
 use Rattle.dimacs_records.specs.declared.reasons.Reason.TheVariants.{UnknownLine, FieldCount, BadNumber, NumberRange, BadWord}
@@ -82,11 +83,7 @@ other_field (Number low high) text = (refl, refl)
 known : (n : ℕ) (types : List FieldType) (texts : List (List ℕ)) (f : ℕ) → fields_condition n types texts f UnknownLine ≡ false
 known n [] texts f = refl
 known n (type ∷ types) [] f = refl
-known n (type ∷ types) (text ∷ texts) f = by_test (f == n) (known (suc n) types texts f)
-  where
-    by_test : (t : Bool) → fields_condition (suc n) types texts f UnknownLine ≡ false → (if t then field_condition type text UnknownLine else fields_condition (suc n) types texts f UnknownLine) ≡ false
-    by_test true rest = (other_field type text).0
-    by_test false rest = rest
+known n (type ∷ types) (text ∷ texts) f = cond_both (f == n) _ _ (λ b. b ≡ false) (λ _. (other_field type text).0) (λ _. known (suc n) types texts f)
 
 by_count : (b : Bool) (fault : Option LineFault) → (if not b then Some (at 0 FieldCount) else place_in fault) ≡ place_in (if b then fault else Some (fault_at 0 FieldCount))
 by_count true fault = refl

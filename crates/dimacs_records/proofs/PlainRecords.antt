@@ -1,9 +1,9 @@
 -- The record of a line in the plain form.
 use Rattle.std.proofs.Common.{◌≡◌, ◌+◌, ◌-◌, ◌^◌, ◌<◌, ◌≤◌, ◌++◌, ◌∷◌, [], ℕ, List, Bool, true, false, length, drop, refl, ap, sym, ◌∙◌, subst, arith, append_assoc, SFits, w64}
-use Rattle.std.proofs.{lemmas.Bool.{and_parts}, lemmas.Bool.Decides.{nat_tests}, lemmas.Int.{ints}}
+use Rattle.std.proofs.{lemmas.Bool.{and_parts, cond_both}, lemmas.Bool.Decides.{nat_tests}, lemmas.Int.{ints}}
 use Rattle.std.proofs.lemmas.List.{append-nil, length-append}
 use Rattle.std.proofs.lemmas.List.Elements.{All-nil, All-cons, All-head, All-tail, All-weaker}
-use Rattle.std.specs.{Prelude.{◌==◌, ◌||◌, if◌then◌else◌, ℤ, pos, neg_ℤ}, List.{All, flat_map, list_all, Contains}}
+use Rattle.std.specs.{Prelude.{◌==◌, ◌||◌, ℤ, pos, neg_ℤ}, List.{All, flat_map, list_all, Contains}}
 use Rattle.std.specs.Char.{IsAsciiDigit}
 use Rattle.dimacs_lines.specs.{Number.{Spells, IsWithin}, Plain.{StandsAt}, Limits.{most_nodes}}
 use Rattle.dimacs_records.specs.{declared.kinds.TextKind.{TextKind}, declared.records.Record.{Record}}
@@ -19,11 +19,10 @@ visible_sign b h = grind (arith, nat_tests)
 -- a number consists of visible bytes
 spells_plain : (text : List ℕ) (n : ℤ) → Spells text n → length text ≤ 40 → IsPlain text
 spells_plain [] n h short = absurd (omega (arith, h.0.0))
-spells_plain (b ∷ bs) n h short = by_test (b == 43 || b == 45) refl h.0
-  where
-    by_test : (t : Bool) → (b == 43 || b == 45) ≡ t → (0 < length (if t then bs else b ∷ bs)) × All IsAsciiDigit (if t then bs else b ∷ bs) → IsPlain (b ∷ bs)
-    by_test true sign is = record { some = omega arith; visible = All-cons IsVisible b bs (visible_sign b sign) (All-weaker IsAsciiDigit IsVisible visible_digit bs is.1); short = short }
-    by_test false sign is = record { some = omega arith; visible = All-weaker IsAsciiDigit IsVisible visible_digit (b ∷ bs) is.1; short = short }
+spells_plain (b ∷ bs) n h short =
+    let visible = cond_both (b == 43 || b == 45) bs (b ∷ bs) (λ digits. All IsAsciiDigit digits → All IsVisible (b ∷ bs))
+    (λ sign is. All-cons IsVisible b bs (visible_sign b sign) (All-weaker IsAsciiDigit IsVisible visible_digit bs is)) (λ _ is. All-weaker IsAsciiDigit IsVisible visible_digit (b ∷ bs) is) in
+    record { some = omega arith; visible = visible h.0.1; short = short }
 
 abbrev is_number : FieldType → Bool
 is_number (Number low high) = true

@@ -1,6 +1,7 @@
 -- A line spells at most one record.
 use Rattle.std.proofs.Common.{◌≡◌, ℕ, zero, suc, ◌<◌, ◌∷◌, [], List, Bool, true, false, Option, Some, None, length, get_or, refl, ap, sym, ◌∙◌, subst, arith}
-use Rattle.std.proofs.{lemmas.Bool.{and_parts, not-true, eq-eqb}, lemmas.List.Sums.{AllPass-from_list_all}}
+use Rattle.std.proofs.lemmas.Bool.{and_from, and_parts, cond_both, not-true, eq-eqb}
+use Rattle.std.proofs.lemmas.List.Sums.{AllPass-from_list_all}
 use Rattle.std.specs.{Prelude.{◌&&◌, ◌==◌, not, nat_abs, codes, if◌then◌else◌}, List.{Contains, list_all}}
 use Rattle.std.specs.Str.{bytes_eq}
 use Rattle.dimacs_lines.specs.Number.{number_in}
@@ -46,13 +47,9 @@ types_at (form ∷ more) (suc k) d apart below =
     let other = get_or more k d in
     let found : types_in more other.letter (length other.types) ≡ Some other.types = types_at more k d parts.1 inside in
     let apart_here : (bytes_eq form.letter other.letter && (length form.types == length other.types)) ≡ false = not-true _ (AllPass-from_list_all (differs form) more parts.0 k d inside) in
-    rw found (by_tests (bytes_eq form.letter other.letter) (length form.types == length other.types) form.types other.types apart_here)
-  where
-    by_tests : (same_letter same_count : Bool) (types others : List FieldType) → (same_letter && same_count) ≡ false
-        → (if same_letter then Some (if same_count then types else others) else Some others) ≡ Some others
-    by_tests true true types others h = absurd (cc)
-    by_tests true false types others h = refl
-    by_tests false same_count types others h = refl
+    rw found (cond_both (bytes_eq form.letter other.letter) _ _ (λ types. types ≡ Some other.types)
+    (λ letter. cond_both (length form.types == length other.types) _ _ (λ types. Some types ≡ Some other.types) (λ count. absurd (cc (and_from _ _ letter count, apart_here))) (λ _. refl))
+    (λ _. refl))
 
 -- the letter of a form and the number of its fields determine their types
 pub form_types : (kind : TextKind) (form : Form) → Contains (forms kind) form → types_in (forms kind) form.letter (length form.types) ≡ Some form.types
