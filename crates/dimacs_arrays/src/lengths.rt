@@ -7,7 +7,7 @@ use crate::error::{Array, ArrayError};
 
 /// The length of an array, and the one that it has to have.
 #[derive(Clone, Copy, Debug, PartialEq, Eq)]
-pub struct ArrayLength {
+pub(crate) struct ArrayLength {
     pub array: Array,
     pub found: usize,
     pub wanted: usize,

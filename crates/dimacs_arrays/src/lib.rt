@@ -45,7 +45,6 @@ pub use judge_infeasible::judge_infeasible_arrays;
 pub use judge_max::judge_max_arrays;
 pub use judge_min::judge_min_arrays;
 pub use judge_paths::judge_paths_arrays;
-pub use lengths::ArrayLength;
 pub use lent_arcs::{ArcArrays, LentArcs};
 pub use max::MaxArrays;
 pub use min::MinArrays;

@@ -38,8 +38,8 @@ pub fn decide_distances<N: Network, C: DistanceClaim>(
     decide_distances_over(alloc, graph, &lists, source, claim)
 }
 
-/// The same over adjacency lists that several calls can share.
-pub fn decide_distances_over<N: Network, C: DistanceClaim>(
+/// The same over adjacency lists.
+fn decide_distances_over<N: Network, C: DistanceClaim>(
     alloc: Global,
     graph: &Graph<N>,
     lists: &AdjacencyLists,

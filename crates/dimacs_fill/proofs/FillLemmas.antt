@@ -3,7 +3,7 @@ use Rattle.std.proofs.Common.{◌≡◌, ◌∙◌, ◌++◌, ◌<◌, ◌≤◌
 use Rattle.std.proofs.{lemmas.List.{drop_all, length-map, take_all}, lemmas.Option.{slice_get-map, slice_get_read}}
 use Rattle.std.proofs.lemmas.List.FromFn.{get_or-map-range_with_len, length-map-range_with_len}
 use Rattle.std.specs.{Prelude.{nat_le, unwrap_or}, List.{range_with_len}, Option.{option_map}}
-use Rattle.dimacs_fill.specs.Filling.{AreItems}
+use Rattle.dimacs_fill.specs.inside.Filling.{AreItems}
 
 module _ {X : Type 0} where
   --   one more item from the front

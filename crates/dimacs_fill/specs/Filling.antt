@@ -1,5 +1,5 @@
 -- The arrays of a caller, filled with as many items as fit.
-use Rattle.std.specs.Prelude.{ℕ, ◌≡◌, ◌<◌, ◌++◌, List, length, take, drop, map, Some, slice_get, ℤ, IfErr, IfOk, Result, Ok, Err}
+use Rattle.std.specs.Prelude.{ℕ, ◌≡◌, ◌++◌, List, length, take, drop, map, ℤ, IfErr, IfOk, Result, Ok, Err}
 use Rattle.dimacs_lines.specs.Lines.{lines}
 use Rattle.dimacs_network.specs.declared.network.ArcView.{ArcView}
 use Rattle.dimacs_records.specs.{declared.faults.ReadError.{ReadError}, declared.kinds.TextKind.{TextKind}}
@@ -20,11 +20,6 @@ IsFilled items a = a.1 ≡ filled items a.0
 -- the array is as it was
 abbrev pub IsKept : {X : Type 0} → Array X → Type 0
 IsKept a = a.1 ≡ a.0
-
--- these are the items of the numbers below `count`, in order
-pub record AreItems {X : Type 0} (gives : ℕ → X → Type 0) (count : ℕ) (items : List X) : Type 0 where
-  pub all : length items ≡ count
-  pub each : (i : ℕ) (x : X) → i < count → gives i x → slice_get items i ≡ Some x
 
 -- what an error leaves: the value is `none`
 abbrev pub value_or : {V : Type 0} → V → Result V ReadError → V

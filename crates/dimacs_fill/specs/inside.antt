@@ -1,3 +1,4 @@
 pub mod Arcs
 pub mod BlockFilled
 pub mod Columns
+pub mod Filling

@@ -22,7 +22,6 @@ mod queries;
 pub use cut::read_cut_into;
 pub use distances::read_distances_into;
 pub use error::FillError;
-pub use filling::fill;
 pub use graph::{GraphSizes, read_graph_into};
 pub use labels::{LabelSizes, read_labels_into};
 pub use max::{MaxSizes, read_max_into};

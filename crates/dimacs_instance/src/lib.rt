@@ -11,10 +11,7 @@ mod min;
 mod queries;
 mod summaries;
 
-pub use dimacs_network::{
-    ArcEnds, ArcView, BoundsAndCost, CapacityArc, ForwardStar, MAX_ARCS, Network, PlainArcs,
-    StoredArc, WeightArc,
-};
+pub use dimacs_network::{ArcView, CapacityArc, ForwardStar, Network, PlainArcs, WeightArc};
 pub use graph::{Graph, GraphReading, read_graph, read_plain_graph, write_graph};
 pub use max::{MaxInstance, MaxReading, read_max, read_plain_max, write_max};
 pub use min::{MinInstance, MinReading, SupplySums, read_min, read_plain_min, write_min};

@@ -5,7 +5,7 @@ use Rattle.dimacs_network.specs.{declared.network.ArcView.{ArcView}, Arcs.{no_ar
 use Rattle.dimacs_network.proofs.SkipLemmas.{skipped}
 use Rattle.dimacs_records.specs.{declared.reasons.Reason.{Reason}, declared.reasons.Reason.TheVariants.{NoTightArc}}
 use Rattle.dimacs_judging.specs.{declared.verdict.Where.{Where}, declared.verdict.Where.TheVariants.{Arc, Node}}
-use Rattle.dimacs_judging.specs.{FlowTests.{AsksNothing, balance_row}, Flows.{net}, Labels.{HasTightArc}}
+use Rattle.dimacs_judging.specs.{FlowTests.{balance_row}, Flows.{net}, Labels.{HasTightArc}, inside.Tests.{AsksNothing}}
 use Rattle.dimacs_judging.specs.Tests.{Row, ClearBelow, Clear, FirstOfRow, TestsRow}
 use Rattle.dimacs_judging.specs.CertificateTests.{negative_row, support_row, RelaxFails, relax_row, weight_row}
 use Rattle.dimacs_judging.specs.Rows.{amount_at, arc_row, flow_row, node_row}

@@ -4,8 +4,7 @@ use Rattle.dimacs_network.specs.{declared.network.ArcView.{ArcView}, Tables.{val
 use Rattle.dimacs_records.specs.{declared.reasons.Reason.{Reason}, Ranges.{IsWide}}
 use Rattle.dimacs_records.specs.declared.reasons.Reason.TheVariants.{BelowLow, AboveCap, Balance, CostRange}
 use Rattle.dimacs_judging.specs.{Flows.{net, cost}, Rows.{arc_row, flow_row, node_row}, declared.verdict.Where.{Where}}
-use Rattle.dimacs_judging.specs.Tests.{Row, Clear, FirstOfRow, AllClear, First, Refuses}
-use Rattle.dimacs_judging.specs.{declared.balances.Balances.{Balances}, declared.verdict.JudgeError.{JudgeError}}
+use Rattle.dimacs_judging.specs.{Tests.{Row, Clear, FirstOfRow}, declared.balances.Balances.{Balances}}
 use Rattle.dimacs_instance.specs.{MaxFlows.{MaxValue}, MinFlows.{MinValue, supply_of}}
 
 -- less than the lower bound, which is 0 in a maximum flow; otherwise more than the capacity
@@ -30,18 +29,9 @@ AreBalances arcs x balances = (v : ℕ) → value_of balances.sums v ≡ net arc
 abbrev pub feasible_rows : ℕ → List ArcView → (ℕ → Option ℤ) → List ℤ → List Row
 feasible_rows nodes arcs demand x = bound_row arcs x ∷ balance_row nodes arcs demand x ∷ []
 
--- the balances of a feasible flow, or the first test that fails
-abbrev pub TestsFeasible : ℕ → List ArcView → (ℕ → Option ℤ) → List ℤ → Result Balances JudgeError → Type 0
-TestsFeasible nodes arcs demand x (Ok balances) = AreBalances arcs x balances × AllClear (feasible_rows nodes arcs demand x)
-TestsFeasible nodes arcs demand x (Err error) = Refuses (First (feasible_rows nodes arcs demand x)) error
-
 -- source and sink may have any balance, every other node has to have 0
 abbrev pub max_demand : MaxValue → ℕ → Option ℤ
 max_demand i v = if v == i.source then None else (if v == i.sink then None else Some (pos 0))
-
--- any balance will do, or 0
-abbrev pub AsksNothing : Option ℤ → Type 0
-AsksNothing demand = (d : ℤ) → demand ≡ Some d → d ≡ pos 0
 
 -- every node has to have its supply
 abbrev pub min_demand : MinValue → ℕ → Option ℤ

@@ -4,8 +4,8 @@ ghost use Rattle.std.specs.Prelude.{◌≡◌, ◌≤◌, ◌<◌, ℕ, ℤ, Lis
 ghost use Rattle.dimacs_lines.specs.Limits.{most_count, most_nodes};
 ghost use Rattle.dimacs_network.specs.Skips.{Skips};
 ghost use Rattle.dimacs_judging.specs.{Feasible.{FeasibleMax, FeasibleMin}, Flows.{net}, Tests.{Settles, TestsRow}};
-ghost use Rattle.dimacs_judging.specs.FlowTests.{AsksNothing, BoundFails, BalanceFails, bound_row, balance_row, feasible_max_rows, feasible_min_rows, max_demand, min_demand, TestsFeasible};
-ghost use Rattle.dimacs_judging.specs.inside.Tests.{NamesReason};
+ghost use Rattle.dimacs_judging.specs.FlowTests.{BoundFails, BalanceFails, bound_row, balance_row, feasible_max_rows, feasible_min_rows, max_demand, min_demand};
+ghost use Rattle.dimacs_judging.specs.inside.Tests.{AsksNothing, NamesReason, TestsFeasible};
 
 use crate::arc_test::{ArcTest, arcs_hold};
 use crate::balances::{Balances, NodeBalances};
@@ -48,7 +48,7 @@ pub fn feasible_min<N: Network>(
 }
 
 /// Tests the bounds, then the balances, and returns these.
-pub fn balances_if_feasible<N: Network, D: Demands>(
+pub(crate) fn balances_if_feasible<N: Network, D: Demands>(
     alloc: Global,
     network: &N,
     flow: &Flow,
@@ -91,7 +91,7 @@ impl ArcTest for Bounds {
 }
 
 /// The balances that an instance demands.
-pub trait Demands {
+pub(crate) trait Demands {
     ghost demand: { Self → ℕ → Option ℤ };
 
     /// The balance that the node must have; none if any will do.

@@ -39,7 +39,7 @@ pub fn min_claim_tests<'a, N: Network>(
 
 /// Makes all tests of `judge_min` in one pass over the arcs. None if one fails, a number is too large or there is no
 /// memory.
-pub fn min_in_one_pass<N: Network>(
+pub(crate) fn min_in_one_pass<N: Network>(
     alloc: Global,
     instance: &MinInstance<N>,
     placed: &Placed<FlowPlaces<'_, N>>,

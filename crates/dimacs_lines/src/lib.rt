@@ -19,7 +19,7 @@ mod sources;
 mod split;
 
 pub use device::{DeviceFault, Memory, Sink, Source, put_all};
-pub use files::{FileDevice, FileSink, FileSource, StdoutSink};
+pub use files::{FileSink, FileSource, StdoutSink};
 pub use numbers::{NumberFault, WIDE, number, wide};
 pub use output_buffer::OutputBuffer;
 pub use plain::PlainNumbers;

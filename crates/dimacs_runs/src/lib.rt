@@ -54,4 +54,4 @@ pub use solve::run_solve;
 pub use spread::run_spread;
 pub use status::{NO_RUN, RunError, Status, complaint, exit_status};
 pub use text::{run_convert, run_show};
-pub use verdict::{put_distances, put_failure, put_gave_up, put_verdict};
+pub use verdict::{put_failure, put_gave_up, put_verdict};

@@ -54,7 +54,7 @@ fn write_answer<K: Sink>(output: &mut OutputBuffer, sink: &mut K, answer: &Answe
 }
 
 /// Writes `v sp distances COUNT`: the claimed distances from this many sources are right.
-pub fn put_distances<K: Sink>(sink: &mut K, sources: u32) -> Result<(), DeviceFault>
+pub(crate) fn put_distances<K: Sink>(sink: &mut K, sources: u32) -> Result<(), DeviceFault>
     ensures { Puts result (K.seen sink.old) (distances_line sources) (K.seen sink.new) }
 {
     let count = Part::Number(i64::from(sources));

@@ -2,11 +2,11 @@
 
 use crate::checks::same;
 use dimacs_claims::{Labels, write_labels};
-use dimacs_decide::{DistancesByNode, decide_distances, decide_distances_over};
+use dimacs_decide::{DistancesByNode, decide_distances};
 use dimacs_instance::read_graph;
 use dimacs_judging::JudgeError;
 use dimacs_lines::{MemorySink, MemorySource};
-use dimacs_network::{AdjacencyLists, Network, Side};
+use dimacs_network::Network;
 use std::alloc::Global;
 use std::process::Abort;
 use std::test::Fail;
@@ -38,17 +38,4 @@ fn a_list_is_a_claim(rt: HostRuntime) -> Result<(), Fail> {
     let answer = decide_distances(alloc, &graph, 1, &claim);
     let wanted = "p dist 4 1\nt 1 2\nd 3 1 1\nd 2 2 3\n";
     answers(&rt, alloc, "a list that ends before node 4", answer, wanted)
-}
-
-#[test]
-fn links_are_lent(rt: HostRuntime) -> Result<(), Fail> {
-    let alloc = rt.alloc();
-    let graph = read_graph(alloc, &mut MemorySource::new(GRAPH))?;
-    assert!(&rt; graph.network().nodes() >= 3);
-    let links = AdjacencyLists::new(alloc, graph.network(), Side::Tail)?;
-    let distances = [i64::MAX, 1, 0].as_slice();
-    let claim = DistancesByNode { distances };
-    let answer = decide_distances_over(alloc, &graph, &links, 3, &claim);
-    let wanted = "p dist 4 1\nt 3 1\nd 2 1 3\n";
-    answers(&rt, alloc, "links that are lent", answer, wanted)
 }

@@ -1,5 +1,5 @@
 use Rattle.std.proofs.Common.{◌≡◌, ◌++◌, List, take, drop}
-use Rattle.dimacs_fill.specs.Filling.{AreItems}
+use Rattle.dimacs_fill.specs.inside.Filling.{AreItems}
 use Rattle.dimacs_fill.proofs.filling.fill.Given as goal
 
 -- the items so far are at the front

@@ -1,6 +1,6 @@
 use Rattle.std.proofs.Common.{◌≡◌, ◌≤◌, ◌-◌, ℕ, List, ℤ}
 use Rattle.dimacs_network.specs.Skips.{Skips}
-use Rattle.dimacs_judging.specs.{Tests.{ClearBelow}, FlowTests.{AsksNothing, balance_row}, Flows.{net}}
+use Rattle.dimacs_judging.specs.{Tests.{ClearBelow}, FlowTests.{balance_row}, Flows.{net}, inside.Tests.{AsksNothing}}
 use Rattle.dimacs_judging.proofs.feasible.balances_hold.Given as goal
 
 -- the balances so far hold
