@@ -225,18 +225,22 @@ def package(build):
     return {**os.environ, **found, "PYTHONDONTWRITEBYTECODE": "1"}
 
 
-def installed_package(counts, build, place):
-    """The same with a description of the package, by which networkx finds its backend there as if it were installed."""
-    described, found = os.path.join(place, "described"), package(build)
-    os.mkdir(described)
-    describe = "import sys, build_wheel; build_wheel.prepare_metadata_for_build_wheel(sys.argv[1])"
-    counts.add("the description of the package", run(pythons()[0], "-c", describe, described, env=found), by_status)
-    return {**found, "PYTHONPATH": f"{found['PYTHONPATH']}:{described}"}
+def installed(counts, build, place):
+    """The folder to which pip installs the package without the network. With it on the path networkx finds the backend."""
+    target = os.path.join(place, "installed")
+    python = next((it for it in pythons() if run(it, "-c", "import hatchling, pip").returncode == 0), None)
+    if not python:
+        counts.leave_out("the wheel", "Python with pip and hatchling")
+        return target
+    words = ["--no-build-isolation", "--no-index", "--no-deps", "--quiet", "--disable-pip-version-check", "--target", target]
+    counts.add("the wheel", run(python, "-m", "pip", "install", *words, f"{LIB}/python", env=package(build)), by_status)
+    return target
 
 
 def test_python(counts, build, place):
     """The tests in Python. One is left out if no Python has what it needs."""
-    environment, skipped = installed_package(counts, build, place), []
+    environment, skipped = package(build), []
+    environment["PYTHONPATH"] += f":{installed(counts, build, place)}"
     for python in pythons():
         ran = run(python, "-m", "unittest", "discover", "-v", "-s", TEST, cwd=TEST, env=environment)
         counts.add(f"unittest by {python}", ran, by_unittest)
@@ -280,23 +284,18 @@ def test_agreement(counts, build, place, instances):
 
 
 def test_wheel(counts, build, place):
-    """Installs the wheel without the network, and calls the library that is inside of it."""
-    python = pythons()[0]
-    if run(python, "-m", "pip", "--version").returncode:
-        counts.leave_out("the wheel", "pip")
+    """Installs the package, and calls the library that is inside of it."""
+    target = installed(counts, build, place)
+    if counts.left_out:
         return
-    target = os.path.join(place, "installed")
-    words = ["--no-index", "--no-deps", "--quiet", "--disable-pip-version-check", "--target", target]
-    installed = {name: it for name, it in os.environ.items() if name != "DIMACS_LIBRARY"} | {"PYTHONPATH": target}
-    made = run(python, "-m", "pip", "install", *words, f"{LIB}/python", env=package(build))
     call = "import dimacs; print(dimacs.show('cut', 'p cut 4 1\\nu 1\\n'), dimacs.__file__)"
     call += "\nimport importlib.metadata, importlib.util; assert importlib.util.find_spec('dimacs.backend')"
-    call += "\nprint(*(it.value for it in importlib.metadata.distribution('dimacs').entry_points))"
-    ran = made if made.returncode else run(python, "-c", call, cwd=place, env=installed)
-    shown = ran.stdout.startswith("i cut 4 1\n") and target in ran.stdout
-    if ran.returncode == 0 and not (shown and ran.stdout.endswith("\ndimacs.__main__:main dimacs.backend dimacs.backend.info:get_info\n")):
-        ran.returncode = 1
-    counts.add("the wheel", ran, by_status)
+    call += "\nprint(*sorted(it.value for it in importlib.metadata.distribution('dimacs').entry_points))"
+    environment = {name: it for name, it in os.environ.items() if name != "DIMACS_LIBRARY"} | {"PYTHONPATH": target}
+    ran = run(pythons()[0], "-c", call, cwd=place, env=environment)
+    wanted = f"i cut 4 1\n {target}/dimacs/__init__.py\ndimacs.__main__:main dimacs.backend dimacs.backend.info:get_info\n"
+    ran.returncode = ran.returncode or int(ran.stdout != wanted)
+    counts.add("the library of the wheel", ran, by_status)
 
 
 def lacking_for(program, lacks):
@@ -356,7 +355,7 @@ LAYERS = {
     "C++": (test_cpp, 1040),
     "Rust": (test_cargo, 37),
     "Python": (test_python, 120),
-    "wheel": (test_wheel, 1),
+    "wheel": (test_wheel, 2),
     "page": (test_page, 9),
 }
 

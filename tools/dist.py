@@ -3,7 +3,7 @@
 
 SYSTEM is x86_64, else aarch64 or windows. Of what `make` proved and built for it, in build/ or build/SYSTEM/, it makes in
 OUT, or in dist/ or dist/SYSTEM/, a tarball with all that `make install` installs, packages for Debian (where debhelper is;
-tools/debian.py), a wheel for Python, and SHA256SUMS; for Windows the wheel and the sums alone.
+tools/debian.py), by hatchling a wheel for Python, and SHA256SUMS; for Windows the wheel and the sums alone.
 What is of other sources, or doesn't have the mark of what is proved, it refuses, with the status 2. The same files give
 the same packages: they are of the time that SOURCE_DATE_EPOCH has in seconds, or of the last date in CHANGELOG.md.
 MAINTAINER is the contact that packages for Debian name.
@@ -25,9 +25,6 @@ import proved_build
 import sources
 from texts import TOP, read, write
 
-sys.path.insert(0, f"{TOP}/lib/python")
-import build_wheel  # noqa: E402  (the folder isn't a package of this one)
-
 # What is packed for each system: its folder in build/ and in dist/, and what make builds there.
 System = collections.namedtuple("System", "folder built")
 LINUX = ["dimacs", "libdimacs.a", "libdimacs.so.0"]
@@ -36,6 +33,9 @@ SYSTEMS = {
     "aarch64": System("/aarch64", LINUX),
     "windows": System("/windows", ["dimacs.dll"]),
 }
+
+# What a file that is proved says of itself, and one for Windows whose code is.
+PROVED, PROVED_CODE = b"rattle logic=", b" (proved by "
 
 # What packages are of: the version, the time, the machine, and the oldest C library of Linux that they run with.
 Release = collections.namedtuple("Release", "version epoch machine glibc")
@@ -58,7 +58,7 @@ def test_proved(name):
     files = [f"build{SYSTEMS[name].folder}/{it}" for it in SYSTEMS[name].built]
     if name != "x86_64" and subprocess.run(["make", "-s", "UNPROVED=", *files], check=False).returncode:
         refuse(f"make can't build {' '.join(files)}")
-    mark = build_wheel.PROVED_CODE if name == "windows" else build_wheel.PROVED
+    mark = PROVED_CODE if name == "windows" else PROVED
     for it in files:
         if mark not in content(it):
             refuse(f"{it} isn't proved, and packages are made of what is proved alone")
@@ -67,8 +67,8 @@ def test_proved(name):
 def release_of(build, name):
     dates = re.findall(r"^## .*(\d{4}-\d\d-\d\d)$", read("CHANGELOG.md"), re.MULTILINE)
     last = calendar.timegm(time.strptime(max(dates), "%Y-%m-%d"))
-    dynamic = [it for it in SYSTEMS[name].built if it in ("dimacs", "libdimacs.so.0")]
-    glibc = max((build_wheel.oldest_glibc(content(f"{build}/{it}")) for it in dynamic), default=None)
+    dynamic = [content(f"{build}/{it}") for it in SYSTEMS[name].built if it in ("dimacs", "libdimacs.so.0")]
+    glibc = max((int(it) for file in dynamic for it in re.findall(rb"\0GLIBC_2\.(\d+)", file)), default=None)
     epoch = int(os.environ.get("SOURCE_DATE_EPOCH") or last)
     return Release(read("VERSION").strip(), epoch, name, glibc)
 
@@ -96,15 +96,21 @@ def sums_of(out):
     return [(it, hashlib.sha256(content(f"{out}/{it}")).hexdigest()) for it in files_of(out)]
 
 
-def make_wheel(build, name, out):
-    os.environ["DIMACS_LIBRARY"] = f"{TOP}/{build}/{SYSTEMS[name].built[-1]}"
-    return f"{out}/{build_wheel.build_wheel(out)}"
+def make_wheel(build, release, out):
+    """Has hatchling make the wheel; its name."""
+    library = f"{TOP}/{build}/{SYSTEMS[release.machine].built[-1]}"
+    given = {"DIMACS_LIBRARY": library, "SOURCE_DATE_EPOCH": str(release.epoch)}
+    words = ["hatchling", "build", "-t", "wheel", "-d", out]
+    subprocess.run(words, cwd=f"{TOP}/lib/python", env={**os.environ, **given}, check=True, stdout=subprocess.DEVNULL)
+    (wheel,) = (f"{out}/{it}" for it in files_of(out) if it.endswith(".whl"))
+    os.chmod(wheel, 0o644)  # hatchling leaves it to its owner alone
+    return wheel
 
 
 def make_for_linux(build, release, room, out):
     """Makes the packages that are for Linux alone, and the wheel."""
     make_tarball(build, f"{room}/tarball", out, release)
-    wheel = make_wheel(build, release.machine, out)
+    wheel = make_wheel(build, release, out)
     if shutil.which("dh_python3"):
         debian.make(build, f"{room}/source", wheel, release, out)
     else:
@@ -120,7 +126,7 @@ def make(build, name, out):
         os.remove(f"{out}/{it}")
     with tempfile.TemporaryDirectory() as room:
         if name == "windows":
-            make_wheel(build, name, out)
+            make_wheel(build, release, out)
         else:
             make_for_linux(build, release, room, out)
     sums = sums_of(out)
@@ -135,6 +141,8 @@ def main():
     words.add_argument("out", nargs="?", type=os.path.abspath, help="the folder of the packages")
     asked = words.parse_args()
     folder = SYSTEMS[asked.system].folder
+    if not shutil.which("hatchling"):
+        refuse("hatchling makes the wheel, and isn't there")
     os.chdir(TOP)
     test_proved(asked.system)
     make(f"build{folder}", asked.system, asked.out or f"{TOP}/dist{folder}")

@@ -216,9 +216,9 @@ class Forms(unittest.TestCase):
     def test_numpy_with_masks(self):
         for kind in ("int64", "int32", "float64"):
             for mask in ([0] * 5, [0, 0, 0, 0, 1]):
-                flows = numpy.ma.array(FLOW, kind, mask=mask)
-                with self.subTest(kind), self.assertRaises(TypeError):
-                    dimacs.judge_max_arrays(*MAX, flows, CUT)
+                for scale in None, 10, "exact":
+                    words = *MAX, numpy.ma.array(FLOW, kind, mask=mask), CUT
+                    self.assertRaisesRegex(TypeError, "masked", dimacs.judge_max_arrays, *words, scale=scale)
         tails = numpy.ma.array([1, 1, 2, 2, 2**32 + 3], mask=[0, 0, 0, 0, 1])
         self.assertRaises(TypeError, dimacs.judge_max_arrays, 4, 1, 4, tails, *MAX[4:], FLOW, CUT)
 

@@ -78,6 +78,6 @@ class Docs(unittest.TestCase):
     @unittest.skipUnless(importlib.util.find_spec("numpy"), "no numpy")
     def test_types(self):
         words = [sys.executable, "-m", "mypy", "--config-file", PACKAGE.parent / "pyproject.toml", "--cache-dir=/dev/null"]
-        words += [PACKAGE, *sorted(EXAMPLES.glob("*.py"))]
+        words += [PACKAGE, pathlib.Path(__file__).with_name("typed.py"), *sorted(EXAMPLES.glob("*.py"))]
         ran = subprocess.run(words, capture_output=True, text=True, check=False)
         self.assertTrue(re.match(r"Success: no issues found in \d+ source files", ran.stdout), ran.stdout + ran.stderr)

@@ -54,60 +54,52 @@ LIBRARIES = {
 OTHERS = [elf(40, GLIBC, IDENT), pe(0xAA64, b" (proved by "), pe(0x14C), b"MZ", b"\xcf\xfa\xed\xfe", b""]
 
 
-def backend_of(folder):
-    """The build backend in a folder."""
-    spec = importlib.util.spec_from_file_location("build_wheel", folder / "build_wheel.py")
-    found = importlib.util.module_from_spec(spec)
-    spec.loader.exec_module(found)
-    return found
-
-
-@unittest.skipUnless((FOLDER / "build_wheel.py").is_file(), "the package is installed")
-class Packaging(unittest.TestCase):
+@unittest.skipUnless((FOLDER / "hatch_build.py").is_file(), "the package is installed")
+@unittest.skipUnless(importlib.util.find_spec("hatchling"), "no hatchling")
+class Built(unittest.TestCase):
     def setUp(self):
-        self.backend = backend_of(FOLDER)
-        self.made = tempfile.TemporaryDirectory()
-        self.addCleanup(self.made.cleanup)
-        self.place = pathlib.Path(self.made.name)
+        made = tempfile.TemporaryDirectory()
+        self.addCleanup(made.cleanup)
+        self.place = pathlib.Path(made.name)
         self.library = pathlib.Path(LIBRARY or FOLDER.parents[1] / "build" / "libdimacs.so")
 
-    def built(self, name, backend=None):
-        folder = self.place / name
-        folder.mkdir()
+    def built(self, name, call="build_wheel", sources=FOLDER):
+        """What hatchling makes of sources and of the library, in a new folder."""
+        from hatchling import build
+
+        (self.place / name).mkdir()
+        self.addCleanup(os.chdir, os.getcwd())
+        os.chdir(sources)
         with mock.patch.dict(os.environ, {"DIMACS_LIBRARY": str(self.library)}):
-            return folder / (backend or self.backend).build_wheel(folder)
+            return self.place / name / getattr(build, call)(str(self.place / name))
 
     def test_the_same_files_give_the_same_bytes(self):
-        one, other = self.built("one"), self.built("other")
-        self.assertEqual((one.name, one.read_bytes()), (other.name, other.read_bytes()))
-        archives = []
-        for name in "three", "four":
-            (self.place / name).mkdir()
-            archives.append((self.place / name / self.backend.build_sdist(self.place / name)).read_bytes())
-        self.assertEqual(*archives)
+        for call in "build_wheel", "build_sdist":
+            one, other = self.built(f"one {call}", call), self.built(f"other {call}", call)
+            self.assertEqual((one.name, one.read_bytes()), (other.name, other.read_bytes()))
+            self.assertTrue(one.name.startswith(f"dimacs-{dimacs.__version__}"))
 
     def test_what_describes_the_package(self):
         with zipfile.ZipFile(self.built("wheel")) as it:
             name = next(name for name in it.namelist() if name.endswith("/METADATA"))
             found = email.message_from_bytes(it.read(name))
             self.assertIn("dimacs/py.typed", it.namelist())
-        self.assertEqual((found["Name"], found["Version"]), ("dimacs", self.backend.version_of(self.library.read_bytes())))
+        self.assertEqual((found["Name"], found["Version"]), ("dimacs", dimacs.__version__))
         self.assertIn("Typing :: Typed", found.get_all("Classifier"))
         # Python 3.9 cuts off the fraction of a Decimal in an array.
         self.assertEqual(found["Requires-Python"], ">=3.10")
-        self.assertIn('scipy>=1.8; extra == "scipy"', found.get_all("Requires-Dist"))
+        self.assertIn("scipy>=1.8; extra == 'scipy'", found.get_all("Requires-Dist"))
         self.assertEqual(found.get_payload(), (FOLDER / "README.md").read_text(encoding="utf-8"))
 
     def test_a_wheel_of_the_archive(self):
-        archive = self.place / self.backend.build_sdist(self.place)
+        archive = self.built("archive", "build_sdist")
         with tarfile.open(archive) as it:
             it.extractall(self.place)
-        unpacked = self.place / archive.name.removesuffix(".tar.gz")
-        made = self.built("again", backend_of(unpacked))
+        made = self.built("again", sources=self.place / archive.name.removesuffix(".tar.gz"))
         self.assertEqual(made.read_bytes(), self.built("here").read_bytes())
 
     def test_a_wheel_for_each_system(self):
-        version = self.backend.version_of(elf(62, IDENT))
+        version = dimacs.__version__.partition("+")[0]
         self.library = self.place / "library"
         for wanted, content in LIBRARIES.items():
             self.library.write_bytes(content)
@@ -119,14 +111,24 @@ class Packaging(unittest.TestCase):
             self.assertEqual(f"{wheel.name} {name.removeprefix('dimacs/')}", f"dimacs-{version}{wanted}")
             self.assertIn(f"Tag: {wheel.stem.partition('-')[2].partition('-')[2]}\n", tag)
 
-    def test_a_library_for_no_system_that_is_known(self):
-        for content in OTHERS:
-            (self.place / "library").write_bytes(content)
-            named = mock.patch.dict(os.environ, {"DIMACS_LIBRARY": f"{self.place}/library"})
-            with named, self.assertRaises(SystemExit) as caught:
-                self.backend.build_wheel(self.place)
-            self.assertIn("library isn't a library for x86-64 Linux, aarch64 Linux or 64-bit Windows", str(caught.exception))
+    def says(self, name, message):
+        """hatchling ends with a message, which pip shows."""
+        with self.assertRaises(SystemExit) as caught:
+            self.built(name)
+        self.assertIn(message, str(caught.exception))
 
+    def test_a_library_for_no_system_that_is_known(self):
+        self.library = self.place / "library"
+        for number, content in enumerate(OTHERS):
+            self.library.write_bytes(content)
+            self.says(str(number), "library isn't a library for x86-64 Linux, aarch64 Linux or 64-bit Windows")
+
+    def test_no_library(self):
+        self.library = "nowhere.so"
+        self.says("wheel", f"{FOLDER.parents[1]}/nowhere.so isn't there. There are two ways to get it:\n    make ")
+
+
+class Loaded(unittest.TestCase):
     def test_where_the_library_is_looked_for(self):
         places = {"PACKAGE": str(FOLDER / "dimacs"), "TOP": str(FOLDER.parents[1])}
         for line in PLACES.strip().splitlines():
@@ -141,16 +143,6 @@ class Packaging(unittest.TestCase):
                 self.assertEqual(found, wanted)
 
     def test_no_library(self):
-        """pip shows what the build prints."""
-        with mock.patch.dict(os.environ, {"DIMACS_LIBRARY": "nowhere.so"}), self.assertRaises(SystemExit) as caught:
-            self.backend.build_wheel(self.place)
-        for wanted in (
-            f"{FOLDER.parents[1]}/nowhere.so isn't there",
-            "make quick ",
-            "make  ",
-            "DIMACS_LIBRARY=build/quick/libdimacs.so",
-        ):
-            self.assertIn(wanted, str(caught.exception))
         words = [sys.executable, "-c", "import dimacs"]
         environment = {**os.environ, "DIMACS_LIBRARY": "nowhere.so", "PYTHONPATH": str(FOLDER)}
         ran = subprocess.run(words, env=environment, capture_output=True, text=True, check=False)

@@ -214,12 +214,6 @@ class Limitless(Said):
         no = raised(dimacs.PastLimit, dimacs.solve_max_arrays, 3, 1, 3, [1, 2], [2, 3], [INF, -5])
         self.assertEqual(no.arc, 2)
 
-    @unittest.skipUnless(numpy, "no numpy")
-    def test_what_is_masked(self):
-        caps = numpy.ma.array([5.0, 4.0], mask=[0, 1])
-        for scale in None, 10, "exact":
-            self.assertRaisesRegex(TypeError, "masked", dimacs.solve_max_arrays, 3, 1, 3, [1, 2], [2, 3], caps, scale=scale)
-
     def test_a_set_that_shows_nothing(self):
         """It is violated by less than 2^63, and not by an arc without a limit."""
         supplies = [2**63 - 1, 2**62, -(2**63) + 1, -(2**62)]

@@ -142,7 +142,6 @@ class MaximumFlow(Scipy):
                 self.assertEqual(no.numbers, {"claimed": rounded, "value": amount})
         for value, kind, message in (
             (numpy.array([4]), TypeError, r"flow_value is array\(\[4\]\), not a number"),
-            (numpy.array([4, 4]), TypeError, r"flow_value is array\(\[4, 4\]\), not a number"),
             (None, TypeError, "flow_value is None, not a number"),
             ("4", TypeError, "flow_value is '4', not a number"),
             (numpy.nan, ValueError, "flow_value is nan, not a whole number"),
@@ -353,7 +352,6 @@ class Tables(Scipy):
             (1, 0.9, r"predecessors\[0, 1\] is 0.9, not a whole number"),
             (2, numpy.nan, r"predecessors\[0, 2\] is nan, not a whole number"),
             (0, numpy.inf, r"predecessors\[0, 0\] is inf, not a whole number"),
-            (0, -5, r"predecessors\[0, 0\] is -5, which is no vertex, and not -9999"),
             (0, -1, r"predecessors\[0, 0\] is -1, which is no vertex, and not -9999"),
             (2, 3, r"predecessors\[0, 2\] is 3, which is no vertex, and not -9999"),
             (2, 2**32, r"predecessors\[0, 2\] is 4294967296, which is no vertex, and not -9999"),
@@ -616,8 +614,6 @@ class Programs(Scipy):
             ("A_ub", None, "b_ub has 1 numbers, and A_ub has 0 rows"),
         ):
             self.raises(ValueError, message, certify_program, [5.0], 15, **{**program, name: numbers})
-        both = {**program, "b_ub": [9, 5], "b_eq": []}
-        self.raises(ValueError, "b_ub has 2 numbers", certify_program, [5.0], 15, **both)
         self.raises(ValueError, "x has 4 numbers, and c has 1", certify_program, [5, 0, 7, 8], 15, **program)
 
     def test_bounds(self):

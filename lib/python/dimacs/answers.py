@@ -3,7 +3,35 @@
 from __future__ import annotations
 
 import reprlib
-from typing import Any, NamedTuple, cast
+from collections import namedtuple
+from decimal import Decimal
+from fractions import Fraction
+from typing import TYPE_CHECKING, Any, Generic, NamedTuple, TypeAlias, TypeVar, Union, cast
+
+if TYPE_CHECKING:
+    from array import array
+
+    from numpy import bool_, int64, object_, uint32
+    from numpy.typing import NDArray
+
+#: Arrays of numpy in values, and in answers over these: of whether nodes are inside, of nodes, and of other numbers.
+Marks: TypeAlias = "NDArray[bool_]"
+Ids: TypeAlias = "NDArray[uint32]"
+Amounts: TypeAlias = "NDArray[int64]"
+
+#: The same in the form of an array that came. With base=0 nodes have a sign.
+MarksLike = Union[list[bool], "array[int]", Marks]
+IdsLike = Union[list[int], "array[int]", Ids, Amounts]
+AmountsLike = Union[list[int], "array[int]", Amounts]
+
+#: With scale= a number, and an array of them, or of distances.
+Number = Union[int, Fraction, Decimal]
+Scaled = Union[list[Number], "NDArray[object_]"]
+Lengths = Union[list[Union[Number, float]], "NDArray[object_]"]
+
+_Value = TypeVar("_Value")
+_Claim = TypeVar("_Claim")
+_Shown = TypeVar("_Shown")
 
 #: The distance of a node that isn't reached. Its predecessor is 0.
 UNREACHED = 2**63 - 1
@@ -40,7 +68,7 @@ class Explainable:
     #: What a certificate or solution is of: "max", "min", "infeasible" or "paths", if a call gave the answer.
     _kind: str | None = None
 
-    def _of(self, shown: Any, *kinds: str) -> Any:
+    def _of(self, shown: _Value, *kinds: str) -> _Value:
         """What an answer of these kinds has by another name. Raises AttributeError for one of another kind."""
         if self._kind is not None and self._kind not in kinds:
             raise AttributeError(f"this is an answer about {self._kind}, and only one about {' or '.join(kinds)} has that")
@@ -78,13 +106,29 @@ class Parts(Explainable):
     __ne__, __hash__ = object.__ne__, tuple.__hash__
 
 
-class _Verdict(NamedTuple):
-    kind: str
-    value: Any = None
-    pairs: tuple[Pair, ...] = ()
+if TYPE_CHECKING:
+
+    class _Verdict(NamedTuple, Generic[_Value]):
+        kind: str
+        value: _Value
+        pairs: tuple[Pair, ...] = ()
+
+    class _Certified(NamedTuple, Generic[_Value, _Shown]):
+        value: _Value
+        certificate: _Shown
+
+    class _Solved(NamedTuple, Generic[_Value, _Claim, _Shown]):
+        value: _Value
+        solution: _Claim
+        certificate: _Shown
+
+else:  # Python 3.10 has no generic ones
+    _Verdict = namedtuple("_Verdict", "kind value pairs", defaults=(None, ()))
+    _Certified = namedtuple("_Certified", "value certificate")
+    _Solved = namedtuple("_Solved", "value solution certificate")
 
 
-class Verdict(Parts, _Verdict):
+class Verdict(Parts, _Verdict[_Value]):
     """A yes.
 
     kind is "max", "min", "infeasible", "sp" (all distances from so many sources) or "pairs"; value the value of the
@@ -99,33 +143,30 @@ class Verdict(Parts, _Verdict):
         return True
 
 
-class _Shown(Parts):
+class _Shows(Parts, Generic[_Shown]):
     """An answer with a certificate."""
 
-    certificate: Any
+    def _shown(self, *kinds: str) -> _Shown:
+        certificate: _Shown = cast(Any, self).certificate
+        return self._of(certificate, *kinds)
 
     @property
-    def inside(self) -> Any:
+    def inside(self) -> _Shown:
         """The certificate of calls about max and infeasible over arrays and graphs."""
-        return self._of(self.certificate, "max", "infeasible")
+        return self._shown("max", "infeasible")
 
     @property
-    def potentials(self) -> Any:
+    def potentials(self) -> _Shown:
         """That of calls about min."""
-        return self._of(self.certificate, "min")
+        return self._shown("min")
 
     @property
-    def predecessors(self) -> Any:
+    def predecessors(self) -> _Shown:
         """That of calls about paths."""
-        return self._of(self.certificate, "paths")
+        return self._shown("paths")
 
 
-class _Certified(NamedTuple):
-    value: Any
-    certificate: Any
-
-
-class Certified(_Shown, _Certified):
+class Certified(_Shows[_Shown], _Certified[_Value, _Shown], Generic[_Value, _Shown]):
     """A yes, with a certificate by which the judge answers yes too.
 
     value is the value of the flow, or its cost; None if the claim has neither. The certificate is the text of a cut, of
@@ -138,13 +179,7 @@ class Certified(_Shown, _Certified):
     """
 
 
-class _Solved(NamedTuple):
-    value: Any
-    solution: Any
-    certificate: Any
-
-
-class Solved(_Shown, _Solved):
+class Solved(_Shows[_Shown], _Solved[_Value, _Claim, _Shown], Generic[_Value, _Claim, _Shown]):
     """An answer, which was judged before it was returned.
 
     value is the value of the flow, or its cost; None if there is neither. The solution is a text; over arrays the
@@ -157,17 +192,17 @@ class Solved(_Shown, _Solved):
     """
 
     @property
-    def flows(self) -> Any:
+    def flows(self) -> _Claim:
         """The solution of calls about max and min."""
         return self._of(self.solution, "max", "min")
 
     @property
-    def distances(self) -> Any:
+    def distances(self) -> _Claim:
         """That of calls about paths."""
         return self._of(self.solution, "paths")
 
     @property
-    def pairs(self) -> Any:
+    def pairs(self) -> _Claim:
         """That of queries for pairs in texts, as of a Verdict."""
         return self._of(self.solution, "paths")
 

@@ -27,27 +27,40 @@ set or a masked array.
 from __future__ import annotations
 
 from functools import wraps
-from typing import Any, Callable, ParamSpec, Protocol, TypeVar, overload
+from typing import Any, Callable, ParamSpec, Protocol, TypeVar, Union, overload
 
 from . import calls
-from .answers import Certified, Solved, Verdict
+from .answers import Amounts, AmountsLike, Certified, Ids, IdsLike, Lengths, Marks, MarksLike, Number, Scaled, Solved, Verdict
 from .buffers import LIMIT, Numbers
 from .given import DISTANCES, FLOWS, GRAPH, INSIDE, MAX, MIN, POTENTIALS, PREDECESSORS, Given
 from .instances import Blocks, Cut, Instance, Solution, Value
 
 _Words = ParamSpec("_Words")
 _Answer = TypeVar("_Answer", covariant=True)
+_OfValues = TypeVar("_OfValues", covariant=True)
+_Scaled = TypeVar("_Scaled", covariant=True)
 
 
-class _Call(Protocol[_Words, _Answer]):
+class _Call(Protocol[_Words, _Answer, _OfValues, _Scaled]):
     @overload
     def __call__(self, *words: _Words.args, **more: _Words.kwargs) -> _Answer: ...
     @overload
+    def __call__(self, instance: Instance, /, *words: Union[Value, int], **more: Union[Value, int]) -> _OfValues: ...
+    @overload
     def __call__(self, instance: Instance, /, *words: Any, **more: Any) -> _Answer: ...
+    @overload
+    def __call__(self, *words: Any, scale: Any, **more: Any) -> _Scaled: ...
 
 
-def of_values(call: Callable[_Words, _Answer]) -> _Call[_Words, _Answer]:
-    """The same call, which takes values in place of their fields too."""
+def of_values(
+    values: type[_OfValues], scaled: type[_Scaled]
+) -> Callable[[Callable[_Words, _Answer]], _Call[_Words, _Answer, _OfValues, _Scaled]]:
+    """The same call, which takes values in place of their fields too. To mypy its answer has the first type over values alone,
+    and the second with scale=."""
+    return _of_values
+
+
+def _of_values(call: Callable[..., Any]) -> Any:
     names = [*call.__code__.co_varnames[: call.__code__.co_argcount]]  # inspect takes long to import
 
     @wraps(call)
@@ -94,11 +107,11 @@ def _named(call: str, names: list[str], words: tuple[Any, ...], more: dict[str, 
     return {**named, **dict(zip(left, others))}
 
 
-@of_values
+@of_values(Verdict[int], Verdict[Number])
 def judge_max_arrays(
     nodes: int, source: int, sink: int, tails: Numbers, heads: Numbers, caps: Numbers, flows: Numbers, inside: Numbers,
-    *, scale: Any = None, base: int = 1,
-) -> Verdict:
+    *, scale: None = None, base: int = 1,
+) -> Verdict[int]:
     """Judges that a flow is maximum, by the cut of the nodes inside. Raises Refused if a test fails.
 
     flows has an amount for each arc, inside a byte or bool for each node, which isn't 0 on the source's side.
@@ -110,12 +123,12 @@ def judge_max_arrays(
     return calls.judge(given.add(FLOWS, flows).add(INSIDE, inside))
 
 
-@of_values
+@of_values(Verdict[int], Verdict[Number])
 def judge_min_arrays(
     nodes: int, tails: Numbers, heads: Numbers, lows: Numbers, caps: Numbers, costs: Numbers, supplies: Numbers,
     flows: Numbers, potentials: Numbers,
-    *, scale: Any = None, base: int = 1,
-) -> Verdict:
+    *, scale: None = None, base: int = 1,
+) -> Verdict[int]:
     """Judges that a flow costs least, by potentials. Raises Refused if a test fails.
 
     A supply is what leaves a node less what enters it. The reduced cost of an arc is its cost, minus the potential of its
@@ -128,12 +141,12 @@ def judge_min_arrays(
     return calls.judge(given.add(FLOWS, flows).add(POTENTIALS, potentials))
 
 
-@of_values
+@of_values(Verdict[None], Verdict[None])
 def judge_infeasible_arrays(
     nodes: int, tails: Numbers, heads: Numbers, lows: Numbers, caps: Numbers, costs: Numbers, supplies: Numbers,
     inside: Numbers,
-    *, scale: Any = None, base: int = 1,
-) -> Verdict:
+    *, scale: None = None, base: int = 1,
+) -> Verdict[None]:
     """Judges that no flow is feasible, by the set of the nodes inside. Raises Refused if the set isn't violated.
 
     >>> judge_infeasible_arrays(2, [1], [2], [0], [5], [3], [6, -6], [True, False])
@@ -143,12 +156,12 @@ def judge_infeasible_arrays(
     return calls.judge(given.add(INSIDE, inside))
 
 
-@of_values
+@of_values(Verdict[int], Verdict[int])
 def judge_paths_arrays(
     nodes: int, tails: Numbers, heads: Numbers, weights: Numbers, source: int, distances: Numbers,
     predecessors: Numbers,
-    *, scale: Any = None, base: int = 1,
-) -> Verdict:
+    *, scale: None = None, base: int = 1,
+) -> Verdict[int]:
     """Judges that these are the distances from the source, by predecessors. Raises Refused if a test fails.
 
     A node that isn't reached has the distance UNREACHED, or inf in floats, and the predecessor 0, as the source has; with
@@ -162,11 +175,11 @@ def judge_paths_arrays(
     return calls.judge(given)
 
 
-@of_values
+@of_values(Certified[int, Marks], Certified[Number, MarksLike])
 def certify_max_arrays(
     nodes: int, source: int, sink: int, tails: Numbers, heads: Numbers, caps: Numbers, flows: Numbers,
-    *, scale: Any = None, base: int = 1,
-) -> Certified:
+    *, scale: None = None, base: int = 1,
+) -> Certified[int, MarksLike]:
     """Decides whether a flow is maximum. Returns its value, and for each node whether it is inside a cut that shows it.
 
     Raises NotOptimal with a flow of greater value if the flow is feasible, but not maximum, and Refused if it isn't feasible.
@@ -181,12 +194,12 @@ def certify_max_arrays(
     return calls.certify(given, flows)
 
 
-@of_values
+@of_values(Certified[int, Amounts], Certified[Number, Scaled])
 def certify_min_arrays(
     nodes: int, tails: Numbers, heads: Numbers, lows: Numbers, caps: Numbers, costs: Numbers, supplies: Numbers,
     flows: Numbers,
-    *, scale: Any = None, base: int = 1,
-) -> Certified:
+    *, scale: None = None, base: int = 1,
+) -> Certified[int, AmountsLike]:
     """Decides whether a flow costs least. Returns its cost, and potentials that show it.
 
     Raises NotOptimal with a cheaper flow if the flow is feasible, but doesn't cost least; Refused as certify_max_arrays;
@@ -199,11 +212,11 @@ def certify_min_arrays(
     return calls.certify(given.add(FLOWS, flows), flows)
 
 
-@of_values
+@of_values(Certified[None, Marks], Certified[None, MarksLike])
 def certify_infeasible_arrays(
     nodes: int, tails: Numbers, heads: Numbers, lows: Numbers, caps: Numbers, costs: Numbers, supplies: Numbers,
-    *, scale: Any = None, base: int = 1,
-) -> Certified:
+    *, scale: None = None, base: int = 1,
+) -> Certified[None, MarksLike]:
     """Decides whether no flow is feasible. Returns for each node whether it is inside a set that shows it.
 
     Raises Feasible with a flow if one is. The result has the form of caps, as in certify_max_arrays.
@@ -215,11 +228,11 @@ def certify_infeasible_arrays(
     return calls.certify(given, caps)
 
 
-@of_values
+@of_values(Certified[None, Union[Ids, Amounts]], Certified[None, IdsLike])
 def certify_paths_arrays(
     nodes: int, tails: Numbers, heads: Numbers, weights: Numbers, source: int, distances: Numbers,
-    *, scale: Any = None, base: int = 1,
-) -> Certified:
+    *, scale: None = None, base: int = 1,
+) -> Certified[None, IdsLike]:
     """Decides whether these are the distances from the source. Returns predecessors that show it.
 
     Raises Refused if they aren't. The result has the form of distances, as in certify_max_arrays.
@@ -231,11 +244,11 @@ def certify_paths_arrays(
     return calls.certify(given.add(DISTANCES, distances), distances)
 
 
-@of_values
+@of_values(Solved[int, Amounts, Marks], Solved[Number, Scaled, MarksLike])
 def solve_max_arrays(
     nodes: int, source: int, sink: int, tails: Numbers, heads: Numbers, caps: Numbers, limit: int = LIMIT,
-    *, scale: Any = None, base: int = 1,
-) -> Solved:
+    *, scale: None = None, base: int = 1,
+) -> Solved[int, AmountsLike, MarksLike]:
     """Makes a maximum flow. Returns its value, the amounts of the arcs, and for each node whether it is inside a cut.
 
     Raises GaveUp after `limit` flows that aren't maximum; Unbounded if arcs with the capacity inf lead from the source to the
@@ -248,12 +261,12 @@ def solve_max_arrays(
     return calls.solve_max(given, caps, limit)
 
 
-@of_values
+@of_values(Solved[int, Amounts, Amounts], Solved[Number, Scaled, Scaled])
 def solve_min_arrays(
     nodes: int, tails: Numbers, heads: Numbers, lows: Numbers, caps: Numbers, costs: Numbers, supplies: Numbers,
     limit: int = LIMIT,
-    *, scale: Any = None, base: int = 1,
-) -> Solved:
+    *, scale: None = None, base: int = 1,
+) -> Solved[int, AmountsLike, AmountsLike]:
     """Makes a flow of least cost. Returns its cost, the amounts of the arcs, and potentials that show it.
 
     Raises Infeasible if no flow is feasible, with whether each node is inside a set that shows it; Unbounded if a cycle of
@@ -267,10 +280,10 @@ def solve_min_arrays(
     return calls.solve_min(given, caps, limit)
 
 
-@of_values
+@of_values(Solved[None, Amounts, Union[Ids, Amounts]], Solved[None, Lengths, IdsLike])
 def solve_paths_arrays(
-    nodes: int, tails: Numbers, heads: Numbers, weights: Numbers, source: int, *, scale: Any = None, base: int = 1
-) -> Solved:
+    nodes: int, tails: Numbers, heads: Numbers, weights: Numbers, source: int, *, scale: None = None, base: int = 1
+) -> Solved[None, AmountsLike, IdsLike]:
     """Makes the distances from the source. Returns them, and predecessors that show them.
 
     A node that isn't reached has the distance UNREACHED and the predecessor 0, as the source has; with scale= the distance

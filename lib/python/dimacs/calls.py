@@ -12,7 +12,7 @@ from .explained import AskedOfArrays, kept
 from .given import COSTS, DISTANCES, FLOWS, GRAPH, HEADS, INSIDE, MAX, MIN, POTENTIALS, PREDECESSORS, SUPPLIES, TAILS
 from .given import Array, Given
 
-_Valued = TypeVar("_Valued", bound=Union[Certified, Verdict])
+_Valued = TypeVar("_Valued", bound=Union[Certified[Any, Any], Verdict[Any]])
 
 #: What shows each kind of claim.
 _CERTIFICATES = {"max": INSIDE, "min": POTENTIALS, "infeasible": INSIDE, "paths": PREDECESSORS}
@@ -30,7 +30,7 @@ def _shown_by(given: Given, kind: str, **found: Room) -> AskedOfArrays:
     return AskedOfArrays(f"judge_{kind}", given, **found)
 
 
-def judge(given: Given) -> Verdict:
+def judge(given: Given) -> Verdict[Any]:
     words, kind = given.words(), _claimed(given)
     asked = AskedOfArrays(f"judge_{kind}", given)
     with given.named(asked):
@@ -45,7 +45,7 @@ def judge(given: Given) -> Verdict:
     return kept(Verdict(found.kind, value), asked)
 
 
-def certify(given: Given, came: Any = ()) -> Certified:
+def certify(given: Given, came: Any = ()) -> Certified[Any, Any]:
     """What is handed out has the form of an array that came."""
     words, kind = given.words(owned=True), _claimed(given)
     asked, certificate = AskedOfArrays(f"certify_{kind}", given), _CERTIFICATES[kind]
@@ -84,7 +84,7 @@ def of_value(certified: _Valued, claimed: Any, name: str) -> _Valued:
     return certified
 
 
-def solve_max(given: Given, came: Any = (), limit: Any = LIMIT) -> Solved:
+def solve_max(given: Given, came: Any = (), limit: Any = LIMIT) -> Solved[Any, Any, Any]:
     given.add_number("limit", limit, LIMITS)
     found, rooms = _solve_bounded("max", given, _test_bounded_max, FLOWS, INSIDE)
     inside = rooms[INSIDE]
@@ -94,7 +94,7 @@ def solve_max(given: Given, came: Any = (), limit: Any = LIMIT) -> Solved:
     return _solved(given, "max", given.value(found.value), rooms, came)
 
 
-def solve_min(given: Given, came: Any = (), limit: Any = LIMIT) -> Solved:
+def solve_min(given: Given, came: Any = (), limit: Any = LIMIT) -> Solved[Any, Any, Any]:
     given.add_number("limit", limit, LIMITS)
     found, rooms = _solve_bounded("min", given, _test_bounded_min, FLOWS, POTENTIALS, INSIDE)
     inside = rooms.pop(INSIDE)
@@ -110,12 +110,12 @@ def solve_min(given: Given, came: Any = (), limit: Any = LIMIT) -> Solved:
     return _solved(given, "min", given.value(found.value), rooms, came)
 
 
-def solve_paths(given: Given, came: Any = ()) -> Solved:
+def solve_paths(given: Given, came: Any = ()) -> Solved[Any, Any, Any]:
     _, rooms = _solve("paths", given, given.words(owned=True), DISTANCES, PREDECESSORS)
     return _solved(given, "paths", None, rooms, came)
 
 
-def _solved(given: Given, kind: str, value: Any, rooms: dict[Array, Room], came: Any) -> Solved:
+def _solved(given: Given, kind: str, value: Any, rooms: dict[Array, Room], came: Any) -> Solved[Any, Any, Any]:
     answer = Solved(value, *(given.shown(*it, came) for it in rooms.items()))
     return kept(answer, _shown_by(given, kind, **{it.name: room for it, room in rooms.items()}))
 
@@ -129,7 +129,7 @@ def _imbalance(given: Given) -> dict[str, Any]:
 
 def _solve_bounded(
     kind: str, given: Given, test: Callable[[Given], None], *handed: Array
-) -> tuple[Verdict, dict[Array, Room]]:
+) -> tuple[Verdict[Any], dict[Array, Room]]:
     """Solves with a bound in place of inf. If the library gives up, the bound may be why: then the test raises Unbounded."""
     words = given.words(owned=True)
     if not given.limitless():
@@ -148,7 +148,7 @@ def _has_flow(given: Given, instance: list[Any]) -> bool:
     return library.call_with_rooms(*words)[0] == library.REFUSED
 
 
-def _solve(kind: str, given: Given, words: list[Any], *handed: Array) -> tuple[Verdict, dict[Array, Room]]:
+def _solve(kind: str, given: Given, words: list[Any], *handed: Array) -> tuple[Verdict[Any], dict[Array, Room]]:
     with given.named(AskedOfArrays(f"solve_{kind}", given)):
         rooms = {it: given.room(it) for it in handed}
         call = getattr(library, f"solve_{kind}_arrays")

@@ -10,7 +10,7 @@ import pandas as pd
 from pandas.api.types import is_hashable
 
 from . import calls
-from .answers import Certified, Parts, Solved
+from .answers import Certified, Number, Parts, Solved
 from .buffers import LIMIT
 from .explained import like
 from .instances import UNITS, Graph, MaxInstance, MinInstance
@@ -21,7 +21,7 @@ __all__ = ["Frame", "FrameAnswer", "from_frame"]
 
 
 class _FrameAnswer(NamedTuple):
-    value: Any
+    value: Number | None
     edges: pd.DataFrame | None
     nodes: pd.DataFrame
 
@@ -211,7 +211,9 @@ class Frame:
     def _by_edge(self, flows: Any) -> pd.Series:
         return _column_of(flows, self.edges.index).rename("flow")
 
-    def _answer(self, found: Certified | Solved, flows: pd.Series | None, nodes: pd.DataFrame) -> FrameAnswer:
+    def _answer(
+        self, found: Certified[Any, Any] | Solved[Any, Any, Any], flows: pd.Series | None, nodes: pd.DataFrame
+    ) -> FrameAnswer:
         edges = None if flows is None else self.edges[self._named].assign(flow=flows)
         return like(FrameAnswer(found.value, edges, nodes), found)
 

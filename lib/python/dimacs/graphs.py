@@ -17,10 +17,13 @@ from itertools import repeat
 from typing import Any, Iterable, Iterator, Sequence
 
 from . import calls
-from .answers import Certified, Solved, Verdict
+from .answers import Certified, Number, Solved, Verdict
 from .buffers import LIMIT, is_bool, unlabelled
 from .explained import like
 from .given import DISTANCES, FLOWS, GRAPH, INSIDE, MAX, MIN, POTENTIALS, Array, Given, Names
+
+#: flow[u][v] is an amount, or flow[u][v][key].
+Flow = dict[Any, dict[Any, Any]]
 
 #: What numbers are of, by the names of arrays.
 _OF_EDGES = {"caps": "capacity", "costs": "weight", "weights": "weight", "flows": "flow"}
@@ -182,7 +185,7 @@ class NumberedGraph(Names):
         return {source: None, **found}
 
 
-def judge_networkx_max(graph: Any, source: Any, sink: Any, flow: Any, side: Any, *, scale: Any = None) -> Verdict:
+def judge_networkx_max(graph: Any, source: Any, sink: Any, flow: Any, side: Any, *, scale: Any = None) -> Verdict[Number]:
     """Judges that a flow, as maximum_flow returns it, is maximum, by the source's side of a cut: the first set of minimum_cut.
 
     The side is a set or list of nodes, or a dict that maps the nodes on it to True and others to False; a node that isn't in
@@ -198,7 +201,7 @@ def judge_networkx_max(graph: Any, source: Any, sink: Any, flow: Any, side: Any,
     return calls.judge(claim)
 
 
-def judge_networkx_min(graph: Any, flow: Any, potentials: Any = None, *, scale: Any = None) -> Verdict:
+def judge_networkx_min(graph: Any, flow: Any, potentials: Any = None, *, scale: Any = None) -> Verdict[Number]:
     """Judges that a flow, as network_simplex or max_flow_min_cost returns it, costs least, by a dict of potentials.
 
     The reduced cost of an edge is its weight, minus the potential of its tail, plus that of its head; a node that isn't in
@@ -218,7 +221,7 @@ def judge_networkx_min(graph: Any, flow: Any, potentials: Any = None, *, scale: 
     return calls.judge(given.min().add(FLOWS, given.flows(flow)).add(POTENTIALS, prices))
 
 
-def certify_networkx_max(graph: Any, source: Any, sink: Any, flow: Any, *, scale: Any = None) -> Certified:
+def certify_networkx_max(graph: Any, source: Any, sink: Any, flow: Any, *, scale: Any = None) -> Certified[Number, set[Any]]:
     """Decides whether a flow is maximum. Returns its value, and the nodes on the source's side of a cut that shows it.
 
     Raises NotOptimal with a flow of greater value, a dict, if the flow is feasible, but not maximum; Refused if it isn't
@@ -233,7 +236,7 @@ def certify_networkx_max(graph: Any, source: Any, sink: Any, flow: Any, *, scale
     return calls.certify(given.max(source, sink).add(FLOWS, given.flows(flow)))
 
 
-def certify_networkx_min(graph: Any, flow: Any, *, scale: Any = None) -> Certified:
+def certify_networkx_min(graph: Any, flow: Any, *, scale: Any = None) -> Certified[Number, dict[Any, Number]]:
     """Decides whether a flow costs least. Returns its cost, and a dict of potentials by node that show it.
 
     Raises NotOptimal with a cheaper flow, a dict, if the flow is feasible, but doesn't cost least; Refused as
@@ -249,7 +252,7 @@ def certify_networkx_min(graph: Any, flow: Any, *, scale: Any = None) -> Certifi
     return calls.certify(given.min().add(FLOWS, given.flows(flow)))
 
 
-def certify_networkx_infeasible(graph: Any, *, scale: Any = None) -> Certified:
+def certify_networkx_infeasible(graph: Any, *, scale: Any = None) -> Certified[None, set[Any]]:
     """Decides whether no flow meets the demands. Returns a set of nodes that shows it.
 
     Raises Feasible with a flow, a dict, if one does; GaveUp if one would have to carry 2^63 or more by edges without a
@@ -264,7 +267,7 @@ def certify_networkx_infeasible(graph: Any, *, scale: Any = None) -> Certified:
     return calls.certify(NumberedGraph(graph, scale).min())
 
 
-def certify_networkx_paths(graph: Any, source: Any, distances: Any, *, scale: Any = None) -> Certified:
+def certify_networkx_paths(graph: Any, source: Any, distances: Any, *, scale: Any = None) -> Certified[None, dict[Any, Any]]:
     """Decides whether these are the distances from a source, a dict by node. Returns a dict of predecessors.
 
     A node that isn't in the dict, or has inf there, is claimed to be unreachable. The predecessor of each node that is
@@ -282,7 +285,9 @@ def certify_networkx_paths(graph: Any, source: Any, distances: Any, *, scale: An
     return like(Certified(None, given.predecessors(source, found.predecessors)), found)
 
 
-def solve_networkx_max(graph: Any, source: Any, sink: Any, limit: int = LIMIT, *, scale: Any = None) -> Solved:
+def solve_networkx_max(
+    graph: Any, source: Any, sink: Any, limit: int = LIMIT, *, scale: Any = None
+) -> Solved[Number, Flow, set[Any]]:
     """Makes a maximum flow. Returns its value, the flow, and the nodes on the source's side of a cut that shows it.
 
     Raises NetworkXUnbounded if edges without a capacity lead from the source to the sink; GaveUp after `limit` flows that
@@ -296,7 +301,7 @@ def solve_networkx_max(graph: Any, source: Any, sink: Any, limit: int = LIMIT, *
     return calls.solve_max(NumberedGraph(graph, scale).max(source, sink), limit=limit)
 
 
-def solve_networkx_min(graph: Any, limit: int = LIMIT, *, scale: Any = None) -> Solved:
+def solve_networkx_min(graph: Any, limit: int = LIMIT, *, scale: Any = None) -> Solved[Number, Flow, dict[Any, Number]]:
     """Makes a flow of least cost. Returns its cost, the flow, and a dict of potentials by node that show it.
 
     Raises Infeasible with a set of nodes that shows it, if no flow is feasible; NetworkXUnbounded if a cycle of edges without
@@ -311,7 +316,7 @@ def solve_networkx_min(graph: Any, limit: int = LIMIT, *, scale: Any = None) -> 
     return calls.solve_min(NumberedGraph(graph, scale).min(), limit=limit)
 
 
-def solve_networkx_paths(graph: Any, source: Any, *, scale: Any = None) -> Solved:
+def solve_networkx_paths(graph: Any, source: Any, *, scale: Any = None) -> Solved[None, dict[Any, Number], dict[Any, Any]]:
     """Makes the distances from a source. Returns a dict of the nodes that are reached, and a dict of predecessors, as
     certify_networkx_paths. Raises Refused if a weight is negative.
 

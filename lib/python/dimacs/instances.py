@@ -21,22 +21,14 @@ import operator
 from array import array
 from collections import Counter
 from collections.abc import Hashable, Iterable, Mapping, Sized
-from typing import TYPE_CHECKING, Any, ClassVar, Iterator, Sequence, TypeVar, Union
+from typing import Any, ClassVar, Iterator, Sequence, TypeVar, Union
 
 from . import library
-from .answers import PastLimit
+from .answers import Amounts, Ids, Marks, PastLimit
 from .buffers import IDS, MARKS, NUMBERS, Buffer, Items, Numbers, array_of, gone_through, number_of, room_of, unlabelled
 from .given import DISTANCES, FLOWS, FROMS, GRAPH, INSIDE, MAX, MIN, POTENTIALS, PREDECESSORS, TAILS, TOS, Array, Form, Given
 from .given import Names
 from .scales import ones_of
-
-if TYPE_CHECKING:
-    from numpy import bool_, int64, uint32
-    from numpy.typing import NDArray
-
-    Ids = NDArray[uint32]
-    Amounts = NDArray[int64]
-    Marks = NDArray[bool_]
 
 #: The nodes by their numbers, from 1; what 1 stands for in amounts, and in costs.
 NodeNames = Union[Sequence[Any], None]

@@ -256,14 +256,14 @@ def _distance(words: list[str]) -> int | Beyond | None:
     return int(words[0])
 
 
-def verdict(output: bytes) -> Verdict:
+def verdict(output: bytes) -> Verdict[Any]:
     """The fields of the lines of a verdict."""
     words = output.decode("ascii").split("\n", 1)[0].split()
     kind = words[1] if words else "pairs"
     if kind in ("max", "min"):
         return Verdict(kind, int(words[2]))
     if kind == "infeasible":
-        return Verdict(kind)
+        return Verdict(kind, None)
     if kind == "sp":
         return Verdict(kind, int(words[3]))
     lines = (line.split() for line in output.decode("ascii").splitlines())

@@ -39,7 +39,8 @@ def _text(name: str, text: Any) -> drawing.Text:
 
 
 def draw(
-    instance: Text, claim: Union[Text, Solved, None] = None, certificate: Union[Text, Certified, None] = None,
+    instance: Text, claim: Union[Text, Solved[Any, Any, Any], None] = None,
+    certificate: Union[Text, Certified[Any, Any], None] = None,
     *, only: Iterable[int] = (), source: int | None = None, layers: bool = False,
 ) -> Drawing:
     r"""Draws an instance, with a claim about it and its certificate, as the command dimacs-draw does; a notebook shows it.

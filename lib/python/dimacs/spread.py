@@ -10,7 +10,7 @@ from array import array
 from typing import Any
 
 from . import texts
-from .answers import PastLimit, Refused
+from .answers import AmountsLike, PastLimit, Refused
 from .arrays import of_values
 from .buffers import IDS, NUMBERS, Numbers, in_form_of, number_of
 from .given import MAX, MIN, MOST_NODES, PAIR_HEADS, PAIR_TAILS, SUMS, Form, Given
@@ -22,7 +22,7 @@ from .writing import text_of_instance
 _PAIRS = Form("", "", PAIR_TAILS, PAIR_HEADS, SUMS)
 
 
-def _spread(call: Any, kind: type[Instance], given: Given, *pairs: Any) -> Any:
+def _spread(call: Any, kind: type[Instance], given: Given, *pairs: Any) -> AmountsLike:
     """Spreads the sums of pairs over arcs. A fault of a pair has its two nodes."""
     instance, base = kind._of(given, None), given.names.base
     added = Given(_PAIRS, *pairs)
@@ -38,15 +38,16 @@ def _spread(call: Any, kind: type[Instance], given: Given, *pairs: Any) -> Any:
             ends = zip(("tail", "head"), columns)
             it.numbers = {name: given.node(column[it.line - 2] + 1 - base) for name, column in ends}
         raise
-    return in_form_of(pairs[-1], array(NUMBERS.code, read("solution", solution, instance).flows.tolist()))
+    found: AmountsLike = in_form_of(pairs[-1], array(NUMBERS.code, read("solution", solution, instance).flows.tolist()))
+    return found
 
 
-@of_values
+@of_values(list[int], list[int])
 def spread_max_arrays(
     nodes: int, source: int, sink: int, tails: Numbers, heads: Numbers, caps: Numbers, pair_tails: Numbers,
     pair_heads: Numbers, sums: Numbers,
     *, base: int = 1,
-) -> Any:
+) -> AmountsLike:
     """Deals sums out to the arcs of a maximum flow instance: sums[k] is carried from pair_tails[k] to pair_heads[k].
 
     Returns the flow of each arc, in the form of sums: arcs with the same ends carry the sum between these, each within its
@@ -61,12 +62,12 @@ def spread_max_arrays(
     return _spread(texts.spread_max, MaxInstance, given, pair_tails, pair_heads, sums)
 
 
-@of_values
+@of_values(list[int], list[int])
 def spread_min_arrays(
     nodes: int, tails: Numbers, heads: Numbers, lows: Numbers, caps: Numbers, costs: Numbers, pair_tails: Numbers,
     pair_heads: Numbers, sums: Numbers,
     *, base: int = 1,
-) -> Any:
+) -> AmountsLike:
     """The same for an instance of least cost: of all such flows within the bounds, one that costs least.
 
     >>> spread_min_arrays(2, [1, 1], [2, 2], [0, 0], [3, 5], [9, 1], [1], [2], [6])

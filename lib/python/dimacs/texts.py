@@ -5,15 +5,17 @@ from __future__ import annotations
 
 import os
 from contextlib import contextmanager
-from typing import Any, Iterator, Union
+from typing import Any, Iterator, Union, overload
 
 from . import library
-from .answers import Certified, Feasible, Infeasible, NotOptimal, Refused, Solved, Verdict
+from .answers import Certified, Feasible, Infeasible, NotOptimal, Pair, Refused, Solved, Verdict
 from .buffers import LIMIT, LIMITS, Buffer, bytes_of, number_of
 from .commands import run, test_kind
 from .explained import ROLES, Asked, kept
 
-Text = Union[bytes, str, bytearray, memoryview, "os.PathLike[str]"]
+StrText = Union[str, "os.PathLike[str]"]
+BytesText = Union[bytes, bytearray, memoryview]
+Text = Union[StrText, BytesText]
 
 
 @contextmanager
@@ -78,12 +80,12 @@ def _in_form_of(came: Text, text: bytes) -> Any:
     return text.decode("ascii") if isinstance(came, (str, os.PathLike)) else text
 
 
-def _judge(kind: str, *read: Text) -> Verdict:
+def _judge(kind: str, *read: Text) -> Verdict[Any]:
     printed, _ = _run(f"judge_{kind}", *read)
     return kept(library.verdict(printed), Asked(f"judge_{kind}", *read))
 
 
-def judge_max(instance: Text, solution: Text, cut: Text) -> Verdict:
+def judge_max(instance: Text, solution: Text, cut: Text) -> Verdict[int]:
     r"""Judges that a solution's flow is maximum, by a cut. Raises Refused if a test fails.
 
     >>> judge_max("p max 2 1\nn 1 s\nn 2 t\na 1 2 3\n", "s 3\nf 1 2 3\n", "p cut 2 1\nu 1\n")
@@ -92,7 +94,7 @@ def judge_max(instance: Text, solution: Text, cut: Text) -> Verdict:
     return _judge("max", instance, solution, cut)
 
 
-def judge_min(instance: Text, solution: Text, potentials: Text) -> Verdict:
+def judge_min(instance: Text, solution: Text, potentials: Text) -> Verdict[int]:
     r"""Judges that a solution's flow costs least, by potentials. Raises Refused if a test fails.
 
     >>> judge_min("p min 2 1\nn 1 3\nn 2 -3\na 1 2 0 5 7\n", "s 21\nf 1 2 3\n", "p pot 2 1\ny 1 7\n").value
@@ -101,7 +103,7 @@ def judge_min(instance: Text, solution: Text, potentials: Text) -> Verdict:
     return _judge("min", instance, solution, potentials)
 
 
-def judge_infeasible(instance: Text, cut: Text) -> Verdict:
+def judge_infeasible(instance: Text, cut: Text) -> Verdict[None]:
     r"""Judges that no flow is feasible, by a set of nodes. Raises Refused if a test fails.
 
     >>> judge_infeasible("p min 2 1\nn 1 3\nn 2 -3\na 1 2 0 2 7\n", "p cut 2 1\nu 1\n").kind
@@ -110,7 +112,7 @@ def judge_infeasible(instance: Text, cut: Text) -> Verdict:
     return _judge("infeasible", instance, cut)
 
 
-def judge_paths(graph: Text, queries: Text, labels: Text) -> Verdict:
+def judge_paths(graph: Text, queries: Text, labels: Text) -> Verdict[int | None]:
     r"""Judges that all labels are distances, and answers the queries by them. Raises Refused if a test fails.
 
     >>> judge_paths("p sp 2 1\na 1 2 5\n", "p aux sp p2p 1\nq 1 2\n", "p dist 2 1\nt 1 1\nd 2 5 1\n").pairs
@@ -119,13 +121,17 @@ def judge_paths(graph: Text, queries: Text, labels: Text) -> Verdict:
     return _judge("paths", graph, queries, labels)
 
 
-def _certify(kind: str, *read: Text) -> Certified:
+def _certify(kind: str, *read: Text) -> Certified[Any, Any]:
     printed, (shown,) = _run(f"certify_{kind}", *read)
     value = library.verdict(printed).value if kind in ("max", "min") else None
     return kept(Certified(value, _in_form_of(read[0], shown)), Asked(f"certify_{kind}", *read, shown))
 
 
-def certify_max(instance: Text, solution: Text) -> Certified:
+@overload
+def certify_max(instance: StrText, solution: Text) -> Certified[int, str]: ...
+@overload
+def certify_max(instance: BytesText, solution: Text) -> Certified[int, bytes]: ...
+def certify_max(instance: Text, solution: Text) -> Certified[int, Any]:
     r"""Decides whether a solution's flow is maximum. Returns its value, and the text of a cut that shows it.
 
     Raises NotOptimal with the text of a better flow if the flow is feasible and has the claimed value, but isn't maximum;
@@ -137,7 +143,11 @@ def certify_max(instance: Text, solution: Text) -> Certified:
     return _certify("max", instance, solution)
 
 
-def certify_min(instance: Text, solution: Text) -> Certified:
+@overload
+def certify_min(instance: StrText, solution: Text) -> Certified[int, str]: ...
+@overload
+def certify_min(instance: BytesText, solution: Text) -> Certified[int, bytes]: ...
+def certify_min(instance: Text, solution: Text) -> Certified[int, Any]:
     r"""Decides whether a solution's flow costs least. Returns its cost, and the text of potentials that show it.
 
     Raises NotOptimal with the text of a cheaper flow if the flow is feasible and has the claimed cost, but doesn't cost
@@ -149,7 +159,11 @@ def certify_min(instance: Text, solution: Text) -> Certified:
     return _certify("min", instance, solution)
 
 
-def certify_infeasible(instance: Text) -> Certified:
+@overload
+def certify_infeasible(instance: StrText) -> Certified[None, str]: ...
+@overload
+def certify_infeasible(instance: BytesText) -> Certified[None, bytes]: ...
+def certify_infeasible(instance: Text) -> Certified[None, Any]:
     r"""Decides whether an instance has no feasible flow. Returns the text of a set that shows it.
 
     Raises Feasible with the text of a feasible flow if there is one; Refused if the text has a fault. The certificate and the
@@ -161,7 +175,11 @@ def certify_infeasible(instance: Text) -> Certified:
     return _certify("infeasible", instance)
 
 
-def certify_paths(graph: Text, distances: Text) -> Certified:
+@overload
+def certify_paths(graph: StrText, distances: Text) -> Certified[None, str]: ...
+@overload
+def certify_paths(graph: BytesText, distances: Text) -> Certified[None, bytes]: ...
+def certify_paths(graph: Text, distances: Text) -> Certified[None, Any]:
     r"""Decides whether claimed distances are right, and nodes without one unreachable. Returns the text of labels that
     show it.
 
@@ -173,6 +191,10 @@ def certify_paths(graph: Text, distances: Text) -> Certified:
     return _certify("paths", graph, distances)
 
 
+@overload
+def spread_max(instance: Text, solution: StrText) -> str: ...
+@overload
+def spread_max(instance: Text, solution: BytesText) -> bytes: ...
 def spread_max(instance: Text, solution: Text) -> Any:
     r"""Deals a solution out to parallel arcs: adds up the entries with the same ends, and gives each arc with these ends its
     share, within its bounds if possible. Returns the text of a solution with the claimed value and an entry for every arc.
@@ -187,6 +209,10 @@ def spread_max(instance: Text, solution: Text) -> Any:
     return _in_form_of(solution, spread)
 
 
+@overload
+def spread_min(instance: Text, solution: StrText) -> str: ...
+@overload
+def spread_min(instance: Text, solution: BytesText) -> bytes: ...
 def spread_min(instance: Text, solution: Text) -> Any:
     r"""The same for least cost: of all such flows within the bounds, one that costs least.
 
@@ -197,7 +223,7 @@ def spread_min(instance: Text, solution: Text) -> Any:
     return _in_form_of(solution, spread)
 
 
-def _solve(kind: str, instance: Text, limit: int) -> Solved:
+def _solve(kind: str, instance: Text, limit: int) -> Solved[Any, Any, Any]:
     printed, (solution, certificate) = _run(f"solve_{kind}", instance, limit=limit)
     shown, found = _in_form_of(instance, certificate), library.verdict(printed)
     if found.kind == "infeasible":
@@ -206,7 +232,11 @@ def _solve(kind: str, instance: Text, limit: int) -> Solved:
     return kept(answer, Asked(f"solve_{kind}", instance, solution, certificate))
 
 
-def solve_max(instance: Text, limit: int = LIMIT) -> Solved:
+@overload
+def solve_max(instance: StrText, limit: int = LIMIT) -> Solved[int, str, str]: ...
+@overload
+def solve_max(instance: BytesText, limit: int = LIMIT) -> Solved[int, bytes, bytes]: ...
+def solve_max(instance: Text, limit: int = LIMIT) -> Solved[int, Any, Any]:
     r"""Makes a maximum flow. Returns its value, and the texts of a solution and of a cut that shows it, str if the instance is.
 
     Raises GaveUp after `limit` flows that aren't maximum, and Refused if the text has a fault.
@@ -217,7 +247,11 @@ def solve_max(instance: Text, limit: int = LIMIT) -> Solved:
     return _solve("max", instance, limit)
 
 
-def solve_min(instance: Text, limit: int = LIMIT) -> Solved:
+@overload
+def solve_min(instance: StrText, limit: int = LIMIT) -> Solved[int, str, str]: ...
+@overload
+def solve_min(instance: BytesText, limit: int = LIMIT) -> Solved[int, bytes, bytes]: ...
+def solve_min(instance: Text, limit: int = LIMIT) -> Solved[int, Any, Any]:
     r"""Makes a flow of least cost. Returns its cost, and the texts of a solution and of potentials that show it.
 
     Raises Infeasible with the text of a set if no flow is feasible; GaveUp after `limit` steps to better flows, or if the
@@ -229,7 +263,11 @@ def solve_min(instance: Text, limit: int = LIMIT) -> Solved:
     return _solve("min", instance, limit)
 
 
-def solve_paths(graph: Text, queries: Text) -> Solved:
+@overload
+def solve_paths(graph: StrText, queries: Text) -> Solved[None, tuple[Pair, ...], str]: ...
+@overload
+def solve_paths(graph: BytesText, queries: Text) -> Solved[None, tuple[Pair, ...], bytes]: ...
+def solve_paths(graph: Text, queries: Text) -> Solved[None, tuple[Pair, ...], Any]:
     r"""Makes labels that answer the queries. Returns the answers to queries for pairs, and the text of the labels.
 
     Raises Refused if a text has a fault, a query names no node, or a weight is negative.
@@ -248,6 +286,10 @@ def _printed(call: str, kind: str, text: Text) -> Any:
     return _in_form_of(text, printed)
 
 
+@overload
+def convert(kind: str, text: StrText) -> str: ...
+@overload
+def convert(kind: str, text: BytesText) -> bytes: ...
 def convert(kind: str, text: Text) -> Any:
     r"""The canonical form of a text: str if the text is str, else bytes. Raises Refused if it has a fault.
 
@@ -259,6 +301,10 @@ def convert(kind: str, text: Text) -> Any:
     return _printed("convert", kind, text)
 
 
+@overload
+def show(kind: str, text: StrText) -> str: ...
+@overload
+def show(kind: str, text: BytesText) -> bytes: ...
 def show(kind: str, text: Text) -> Any:
     r"""A line that describes a text, as `i max 4 5 1 4`. The kinds and what is raised are those of convert.
 

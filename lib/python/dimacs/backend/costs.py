@@ -8,7 +8,7 @@ from typing import Any, NamedTuple
 import networkx as nx
 from networkx.utils import BinaryHeap
 
-from ..answers import Infeasible, Refused, Unbounded
+from ..answers import AmountsLike, Infeasible, Refused, Unbounded
 from ..arrays import certify_min_arrays, solve_min_arrays
 from ..buffers import NUMBERS
 from ..distances import NegativeCycle, potentials_of
@@ -27,7 +27,7 @@ class Network(NamedTuple):
     are_amounts_floats: bool
     are_weights_floats: bool
 
-    def shown(self, cost: int, flows: list[int]) -> tuple[Any, dict[Any, Any]]:
+    def shown(self, cost: int, flows: AmountsLike) -> tuple[Any, dict[Any, Any]]:
         """A cost and a flow as networkx has them."""
         costs = answered([cost], self.are_amounts_floats or self.are_weights_floats)
         return costs[0], self.arcs.flow_dict(answered(flows, self.are_amounts_floats))
@@ -77,7 +77,7 @@ def _test_feasible(given: Network) -> None:
             raise nx.NetworkXUnfeasible(f"edge {edge!r} has negative capacity")
 
 
-def _solved(given: Network, caps: list[Any], infeasible: str, unbounded: str) -> tuple[int, list[int]]:
+def _solved(given: Network, caps: list[Any], infeasible: str, unbounded: str) -> tuple[int, AmountsLike]:
     """The least cost of a flow that meets the demands within these capacities, and the amounts of such a flow."""
     # An infinite weight is left where nothing can be carried.
     weights = [0 if cap == 0 else it for cap, it in zip(caps, given.weights)]
@@ -94,7 +94,7 @@ def _solved(given: Network, caps: list[Any], infeasible: str, unbounded: str) ->
         raise nx.NetworkXUnbounded(unbounded) from None
 
 
-def solved(given: Network) -> tuple[int, list[int]]:
+def solved(given: Network) -> tuple[int, AmountsLike]:
     """The least cost, and the amounts of such a flow, as the network simplex method finds them."""
     _test_finite(given)
     _test_feasible(given)

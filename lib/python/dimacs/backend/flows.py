@@ -7,7 +7,7 @@ from typing import Any, NamedTuple
 
 import networkx as nx
 
-from ..answers import Unbounded
+from ..answers import AmountsLike, MarksLike, Unbounded
 from ..arrays import solve_max_arrays
 from ..graphs import Arcs
 from .given import Unable, answered, graph_of, of_edges, unable
@@ -18,8 +18,8 @@ class Found(NamedTuple):
 
     arcs: Arcs
     value: int
-    flows: list[int]
-    inside: list[bool]
+    flows: AmountsLike
+    inside: MarksLike
     are_floats: bool
 
     def shown_value(self) -> Any:

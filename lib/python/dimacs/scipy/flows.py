@@ -29,7 +29,7 @@ class MaximumFlowResult:
     MaximumFlowResult with value of 4
     """
 
-    flow_value: Any
+    flow_value: int | np.int64
     flow: Any
     inside: NDArray[np.bool_]
 
@@ -103,7 +103,7 @@ def maximum_flow(csgraph: Any, source: int, sink: int, *, method: str = "dinic")
     return MaximumFlowResult(np.int64(value) if value <= np.iinfo(np.int64).max else value, flow, inside)
 
 
-def certify_maximum_flow(csgraph: Any, source: int, sink: int, flow: Any) -> Certified:
+def certify_maximum_flow(csgraph: Any, source: int, sink: int, flow: Any) -> Certified[int, NDArray[np.bool_]]:
     """Decides whether a flow of SciPy is maximum. Returns its value, and for each vertex whether it is inside a cut.
 
     flow is the result of maximum_flow, or its matrix: an entry that isn't stored is 0, and the one at (j, i) is that at

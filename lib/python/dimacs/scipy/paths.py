@@ -2,7 +2,7 @@
 
 from __future__ import annotations
 
-from typing import Any, Callable
+from typing import Any, Callable, Literal, overload
 
 import numpy as np
 from numpy.typing import NDArray
@@ -115,6 +115,16 @@ def _as_floats(distances: Any, source: int) -> Any:
     return found
 
 
+@overload
+def shortest_path(
+    csgraph: Any, method: str = ..., directed: bool = ..., return_predecessors: Literal[False] = ...,
+    unweighted: bool = ..., overwrite: bool = ..., indices: Any = ...,
+) -> NDArray[np.float64]: ...
+@overload
+def shortest_path(
+    csgraph: Any, method: str = ..., directed: bool = ..., *, return_predecessors: Literal[True],
+    unweighted: bool = ..., overwrite: bool = ..., indices: Any = ...,
+) -> tuple[NDArray[np.float64], NDArray[np.int32]]: ...
 def shortest_path(
     csgraph: Any, method: str = "auto", directed: bool = True, return_predecessors: bool = False,
     unweighted: bool = False, overwrite: bool = False, indices: Any = None,

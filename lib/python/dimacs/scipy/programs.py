@@ -35,9 +35,9 @@ class CertifiedProgram(NamedTuple):
     CertifiedProgram(value=22, x=array([5, 1]), duals=[7])
     """
 
-    value: Any
+    value: int | None
     x: NDArray[np.int64] | None
-    duals: list[Any]
+    duals: list[int] | list[str]
 
 
 class _Part:
