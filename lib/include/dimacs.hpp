@@ -235,7 +235,7 @@ class Value {
         return value;
     }
 
-    const std::string &str() const noexcept { return digits_; }
+    std::string str() const { return digits_; }
 
     // The number, if it has 64 bits.
     std::optional<std::int64_t> to_int64() const noexcept {
@@ -391,7 +391,7 @@ struct Refused {
     std::optional<InText> text;
     std::optional<std::uint64_t> arc, node;  // from 1
 
-    const std::string &message() const noexcept { return printed; }
+    std::string message() const { return printed; }
 };
 
 // The flow is feasible and has the claimed value, but there is a better one.
@@ -400,7 +400,7 @@ struct NotOptimal {
     std::string printed;  // as the command prints it, without the end of its line: "x solution 0 0 NotMaximum"
     Flow better;
 
-    const std::string &message() const noexcept { return printed; }
+    std::string message() const { return printed; }
 };
 
 // The same with the text of a solution. It is missing if its cost is out of the range of such texts.
@@ -453,7 +453,7 @@ class PastLimit : public std::invalid_argument {
     PastLimit &operator=(const PastLimit &) = default;
 
     // The arc or the node, and the reason.
-    const Refused &refused() const noexcept { return *refused_; }
+    Refused refused() const { return *refused_; }
 
   protected:
     PastLimit(const Refused &refused, const std::string &line)
@@ -491,6 +491,7 @@ class [[nodiscard]] Answer {
     // stands in a variable; `*` of any other returns its yes by value.
     const Yes &operator*() const & noexcept { return *std::get_if<0>(&it_); }
     Yes operator*() && { return std::move(*std::get_if<0>(&it_)); }
+    const Yes &operator*() const && = delete;
     const Yes *operator->() const & noexcept { return std::get_if<0>(&it_); }
     const Yes *operator->() const && = delete;
 
@@ -503,6 +504,7 @@ class [[nodiscard]] Answer {
         if (!has_value()) throw BadAnswer(message());
         return std::move(*std::get_if<0>(&it_));
     }
+    const Yes &value() const && = delete;
 
     // The yes or the no of this type, or null if the answer is another one.
     template <class It>
@@ -534,6 +536,7 @@ class [[nodiscard]] Answer {
     // All of them, for std::visit.
     const std::variant<Yes, No...> &variant() const & noexcept { return it_; }
     std::variant<Yes, No...> variant() && { return std::move(it_); }
+    const std::variant<Yes, No...> &variant() const && = delete;
 
   private:
     std::variant<Yes, No...> it_;

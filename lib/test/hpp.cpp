@@ -294,16 +294,32 @@ static constexpr bool is_safe = std::is_convertible_v<const Vectors &, View> && 
                                 !std::is_convertible_v<const Vectors, View> && !std::is_convertible_v<Answered, View>;
 static_assert(is_safe<MaxInstance, MaxVectors> && is_safe<MinInstance, MinVectors> && is_safe<Graph, GraphVectors>);
 
-/* An answer that is gone at once lends nothing. */
-template <class It, class = void, class = void>
+/* What is gone at once lends nothing: a use of it doesn't compile, or gives a value. */
+template <template <class> class Use, class It, class = void>
 static constexpr bool lends = false;
+template <template <class> class Use, class It>
+static constexpr bool lends<Use, It, std::void_t<Use<It>>> =
+    std::is_reference_v<Use<It>> || std::is_pointer_v<Use<It>>;
+template <template <class> class Use, class It = Answer<MaxVectors, Refused>>
+static constexpr bool lends_while_it_stands =
+    lends<Use, It &> && lends<Use, const It &> && !lends<Use, It> && !lends<Use, const It>;
 template <class It>
-static constexpr bool lends<It, std::void_t<decltype(std::declval<It>().operator->())>,
-                            std::void_t<decltype(std::declval<It>().template get_if<Refused>())>> = true;
-using Answered = Answer<MaxVectors, Refused>;
-static_assert(lends<Answered &> && lends<const Answered &> && !lends<Answered> && !lends<const Answered>);
-static_assert(!std::is_reference_v<decltype(*std::declval<Answered>())> &&
-              !std::is_reference_v<decltype(std::declval<Answered>().variant())>);
+using Arrow = decltype(std::declval<It>().operator->());
+template <class It>
+using No = decltype(std::declval<It>().template get_if<Refused>());
+template <class It>
+using Star = decltype(*std::declval<It>());
+template <class It>
+using Yes = decltype(std::declval<It>().value());
+template <class It>
+using Variant = decltype(std::declval<It>().variant());
+static_assert(lends_while_it_stands<Arrow> && lends_while_it_stands<No> && lends_while_it_stands<Star> &&
+              lends_while_it_stands<Yes> && lends_while_it_stands<Variant>);
+template <class It>
+using Message = decltype(std::declval<It>().message());
+static_assert(!lends<Message, Refused> && !lends<Message, NotOptimalText>);
+static_assert(!std::is_reference_v<decltype(Value(1).str())>);
+static_assert(!std::is_reference_v<decltype(std::declval<PastLimit>().refused())>);
 
 static void values() {
     static_assert(!converts<double> && !converts<float> && !converts<const char *> && !converts<std::nullptr_t>);

@@ -20,6 +20,9 @@ using Numbers = Graph::ArcMap<long long>;
 using Supplies = Graph::NodeMap<long long>;
 using Better = dimacs::NotOptimal<ours::Map<Graph, Arc, std::int64_t>>;
 using Refused = dimacs::RefusedAt<Node, Arc>;
+static_assert(!std::is_reference_v<decltype(std::declval<Refused>().message())>);
+static_assert(!std::is_reference_v<decltype(std::declval<dimacs::PastLimitAt<Node, Arc>>().at())>);
+static_assert(!std::is_reference_v<decltype(std::declval<dimacs::OutOfRangeAt<Node, Arc>>().at())>);
 
 enum { NODES = 2000, ARCS = 20000 };
 

@@ -25,7 +25,7 @@ struct RefusedAt {
     std::optional<Node> node;
     std::optional<Arc> arc;
 
-    const std::string &message() const noexcept { return printed; }
+    std::string message() const { return printed; }
 };
 
 // The first number of an instance that is past its limit. Nothing was judged.
@@ -38,7 +38,7 @@ class PastLimitAt : public PastLimit {
     PastLimitAt(const PastLimitAt &) = default;
     PastLimitAt &operator=(const PastLimitAt &) = default;
 
-    const RefusedAt<Node, Arc> &at() const noexcept { return *at_; }
+    RefusedAt<Node, Arc> at() const { return *at_; }
 
   private:
     std::shared_ptr<const RefusedAt<Node, Arc>> at_;
@@ -54,7 +54,7 @@ class OutOfRangeAt : public std::out_of_range {
     OutOfRangeAt(const OutOfRangeAt &) = default;
     OutOfRangeAt &operator=(const OutOfRangeAt &) = default;
 
-    const RefusedAt<Node, Arc> &at() const noexcept { return *at_; }
+    RefusedAt<Node, Arc> at() const { return *at_; }
 
   private:
     std::shared_ptr<const RefusedAt<Node, Arc>> at_;
