@@ -177,9 +177,11 @@ def parted(words):
     is_there = keep and os.path.lexists(keep)
     if is_there and not (os.path.isfile(keep) and content(keep).startswith(MARK.encode())):
         raise Failed(2, f"{keep}: this file is there, and isn't one that --keep wrote")
-    if keep and os.path.realpath(keep) in map(os.path.realpath, words[1:]):
-        raise Failed(2, f"{keep}: named twice")
-    return words[0], words[1 : count + 1], (words[count + 1 :] or [None])[0], keep
+    names, made = words[1 : count + 1], (words[count + 1 :] or [None])[0]
+    for written, others in (made, names), (keep, words[1:]):
+        if written and os.path.realpath(written) in map(os.path.realpath, others):
+            raise Failed(2, f"{written}: named twice")
+    return words[0], names, made, keep
 
 
 def checked(command, names, certificate, keep, folder):

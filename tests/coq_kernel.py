@@ -157,7 +157,7 @@ def keeping():
         names = ["an 'odd\" *).max", "b.solution"]
         for name, source in zip(names, PIPES):
             shutil.copy(source, f"{folder}/{name}")
-        words = ["certify-max", *names]
+        words, solution = ["certify-max", *names], files.read(names[1])
         answer = checked([*words, "--keep", "Kept.v"], folder)
         with open(f"{folder}/Kept.v", encoding="ascii") as it:
             kept = it.read()
@@ -172,8 +172,12 @@ def keeping():
         for name in ("Mine.v", "Link.v", "a b.v", "Kept.txt"):
             answer = checked([*words, "--keep", name], folder)
             yield f"{name} isn't written", answer[:2] == (2, "") and files.read("Mine.v") == kept[1:] and not os.path.exists(f"{folder}/nowhere"), answer
-        answer = checked([*words, "New.v", "--keep", "New.v"], folder)
-        yield "two files of one name", answer[:2] == (2, ""), answer
+        for more in (["New.v", "--keep", "New.v"], [names[1]]):
+            answer = checked([*words, *more], folder)
+            yield f"one file by two names: {more[0]}", answer[:2] == (2, "") and files.read(names[1]) == solution, answer
+        os.link(f"{folder}/{names[1]}", f"{folder}/linked")
+        answer = ran([f"{BUILT}/judge", *words, "linked"], folder)
+        yield "the judge replaces no claim", answer[0] == 2 and "linked: is read" in answer[2] and files.read("linked") == solution, answer
         answer = checked(words, folder, env={"PATH": "/nowhere"})
         yield "no coqc", answer[:2] == (3, "") and "there is no coqc" in answer[2], answer
         for wrong in ("", "max", "max a b c d", "certify-max a", "other a b c", "certify-max a b --keep"):

@@ -5,6 +5,7 @@ external end_with_4 : unit -> unit = "judge_ends_with_4"
 let () = end_with_4 ()
 
 exception Usage
+exception Slip of string
 exception Device of string
 
 let usage =
@@ -58,9 +59,19 @@ let noted lines_of finding = found := lines_of finding; finding
 let flows = noted (function Judge.Shown lines | Judge.Better lines -> lines)
 let labels = noted Fun.id
 
+(* A file that is read isn't written over. *)
+let refuse_to_replace read made =
+  let file name =
+    match Unix.stat name with
+    | { st_kind = S_REG; st_dev; st_ino; _ } -> Some (st_dev, st_ino)
+    | _ | exception Unix.Unix_error _ -> None in
+  if List.exists (fun name -> file name <> None && file name = file made) read then
+    raise (Slip (made ^ ": is read, so it isn't written"))
+
 (* The first line of the report is printed. The file gets the others, if there are any, or by `found-` what was found, for
    kernel.py. A search that fails is a wrong one. *)
 let certify word command (names, made) =
+  Option.iter (refuse_to_replace names) made;
   let state = after_texts command names in
   let yes, lines =
     try Option.get (Judge.report_of (Judge.text_ended command state)) with
@@ -150,6 +161,7 @@ let status =
     if yes then 0 else if lines = gave_up then 5 else 1
   with
   | Usage -> complain 2 ("usage\n" ^ usage)
+  | Slip message -> complain 2 message
   | Device message -> complain 3 ("device fault\njudge: " ^ message)
   | Out_of_memory | Stack_overflow -> complain 4 "out of memory"
 
