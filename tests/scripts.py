@@ -29,7 +29,7 @@ nothing | 14     | tests/theorem.py
 nothing | 140    | tests/limits.py
 nothing | 110    | tests/man_pages.py
 program | 13580  | tests/referee.py {program}
-program | 48     | tests/coq_kernel.py {program}
+program | 50     | tests/coq_kernel.py {program}
 program | 4      | tests/plain_recipes.py {program}
 program | 290    | tests/batch.py {program}
 program | 150    | tests/large_runs.py {program}
