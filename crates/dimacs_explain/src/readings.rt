@@ -5,29 +5,27 @@ use dimacs_claims::{
     Cut, Labels, Potentials, Solution, read_cut, read_distances, read_labels, read_potentials,
     read_solution,
 };
-use dimacs_instance::{
-    Graph, MaxInstance, MinInstance, read_plain_graph, read_plain_max, read_plain_min,
-};
+use dimacs_instance::{Graph, MaxInstance, MinInstance};
 use dimacs_judging::{Flow, flow_of};
 use dimacs_lines::Source;
 use dimacs_network::{ArcView, CapacityArc, Network, PlainArcs, WeightArc};
 use dimacs_quote::{OrStop, Reopen, Stop, TextFile};
-use dimacs_records::TextKind;
+use dimacs_records::{Text, TextKind};
 
 impl<'a, A: Reopen> Explanation<'a, A> {
     pub(crate) fn max_instance(&self) -> OrStop<'a, MaxInstance<PlainArcs<CapacityArc>>> {
         let text = self.page.texts.instance()?;
-        read_plain_max(self.page.alloc, &mut self.page.source(text)?).map_err(|_| text.unread())
+        MaxInstance::read(self.page.alloc, &mut self.page.source(text)?).map_err(|_| text.unread())
     }
 
     pub(crate) fn min_instance(&self) -> OrStop<'a, MinInstance<PlainArcs<ArcView>>> {
         let text = self.page.texts.instance()?;
-        read_plain_min(self.page.alloc, &mut self.page.source(text)?).map_err(|_| text.unread())
+        MinInstance::read(self.page.alloc, &mut self.page.source(text)?).map_err(|_| text.unread())
     }
 
     pub(crate) fn graph(&self) -> OrStop<'a, Graph<PlainArcs<WeightArc>>> {
         let text = self.page.texts.instance()?;
-        read_plain_graph(self.page.alloc, &mut self.page.source(text)?).map_err(|_| text.unread())
+        Graph::read(self.page.alloc, &mut self.page.source(text)?).map_err(|_| text.unread())
     }
 
     pub(crate) fn solution(&self) -> OrStop<'a, Solution> {

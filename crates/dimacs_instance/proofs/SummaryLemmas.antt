@@ -13,7 +13,7 @@ use Rattle.dimacs_records.proofs.ReadLaws.{spells_one_value}
 use Rattle.dimacs_network.specs.{declared.network.ArcView.{ArcView}, Arcs.{JoinsNodes}, KeptArcs.{weight_arc}}
 use Rattle.dimacs_instance.specs.Graph.{GivesGraph, HasWeightAlone, graph_arc}
 use Rattle.dimacs_instance.specs.Summaries.{ReadsSummary, SumsUpGraph, GivesSummary, IsGraphCountedBy, counted_lines}
-use Rattle.dimacs_instance.specs.declared.summaries.graph.GraphNodesBuilder.{GraphNodesBuilder}
+use Rattle.dimacs_instance.specs.declared.summaries.graph.GraphCount.{GraphCount}
 use Rattle.dimacs_instance.proofs.GraphLemmas.{plain_context_by_records}
 use Rattle.dimacs_records.specs.declared.faults.ReadError.TheVariants as read_errors
 
@@ -28,7 +28,7 @@ counted_none nodes declared nodes_few arcs_few = record {
   arcs = refl;
 }
 
-module _ (c : GraphNodesBuilder) (tail head : ℕ) (weight : ℤ) (passes : Passes (counted_lines c) (GraphArc tail head weight)) where
+module _ (c : GraphCount) (tail head : ℕ) (weight : ℤ) (passes : Passes (counted_lines c) (GraphArc tail head weight)) where
   arc_room : c.arcs < c.declared
   arc_room = grind (arith, nat_tests, passes.room)
 
@@ -55,10 +55,10 @@ module _ (c : GraphNodesBuilder) (tail head : ℕ) (weight : ℤ) (passes : Pass
         arcs = omega (arith, length-append b.arcs (arc ∷ []), counted.arcs);
       }
 
-pub counted_by_records : (c : GraphNodesBuilder) (rs : List Record) → IsGraphCountedBy c rs → counted_lines c ≡ plain_context_after rs
+pub counted_by_records : (c : GraphCount) (rs : List Record) → IsGraphCountedBy c rs → counted_lines c ≡ plain_context_after rs
 counted_by_records c rs counted = rw (counted.nodes, counted.declared, counted.arcs, counted.records) (plain_context_by_records counted.begun)
 
-pub gives_graph_summary : (c : GraphNodesBuilder) → PassesEnd Graph (counted_lines c) → (rs : List LineRecord) → IsGraphCountedBy c (records_of rs) → GivesSummary GivesGraph SumsUpGraph rs (record { nodes = c.nodes; arcs = c.arcs })
+pub gives_graph_summary : (c : GraphCount) → PassesEnd Graph (counted_lines c) → (rs : List LineRecord) → IsGraphCountedBy c (records_of rs) → GivesSummary GivesGraph SumsUpGraph rs (record { nodes = c.nodes; arcs = c.arcs })
 gives_graph_summary c p rs counted =
     let b = counted.begun in
     let short : c.declared ≤ c.arcs = grind (arith, nat_tests, p.finished) in

@@ -11,7 +11,7 @@ use Rattle.dimacs_instance.specs.declared.summaries.min.MinNodes.{MinNodes}
 use Rattle.dimacs_instance.specs.declared.summaries.min.MinSummary.{MinSummary}
 use Rattle.dimacs_instance.specs.declared.summaries.graph.GraphSummary.{GraphSummary}
 use Rattle.dimacs_instance.specs.GraphReading.{GraphBegun, graph_begun_records, IsGraphBegun}
-use Rattle.dimacs_instance.specs.declared.summaries.graph.GraphNodesBuilder.{GraphNodesBuilder}
+use Rattle.dimacs_instance.specs.declared.summaries.graph.GraphCount.{GraphCount}
 
 -- the summary of the value that the text spells, or why it spells none
 abbrev pub ReadsSummary : {T V : Type 0} → (T → V → Type 0) → (V → Type 0) → (ℕ → ℕ → Reason → Type 0) → Result T ReadError → Type 0
@@ -60,7 +60,7 @@ abbrev pub GivesSummary : {T V : Type 0} → (List LineRecord → V → Type 0) 
 GivesSummary {T} {V} gives sums_up rs summary = (value : V) × gives rs value × sums_up summary value
 
 -- these records may lead to this state; their arcs are counted
-pub record IsGraphCountedBy (c : GraphNodesBuilder) (rs : List Record) : Type 0 where
+pub record IsGraphCountedBy (c : GraphCount) (rs : List Record) : Type 0 where
   pub begun : GraphBegun
   pub is_begun : IsGraphBegun begun
   pub records : rs ≡ graph_begun_records begun
@@ -69,5 +69,5 @@ pub record IsGraphCountedBy (c : GraphNodesBuilder) (rs : List Record) : Type 0 
   pub arcs : c.arcs ≡ length begun.arcs
 
 -- what the tests need after the problem line and these arcs
-abbrev pub counted_lines : GraphNodesBuilder → Context
+abbrev pub counted_lines : GraphCount → Context
 counted_lines c = plain_context_of (Some (record { nodes = Some c.nodes; count = c.declared })) c.arcs

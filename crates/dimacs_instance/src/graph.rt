@@ -10,7 +10,7 @@ mod writing;
 
 use dimacs_lines::Memory;
 use dimacs_network::{ForwardStar, Network, PlainArcs, StoredArc, WeightArc};
-pub use reading::{GraphBuilder, GraphReading, read_graph, read_plain_graph};
+pub use reading::{GraphBuilder, GraphReading, read_graph};
 use std::alloc::Global;
 use std::marker::Model;
 pub use writing::write_graph;

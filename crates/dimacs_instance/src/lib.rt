@@ -12,9 +12,9 @@ mod queries;
 mod summaries;
 
 pub use dimacs_network::{ArcView, CapacityArc, ForwardStar, Network, PlainArcs, WeightArc};
-pub use graph::{Graph, GraphReading, read_graph, read_plain_graph, write_graph};
-pub use max::{MaxInstance, MaxReading, read_max, read_plain_max, write_max};
-pub use min::{MinInstance, MinReading, SupplySums, read_min, read_plain_min, write_min};
+pub use graph::{Graph, GraphReading, read_graph, write_graph};
+pub use max::{MaxInstance, MaxReading, read_max, write_max};
+pub use min::{MinInstance, MinReading, SupplySums, read_min, write_min};
 pub use queries::{LawfulQueries, Queries, QueriesReading, read_queries, write_queries};
 pub use summaries::{
     GraphNodesReading, GraphSummary, MaxNodesReading, MaxSummary, MinNodes, MinNodesReading,

@@ -12,7 +12,7 @@ mod writing;
 use dimacs_lines::Memory;
 use dimacs_network::{CapacityArc, ForwardStar, Network, PlainArcs, StoredArc};
 pub(crate) use ends::{EndLine, EndLines};
-pub use reading::{MaxBuilder, MaxReading, read_max, read_plain_max};
+pub use reading::{MaxBuilder, MaxReading, read_max};
 use std::alloc::Global;
 use std::marker::Model;
 pub use writing::write_max;

@@ -11,7 +11,7 @@ mod writing;
 
 use dimacs_lines::Memory;
 use dimacs_network::{ArcView, ForwardStar, Network, NodeMap, PlainArcs, StoredArc};
-pub use reading::{MinBuilder, MinReading, read_min, read_plain_min};
+pub use reading::{MinBuilder, MinReading, read_min};
 use std::alloc::Global;
 use std::marker::Model;
 pub use writing::write_min;

@@ -12,7 +12,7 @@ mod min;
 use dimacs_lines::{DeviceFault, Sink, Source};
 use dimacs_records::{ReadError, TextKind};
 pub use graph::{GraphNodesReading, GraphSummary};
-pub(crate) use max::MaxNodesBuilder;
+pub(crate) use max::MaxCount;
 pub use max::{MaxNodesReading, MaxSummary};
 pub use min::{MinNodes, MinNodesReading, MinSummary};
 use std::alloc::Global;

@@ -109,17 +109,6 @@ pub fn read_graph<S: Source>(
     read_counted::<GraphBuilder<ForwardStar<WeightArc>>, S>(alloc, source)
 }
 
-/// The same, without an index of its arcs.
-pub fn read_plain_graph<S: Source>(
-    alloc: Global,
-    source: &mut S,
-) -> Result<Graph<PlainArcs<WeightArc>>, ReadError>
-    ensures reads { (text : List ℕ) → S.coming source.old ≡ Some text → Reads (SpellsGraph text) (Fault kinds.Graph (lines text)) result }
-    ensures faults { CountsRead result (S.faults source.old) (S.faults source.new) }
-{
-    read_counted::<GraphBuilder<PlainArcs<WeightArc>>, S>(alloc, source)
-}
-
 impl<N: OfWeightArcs + Drop> Text for Graph<N> {
     fn read<S: Source>(alloc: Global, source: &mut S) -> Result<Self, ReadError> {
         read_counted::<GraphBuilder<N>, S>(alloc, source)

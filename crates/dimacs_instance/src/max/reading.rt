@@ -8,7 +8,7 @@ ghost use Rattle.dimacs_instance.specs.MaxTexts.{GivesMax, SpellsMax};
 ghost use Rattle.dimacs_instance.specs.MaxReading.{context, end_context, count_of, max_begun_records};
 
 use crate::max::{EndLine, EndLines, MaxInstance};
-use crate::summaries::MaxNodesBuilder;
+use crate::summaries::MaxCount;
 use dimacs_lines::{Memory, Source};
 use dimacs_network::{CapacityArc, ForwardStar, Network, OfCapacityArcs, PlainArcs};
 use dimacs_records::{
@@ -42,10 +42,10 @@ impl<N: OfCapacityArcs> Model for MaxBuilder<N> {
 
 impl<N: OfCapacityArcs> MaxBuilder<N> {
     #[inline(always)]
-    fn with_arcs_counted(&self) -> MaxNodesBuilder
+    fn count(&self) -> MaxCount
         ensures { result ≡ count_of self.now }
     {
-        MaxNodesBuilder {
+        MaxCount {
             nodes: self.arcs.nodes(),
             declared: self.declared,
             ends: self.ends,
@@ -87,7 +87,7 @@ impl<N: OfCapacityArcs> Builder for MaxBuilder<N> {
     #[tactic(auto, using(crate::proofs::MaxLemmas::context_by_records))]
     #[inline(always)]
     fn context(&self, rec: Record) -> Context {
-        self.with_arcs_counted().context(rec)
+        self.count().context(rec)
     }
 
     #[inline(always)]
@@ -108,7 +108,7 @@ impl<N: OfCapacityArcs> Builder for MaxBuilder<N> {
     #[tactic(auto, using(crate::proofs::MaxLemmas::end_context_by_records))]
     #[inline(always)]
     fn end_context(&self) -> Context {
-        self.with_arcs_counted().end_context()
+        self.count().end_context()
     }
 
     fn value(self, alloc: Global) -> Result<MaxInstance<N>, Memory> {
@@ -132,17 +132,6 @@ pub fn read_max<S: Source>(
     ensures faults { CountsRead result (S.faults source.old) (S.faults source.new) }
 {
     read_counted::<MaxBuilder<ForwardStar<CapacityArc>>, S>(alloc, source)
-}
-
-/// The same, without an index of its arcs.
-pub fn read_plain_max<S: Source>(
-    alloc: Global,
-    source: &mut S,
-) -> Result<MaxInstance<PlainArcs<CapacityArc>>, ReadError>
-    ensures reads { (text : List ℕ) → S.coming source.old ≡ Some text → Reads (SpellsMax text) (Fault kinds.Max (lines text)) result }
-    ensures faults { CountsRead result (S.faults source.old) (S.faults source.new) }
-{
-    read_counted::<MaxBuilder<PlainArcs<CapacityArc>>, S>(alloc, source)
 }
 
 impl<N: OfCapacityArcs + Drop> Text for MaxInstance<N> {

@@ -141,17 +141,6 @@ pub fn read_min<S: Source>(
     read_counted::<MinBuilder<ForwardStar<ArcView>>, S>(alloc, source)
 }
 
-/// The same, without an index of its arcs.
-pub fn read_plain_min<S: Source>(
-    alloc: Global,
-    source: &mut S,
-) -> Result<MinInstance<PlainArcs<ArcView>>, ReadError>
-    ensures reads { (text : List ℕ) → S.coming source.old ≡ Some text → Reads (SpellsMin text) (Fault kinds.Min (lines text)) result }
-    ensures faults { CountsRead result (S.faults source.old) (S.faults source.new) }
-{
-    read_counted::<MinBuilder<PlainArcs<ArcView>>, S>(alloc, source)
-}
-
 impl<N: OfCostArcs + Drop> Text for MinInstance<N> {
     fn read<S: Source>(alloc: Global, source: &mut S) -> Result<Self, ReadError> {
         read_counted::<MinBuilder<N>, S>(alloc, source)

@@ -39,7 +39,7 @@ impl Summary for GraphSummary {
     }
 
     fn read<S: Source>(alloc: Global, source: &mut S) -> Result<GraphSummary, ReadError> {
-        read_counted::<GraphNodesBuilder, S>(alloc, source)
+        read_counted::<GraphCount, S>(alloc, source)
     }
 
     fn show<K: Sink>(&self, sink: &mut K) -> Result<(), DeviceFault> {
@@ -56,17 +56,17 @@ impl Summary for GraphSummary {
 }
 
 /// Reads the records of a graph, and keeps its nodes, of the arcs only how many they are.
-pub type GraphNodesReading = CountedReading<GraphNodesBuilder>;
+pub type GraphNodesReading = CountedReading<GraphCount>;
 
 /// A graph while its text is read, with the arcs only counted.
 #[derive(Clone, Copy)]
-pub struct GraphNodesBuilder {
+pub struct GraphCount {
     nodes: u32,
     declared: u32,
     arcs: u32,
 }
 
-impl Builder for GraphNodesBuilder {
+impl Builder for GraphCount {
     type Value = GraphSummary;
 
     ghost kind = { kinds.Graph };
@@ -85,11 +85,11 @@ impl Builder for GraphNodesBuilder {
     }
 
     #[tactic(auto, using(crate::proofs::SummaryLemmas::counted_none))]
-    fn begin(_alloc: Global, problem: Record) -> GraphNodesBuilder {
+    fn begin(_alloc: Global, problem: Record) -> GraphCount {
         let Record::GraphProblem { nodes, arcs } = problem else {
             unreachable!()
         };
-        GraphNodesBuilder {
+        GraphCount {
             nodes,
             declared: arcs,
             arcs: 0,

@@ -43,7 +43,7 @@ impl Summary for MaxSummary {
     }
 
     fn read<S: Source>(alloc: Global, source: &mut S) -> Result<MaxSummary, ReadError> {
-        read_counted::<MaxNodesBuilder, S>(alloc, source)
+        read_counted::<MaxCount, S>(alloc, source)
     }
 
     fn show<K: Sink>(&self, sink: &mut K) -> Result<(), DeviceFault> {
@@ -62,18 +62,18 @@ impl Summary for MaxSummary {
 }
 
 /// Reads the records of a maximum flow instance, and keeps its nodes, of the arcs only how many they are.
-pub type MaxNodesReading = CountedReading<MaxNodesBuilder>;
+pub type MaxNodesReading = CountedReading<MaxCount>;
 
 /// A maximum flow instance while its text is read, with the arcs only counted.
 #[derive(Drop)]
-pub struct MaxNodesBuilder {
+pub struct MaxCount {
     pub(crate) nodes: u32,
     pub(crate) declared: u32,
     pub(crate) ends: EndLines,
     pub(crate) arcs: u32,
 }
 
-impl Model for MaxNodesBuilder {
+impl Model for MaxCount {
     ghost use Rattle.dimacs_instance.specs.MaxReading.{MaxCount};
     ghost use Rattle.dimacs_instance.specs.MaxReading.{EndsAreDistinct};
 
@@ -84,7 +84,7 @@ impl Model for MaxNodesBuilder {
     ghost invariant = { λ c. EndsAreDistinct c.ends };
 }
 
-impl MaxNodesBuilder {
+impl MaxCount {
     /// The context if source and sink don't matter.
     #[inline(always)]
     fn plain_context(&self) -> Context
@@ -96,7 +96,7 @@ impl MaxNodesBuilder {
     }
 }
 
-impl Builder for MaxNodesBuilder {
+impl Builder for MaxCount {
     type Value = MaxSummary;
 
     ghost kind = { kinds.Max };
@@ -115,11 +115,11 @@ impl Builder for MaxNodesBuilder {
     }
 
     #[tactic(auto, using(crate::proofs::MaxCountLemmas::counted_none))]
-    fn begin(_alloc: Global, problem: Record) -> MaxNodesBuilder {
+    fn begin(_alloc: Global, problem: Record) -> MaxCount {
         let Record::MaxProblem { nodes, arcs } = problem else {
             unreachable!()
         };
-        MaxNodesBuilder {
+        MaxCount {
             nodes,
             declared: arcs,
             ends: EndLines::Neither,

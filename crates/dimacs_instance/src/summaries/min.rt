@@ -44,7 +44,7 @@ impl Summary for MinSummary {
     }
 
     fn read<S: Source>(alloc: Global, source: &mut S) -> Result<MinSummary, ReadError> {
-        Ok(read_counted::<MinNodesBuilder, S>(alloc, source)?.summary())
+        Ok(read_counted::<MinCount, S>(alloc, source)?.summary())
     }
 
     fn show<K: Sink>(&self, sink: &mut K) -> Result<(), DeviceFault> {
@@ -85,11 +85,11 @@ impl MinNodes {
 }
 
 /// Reads the records of a minimum cost flow instance, and keeps its nodes, of the arcs only how many they are.
-pub type MinNodesReading = CountedReading<MinNodesBuilder>;
+pub type MinNodesReading = CountedReading<MinCount>;
 
 /// A minimum cost flow instance while its text is read, with the arcs only counted.
 #[derive(Drop)]
-pub struct MinNodesBuilder {
+pub struct MinCount {
     nodes: u32,
     declared: u32,
     /// The supplies of the named nodes, some perhaps 0.
@@ -97,7 +97,7 @@ pub struct MinNodesBuilder {
     arcs: u32,
 }
 
-impl Model for MinNodesBuilder {
+impl Model for MinCount {
     ghost use Rattle.dimacs_instance.specs.MinReading.{MinCount};
     ghost use Rattle.dimacs_instance.specs.MinReading.{IsMinBegun};
     ghost use Rattle.dimacs_instance.specs.inside.MinReading.{without_arcs};
@@ -112,7 +112,7 @@ impl Model for MinNodesBuilder {
     ghost invariant = { λ c. IsMinBegun (without_arcs (record { nodes = c.nodes; declared = c.declared; supplies = c.supplies; arcs = c.arcs })) };
 }
 
-impl Builder for MinNodesBuilder {
+impl Builder for MinCount {
     type Value = MinNodes;
 
     ghost kind = { kinds.Min };
@@ -129,11 +129,11 @@ impl Builder for MinNodesBuilder {
         TextKind::Min
     }
 
-    fn begin(alloc: Global, problem: Record) -> MinNodesBuilder {
+    fn begin(alloc: Global, problem: Record) -> MinCount {
         let Record::MinProblem { nodes, arcs } = problem else {
             unreachable!()
         };
-        MinNodesBuilder {
+        MinCount {
             nodes,
             declared: arcs,
             supplies: NodeMap::new(alloc),

@@ -1,7 +1,7 @@
 use Rattle.std.proofs.Common.{◌≤◌, rules}
 use Rattle.dimacs_lines.specs.Limits.{most_count, most_nodes}
 use Rattle.dimacs_instance.proofs.{MinLemmas.{new_law}, MinCountLemmas.{counted_none}}
-use Rattle.dimacs_instance.proofs.summaries.min.MinNodesBuilderBuilder.begin.Goals as goal
+use Rattle.dimacs_instance.proofs.summaries.min.MinCountBuilder.begin.Goals as goal
 
 pub invariant_of-result : goal.invariant_of-result
 invariant_of-result c =

@@ -1,7 +1,7 @@
 use Rattle.std.proofs.Common.{refl}
 use Rattle.dimacs_records.specs.declared.records.Record.TheVariants.{MaxNode, MaxProblem}
 use Rattle.dimacs_instance.proofs.MaxCountLemmas.{counted_by_records}
-use Rattle.dimacs_instance.proofs.summaries.max.MaxNodesBuilderBuilder.context.Goals as goal
+use Rattle.dimacs_instance.proofs.summaries.max.MaxCountBuilder.context.Goals as goal
 
 pub returns-in-MaxNode-clause-of_records : goal.returns-in-MaxNode-clause-of_records
 returns-in-MaxNode-clause-of_records c = λ rs counted.

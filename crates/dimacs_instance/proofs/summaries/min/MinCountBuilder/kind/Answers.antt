@@ -1,7 +1,7 @@
 use Rattle.std.proofs.Common.{ap, sym, ◌∙◌}
 use Rattle.dimacs_instance.specs.Summaries.{min_nodes}
 use Rattle.dimacs_instance.proofs.MinTextLemmas.{min_faultless, one_min}
-use Rattle.dimacs_instance.proofs.summaries.min.MinNodesBuilderBuilder.kind.Goals as goal
+use Rattle.dimacs_instance.proofs.summaries.min.MinCountBuilder.kind.Goals as goal
 
 pub returns-clause-faultless : goal.returns-clause-faultless
 returns-clause-faultless c = λ rs s given. min_faultless rs given.0 given.1

@@ -1,6 +1,6 @@
 use Rattle.std.proofs.{Common.{◌≤◌, w64, SFits, rules, arith}, lemmas.Int.{ints}}
 use Rattle.dimacs_instance.proofs.MaxCountLemmas.{one_more_arc, one_more_node}
-use Rattle.dimacs_instance.proofs.summaries.max.MaxNodesBuilderBuilder.keep.Goals as goal
+use Rattle.dimacs_instance.proofs.summaries.max.MaxCountBuilder.keep.Goals as goal
 
 pub returns-in-MaxArc-clause-added : goal.returns-in-MaxArc-clause-added
 returns-in-MaxArc-clause-added c = λ rs counted.

@@ -1,6 +1,6 @@
 use Rattle.dimacs_instance.specs.MinReading.{MinCount}
 use Rattle.dimacs_instance.proofs.MinCountLemmas.{gives_nodes, supplies_law}
-use Rattle.dimacs_instance.proofs.summaries.min.MinNodesBuilderBuilder.value.Goals as goal
+use Rattle.dimacs_instance.proofs.summaries.min.MinCountBuilder.value.Goals as goal
 
 pub invariant_of-without_arcs : goal.invariant_of-without_arcs
 invariant_of-without_arcs c =

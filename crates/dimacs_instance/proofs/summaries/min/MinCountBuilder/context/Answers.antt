@@ -1,7 +1,7 @@
 use Rattle.std.proofs.Common.{refl}
 use Rattle.dimacs_records.specs.declared.records.Record.TheVariants.{MinNode}
 use Rattle.dimacs_instance.proofs.MinCountLemmas.{counted_by_records}
-use Rattle.dimacs_instance.proofs.summaries.min.MinNodesBuilderBuilder.context.Goals as goal
+use Rattle.dimacs_instance.proofs.summaries.min.MinCountBuilder.context.Goals as goal
 
 pub returns-in-MinNode-clause-of_records : goal.returns-in-MinNode-clause-of_records
 returns-in-MinNode-clause-of_records c = λ rs counted.

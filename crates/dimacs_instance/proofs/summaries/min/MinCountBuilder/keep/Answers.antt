@@ -2,7 +2,7 @@ use Rattle.std.proofs.{Common.{◌≤◌, w64, SFits, rules, arith}, lemmas.Int.
 use Rattle.dimacs_network.specs.declared.network.ArcView.{ArcView}
 use Rattle.dimacs_instance.proofs.MinLemmas.{law_after_set}
 use Rattle.dimacs_instance.proofs.MinCountLemmas.{counted_node, one_more_arc, one_more_node}
-use Rattle.dimacs_instance.proofs.summaries.min.MinNodesBuilderBuilder.keep.Goals as goal
+use Rattle.dimacs_instance.proofs.summaries.min.MinCountBuilder.keep.Goals as goal
 
 pub invariant_of-self-in-Continue-1 : goal.invariant_of-self-in-Continue-1
 invariant_of-self-in-Continue-1 c =

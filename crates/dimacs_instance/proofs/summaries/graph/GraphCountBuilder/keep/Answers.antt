@@ -1,6 +1,6 @@
 use Rattle.std.proofs.{Common.{◌≤◌, w64, SFits, rules, arith}, lemmas.Int.{ints}}
 use Rattle.dimacs_instance.proofs.SummaryLemmas.{counted_more}
-use Rattle.dimacs_instance.proofs.summaries.graph.GraphNodesBuilderBuilder.keep.Goals as goal
+use Rattle.dimacs_instance.proofs.summaries.graph.GraphCountBuilder.keep.Goals as goal
 
 pub returns-clause-added : goal.returns-clause-added
 returns-clause-added c = λ rs counted.
