@@ -76,7 +76,7 @@ fn relax_node<N: Network, D: Distance>(
     while next > 0 {
         let place = next - 1;
         let arc = network.arc(lightest.arc_at(place));
-        if lightest.by_weight() && leads_past(radius, from, arc.cost) {
+        if lightest.weights_fall() && leads_past(radius, from, arc.cost) {
             return true;
         }
         if relax(arc, block, node_labels).is_err() {
