@@ -33,7 +33,7 @@ pub extern "C" fn dimacs_read_cut(
         }
         Err(error) => {
             *inside_needed = 0;
-            end_unread(alloc, b"certificate", error, out, needed)
+            end_unread(alloc, "certificate", error, out, needed)
         }
     }
 }

@@ -34,7 +34,7 @@ pub extern "C" fn dimacs_read_distances(
         }
         Err(error) => {
             *distances_needed = 0;
-            end_unfilled(alloc, b"distances", error, out, needed)
+            end_unfilled(alloc, "distances", error, out, needed)
         }
     }
 }

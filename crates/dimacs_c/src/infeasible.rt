@@ -67,7 +67,7 @@ fn certified(answer: &Result<InfeasibleCertified, ArrayError>) -> Printed<'_, u8
         },
         Ok(InfeasibleCertified::Feasible(flow)) => Printed {
             amounts: flow.amounts(),
-            ..Printed::only(Line::Fault(b"instance", WHOLE_TEXT, Reason::Feasible))
+            ..Printed::only(Line::Refused("instance", WHOLE_TEXT, Reason::Feasible))
         },
         Err(error) => Printed::only(Line::Error(*error)),
     }

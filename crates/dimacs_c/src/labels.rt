@@ -42,7 +42,7 @@ pub extern "C" fn dimacs_read_labels(
             *radius = 0;
             *distances_needed = 0;
             *predecessors_needed = 0;
-            end_unfilled(alloc, b"certificate", error, out, needed)
+            end_unfilled(alloc, "certificate", error, out, needed)
         }
     }
 }

@@ -10,8 +10,8 @@ use crate::answer::{MISUSED, NO_MEMORY, hand_printed};
 use dimacs_arrays::ArrayError;
 use dimacs_judging::{Verdict, Where};
 use dimacs_lines::{DeviceFault, MemorySink, Sink};
-use dimacs_records::{At, Part, Reason, put_line};
-use dimacs_runs::{put_failure, put_gave_up, put_verdict};
+use dimacs_records::{At, Reason};
+use dimacs_runs::{put_failure, put_gave_up, put_refusal, put_verdict};
 use std::alloc::Global;
 
 const DONE: u32 = 0;
@@ -36,8 +36,8 @@ pub(crate) enum Line<'a> {
     Yes(Verdict),
     /// A test fails.
     No(Where, Reason),
-    /// The text that this word names has a fault.
-    Fault(&'a [u8], At, Reason),
+    /// The text that this word names is refused at this place.
+    Refused(&'a str, At, Reason),
     GaveUp,
     /// A wrong length and out of memory have no line.
     Error(ArrayError),
@@ -69,7 +69,7 @@ impl<'a> Line<'a> {
             Line::Read => Ok(()),
             Line::Yes(verdict) => put_verdict(sink, verdict),
             Line::No(place, reason) => put_failure(sink, *place, *reason),
-            Line::Fault(text, place, reason) => put_fault(sink, text, *place, *reason),
+            Line::Refused(text, place, reason) => put_refusal(sink, text, *place, *reason),
             Line::GaveUp => put_gave_up(sink),
             Line::Error(ArrayError::Refused(place, reason) | ArrayError::Limit(place, reason)) => {
                 put_failure(sink, *place, *reason)
@@ -83,32 +83,12 @@ impl<'a> Line<'a> {
     {
         match self {
             Line::Read | Line::Yes(_) => DONE,
-            Line::No(_, _) | Line::Fault(_, _, _) | Line::Error(ArrayError::Refused(_, _)) => NO,
+            Line::No(_, _) | Line::Refused(_, _, _) | Line::Error(ArrayError::Refused(_, _)) => NO,
             Line::GaveUp => GAVE_UP,
             Line::Error(ArrayError::Limit(_, _) | ArrayError::Length(_)) => MISUSED,
             Line::Error(ArrayError::Memory) => NO_MEMORY,
         }
     }
-}
-
-fn put_fault<K: Sink>(
-    sink: &mut K,
-    text: &[u8],
-    place: At,
-    reason: Reason,
-) -> Result<(), DeviceFault>
-    ensures { Puts result (K.seen sink.old) (refusal_line text.now place.line place.field reason) (K.seen sink.new) }
-{
-    put_line(
-        sink,
-        b"x",
-        &[
-            Part::Word(text),
-            Part::Wide(i128::from(place.line)),
-            Part::Number(i64::from(place.field)),
-            Part::Word(reason.name().as_bytes()),
-        ],
-    )
 }
 
 /// Copies the line of a judge's answer, and returns its status.

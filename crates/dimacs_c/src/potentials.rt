@@ -33,7 +33,7 @@ pub extern "C" fn dimacs_read_potentials(
         }
         Err(error) => {
             *potentials_needed = 0;
-            end_unfilled(alloc, b"certificate", error, out, needed)
+            end_unfilled(alloc, "certificate", error, out, needed)
         }
     }
 }

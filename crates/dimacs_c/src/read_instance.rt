@@ -40,7 +40,7 @@ pub extern "C" fn dimacs_read_max(
             *source = 0;
             *sink = 0;
             *arcs = 0;
-            end_unread(alloc, b"instance", error, out, needed)
+            end_unread(alloc, "instance", error, out, needed)
         }
     }
 }
@@ -87,7 +87,7 @@ pub extern "C" fn dimacs_read_min(
             *nodes = 0;
             *arcs = 0;
             *supplies_needed = 0;
-            end_unread(alloc, b"instance", error, out, needed)
+            end_unread(alloc, "instance", error, out, needed)
         }
     }
 }
@@ -117,7 +117,7 @@ pub extern "C" fn dimacs_read_graph(
         Err(error) => {
             *nodes = 0;
             *arcs = 0;
-            end_unread(alloc, b"instance", error, out, needed)
+            end_unread(alloc, "instance", error, out, needed)
         }
     }
 }

@@ -25,7 +25,7 @@ pub(crate) fn end_read(needed: &mut usize) -> u32
 /// device that fails.
 pub(crate) fn end_unread(
     alloc: Global,
-    text: &[u8],
+    text: &str,
     error: ReadError,
     out: &mut [u8],
     needed: &mut usize,
@@ -34,7 +34,7 @@ pub(crate) fn end_unread(
 {
     match error {
         ReadError::Refused(place, reason) => {
-            Line::Fault(text, place, reason).hand(alloc, out, needed)
+            Line::Refused(text, place, reason).hand(alloc, out, needed)
         }
         ReadError::Device | ReadError::Memory => {
             misuse(needed);
@@ -46,7 +46,7 @@ pub(crate) fn end_unread(
 /// The same, or copies the line of the node that is refused.
 pub(crate) fn end_unfilled(
     alloc: Global,
-    text: &[u8],
+    text: &str,
     error: FillError,
     out: &mut [u8],
     needed: &mut usize,

@@ -6,8 +6,8 @@ use dimacs_quote::{Reopen, Said, Stop, Value, Wanted, say};
 use dimacs_records::{At, End, Reason, TextKind};
 
 impl<'a, A: Reopen> Explanation<'a, A> {
-    /// Explains the fault of a text of this kind.
-    pub fn explain_fault(&mut self, kind: TextKind, at: At, reason: Reason) {
+    /// Explains why a text of this kind is refused.
+    pub fn explain_refusal(&mut self, kind: TextKind, at: At, reason: Reason) {
         let said = match reason {
             Reason::Feasible => self.explain_feasible(),
             Reason::NodesDiffer => self.explain_nodes(),

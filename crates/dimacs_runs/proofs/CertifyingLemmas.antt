@@ -135,11 +135,11 @@ module _ (i : MinValue) where
   set_certifies set shown spelled = yes_writes set_apart (canonical_cut set) (set, shown, refl, spelled)
 
   -- a flow is feasible
-  pub feasible_certifies : (solution : Solution) → IsFeasibleText i (canonical_solution (claimed solution)) → MayCertify (CertifiesInfeasible i) (Ok (with_text (output_texts.Solution solution) (reports.Fault kinds.Min start Feasible)))
+  pub feasible_certifies : (solution : Solution) → IsFeasibleText i (canonical_solution (claimed solution)) → MayCertify (CertifiesInfeasible i) (Ok (with_text (output_texts.Solution solution) (reports.Refused kinds.Min start Feasible)))
   feasible_certifies solution says = better_writes set_apart (canonical_solution (claimed solution)) says
 
   -- a flow is feasible, but no solution can have its cost
-  pub no_solution_feasible : IsFeasibleText i [] → MayCertify (CertifiesInfeasible i) (Ok (with_text output_texts.Nothing (reports.Fault kinds.Min start Feasible)))
+  pub no_solution_feasible : IsFeasibleText i [] → MayCertify (CertifiesInfeasible i) (Ok (with_text output_texts.Nothing (reports.Refused kinds.Min start Feasible)))
   no_solution_feasible says = better_writes set_apart [] says
 
 module _ (g : NetworkValue) (d : LabelsValue) where

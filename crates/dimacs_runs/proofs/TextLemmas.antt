@@ -6,13 +6,14 @@ use Rattle.dimacs_records.specs.{declared.faults.ReadError.{ReadError}, declared
 use Rattle.dimacs_records.specs.declared.reasons.Reason.{Reason}
 use Rattle.dimacs_runs.specs.{declared.status.Status.{Status}, declared.status.Status.TheVariants.{Refused}}
 use Rattle.dimacs_runs.specs.{declared.status.RunError.{RunError}, declared.outcome.Outcome.{Outcome}}
-use Rattle.dimacs_runs.specs.{declared.report.Report.{Report}, declared.report.Report.TheVariants.{Fault}}
-use Rattle.dimacs_runs.specs.{declared.early_end.EarlyEnd.{EarlyEnd}, declared.texts_in_turn.ReadFailure.{ReadFailure}}
-use Rattle.dimacs_runs.specs.{Certified.{uncertified}, Outputs.{MayWrite, WritesAlike, report_of}}
-use Rattle.dimacs_runs.specs.{Refusals.{refusal_line}, Runs.{ReportsAlone, text_word}, Solved.{report_alone}}
+use Rattle.dimacs_runs.specs.{declared.report.Report.{Report}, declared.early_end.EarlyEnd.{EarlyEnd}}
+use Rattle.dimacs_runs.specs.{declared.texts_in_turn.ReadFailure.{ReadFailure}, Certified.{uncertified}}
+use Rattle.dimacs_runs.specs.{Outputs.{MayWrite, WritesAlike, report_of}, Refusals.{refusal_line}}
+use Rattle.dimacs_runs.specs.{Runs.{ReportsAlone, text_word}, Solved.{report_alone}}
 use Rattle.dimacs_runs.specs.inside.Judgings.{ReadsIn, StopsAt, TextSpells}
 use Rattle.dimacs_runs.specs.inside.Outcomes.{IfEnds, outcome_texts, reporting, outcome_of, unclaimed_texts, unread_end}
 use Rattle.dimacs_runs.specs.inside.Reports.{report_lines, report_status}
+use Rattle.dimacs_runs.specs.{declared.report.Report.TheVariants as reports}
 use Rattle.dimacs_records.specs.declared.faults.ReadError.TheVariants as read_errors
 
 -- a form of report: it depends only on the possible outcomes, and can report a refusal that is the only one
@@ -71,7 +72,7 @@ module _ {O : Type 0} (way : Way O) where
     unread_reported : (a : Status → O → Type 0) → ((l f : ℕ) (r : Reason) → text.fault l f r → a Refused (way.alone (refusal_line text.name l f r))) → ((s : Status) (o : O) → a s o → FaultLine s o ⊎ ((v : V) × text.spells v))
         → (kind : TextKind) (error : ReadError) → text_word kind ≡ text.name → ReadsIn text (Err error) → Ends a (outcome_of (Err (unread_end kind error)))
     unread_reported a to from kind (read_errors.Refused place reason) is read =
-        rw (way.lines (Fault kind place reason), is) (way.refused a (way.alone (refusal_line text.name place.line place.field reason)) (to place.line place.field reason read.0) only)
+        rw (way.lines (reports.Refused kind place reason), is) (way.refused a (way.alone (refusal_line text.name place.line place.field reason)) (to place.line place.field reason read.0) only)
       where
         only : (s : Status) (o : O) → a s o → (s ≡ Refused) × (o ≡ way.alone (refusal_line text.name place.line place.field reason))
         only s o h = elim (from s o h) [

@@ -47,7 +47,7 @@ fn answer_distances<N: Network>(
 {
     if distances.nodes() != graph.network().nodes() {
         let at = At { line: 0, field: 0 };
-        let report = Report::Fault(TextKind::Distances, at, Reason::NodesDiffer);
+        let report = Report::Refused(TextKind::Distances, at, Reason::NodesDiffer);
         return Err(EarlyEnd::Report(report));
     }
     answer_blocks(alloc, graph, distances)

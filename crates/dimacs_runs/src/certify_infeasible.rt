@@ -63,6 +63,6 @@ fn refuse_infeasible<N: Network>(
         None => OutputText::Nothing,
     };
     let at = At { line: 0, field: 0 };
-    let report = Report::Fault(TextKind::Min, at, Reason::Feasible);
+    let report = Report::Refused(TextKind::Min, at, Reason::Feasible);
     Ok(Outcome::with_text(text, report))
 }

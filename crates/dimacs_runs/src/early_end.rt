@@ -38,7 +38,7 @@ impl From<ReadFailure> for EarlyEnd {
     fn from(unread: ReadFailure) -> EarlyEnd {
         match unread.error {
             ReadError::Refused(place, reason) => {
-                EarlyEnd::Report(Report::Fault(unread.kind, place, reason))
+                EarlyEnd::Report(Report::Refused(unread.kind, place, reason))
             }
             ReadError::Device => EarlyEnd::Error(RunError::Device),
             ReadError::Memory => EarlyEnd::Error(RunError::Memory),

@@ -49,6 +49,7 @@ pub use laws::{
     canonical_is_a_fixed_point, certified_is_judged_yes, enough_limit_never_gives_up,
     solved_is_judged_yes, true_claims_are_certified,
 };
+pub use refusal::put_refusal;
 pub use report::Report;
 pub use solve::run_solve;
 pub use spread::run_spread;

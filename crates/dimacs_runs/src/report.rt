@@ -20,8 +20,8 @@ pub enum Report {
     Distances(u32),
     /// The first test that fails.
     No(Where, Reason),
-    /// The fault of a text of this kind.
-    Fault(TextKind, At, Reason),
+    /// A text of this kind is refused at this place: where it has a fault, or as a whole.
+    Refused(TextKind, At, Reason),
     /// A solver gave up.
     GaveUp,
     /// No line: a solution was dealt out.
@@ -34,7 +34,7 @@ impl Report {
     {
         match self {
             Report::Yes(_) | Report::Distances(_) | Report::Nothing => Status::Done,
-            Report::No(..) | Report::Fault(..) => Status::Refused,
+            Report::No(..) | Report::Refused(..) => Status::Refused,
             Report::GaveUp => Status::GaveUp,
         }
     }
@@ -46,7 +46,7 @@ impl Report {
             Report::Yes(verdict) => put_verdict(sink, verdict),
             Report::Distances(sources) => put_distances(sink, *sources),
             Report::No(place, reason) => put_failure(sink, *place, *reason),
-            Report::Fault(kind, place, reason) => {
+            Report::Refused(kind, place, reason) => {
                 put_refusal(sink, text_name(*kind), *place, *reason)
             }
             Report::GaveUp => put_gave_up(sink),

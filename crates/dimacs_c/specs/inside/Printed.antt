@@ -5,7 +5,7 @@ use Rattle.dimacs_arrays.specs.{declared.error.ArrayError.{ArrayError}, declared
 use Rattle.dimacs_runs.specs.{Refusals.{refusal_line}, Verdicts.{failure_line, gave_up_line, verdict_lines}}
 use Rattle.dimacs_c.specs.{ArrayTexts.{value_read}, Arrays.{Printed, error_line, error_status}}
 use Rattle.dimacs_c.specs.{Calls.{Handed, HandsNothing, HandsOut}, declared.lines.Line.{Line}}
-use Rattle.dimacs_c.specs.declared.lines.Line.TheVariants.{Read, Yes, No, Fault, GaveUp, Error}
+use Rattle.dimacs_c.specs.declared.lines.Line.TheVariants.{Read, Yes, No, Refused, GaveUp, Error}
 use Rattle.dimacs_c.specs.declared.printed.Printed as printed
 
 -- the status of a line
@@ -13,7 +13,7 @@ abbrev pub line_status : Line → ℕ
 line_status Read = 0
 line_status (Yes verdict) = 0
 line_status (No place reason) = 1
-line_status (Fault text place reason) = 1
+line_status (Refused text place reason) = 1
 line_status GaveUp = 5
 line_status (Error error) = error_status error
 
@@ -21,7 +21,7 @@ abbrev pub line_text : Line → List ℕ
 line_text Read = []
 line_text (Yes verdict) = verdict_lines verdict
 line_text (No place reason) = failure_line place reason
-line_text (Fault text place reason) = refusal_line text.now place.line place.field reason
+line_text (Refused text place reason) = refusal_line text.now place.line place.field reason
 line_text GaveUp = gave_up_line
 line_text (Error error) = error_line error
 

@@ -79,7 +79,7 @@ EndsWriting (Err error) result old new = (result ≡ Err error) × (new ≡ old)
 
 -- why a run stops: a text of this kind can't be read, or a judge or a solver has an error
 abbrev pub unread_end : TextKind → ReadError → EarlyEnd
-unread_end kind (read_errors.Refused place reason) = stops.Report (reports.Fault kind place reason)
+unread_end kind (read_errors.Refused place reason) = stops.Report (reports.Refused kind place reason)
 unread_end kind read_errors.Device = Error Device
 unread_end kind read_errors.Memory = Error Memory
 
