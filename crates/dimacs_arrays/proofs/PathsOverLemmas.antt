@@ -1,5 +1,5 @@
 -- Queries and distances from arrays.
-use Rattle.std.proofs.Common.{◌≡◌, ◌≢◌, ◌∙◌, inl, inr, ℕ, ◌+◌, ◌-◌, ◌<◌, ◌≤◌, ◌==◌, ◌++◌, Bool, true, false, List, [], ◌∷◌, All, get_or, length, min, take, Option, None, Some, IfSome, IsSome, refl, sym, ap, subst, ℤ, arith}
+use Rattle.std.proofs.Common.{◌≡◌, ◌≢◌, ◌∙◌, inl, inr, ℕ, ◌+◌, ◌-◌, ◌<◌, ◌≤◌, ◌==◌, ◌++◌, true, List, [], ◌∷◌, All, get_or, length, min, take, Option, None, Some, IfSome, IsSome, refl, sym, ap, subst, ℤ, arith}
 use Rattle.std.proofs.{lemmas.Bool.{ne_eqb}, lemmas.Bool.Decides.{eqb_tells}, lemmas.Slice.Zip.{get_or-zip, length-zip}}
 use Rattle.std.proofs.lemmas.List.{append-nil, length-map, map-id, take_more}
 use Rattle.std.proofs.lemmas.List.Elements.{All-cons, All-from_get_or, All-get_or, All-head, All-nil, All-tail, filter_map-append}
@@ -9,6 +9,7 @@ use Rattle.std.specs.{Prelude.{slice_get}, List.{cons_option, filter_map, range_
 use Rattle.dimacs_lines.specs.Limits.{IsNode, most_count, most_nodes}
 use Rattle.dimacs_records.specs.{declared.reasons.Reason.{Reason}, declared.reasons.Reason.TheVariants.{NumberRange}}
 use Rattle.dimacs_records.specs.{Ranges.{IsId, IsWide}, declared.records.Record.TheVariants.{SourceQuery}}
+use Rattle.dimacs_records.specs.declared.records.QueryKind.{QueryKind}
 use Rattle.dimacs_instance.specs.QueryTexts.{AreIds, AreLawful, pair_query}
 use Rattle.dimacs_claims.specs.{declared.block.Label.{Label}, DistanceTexts.{IsBare}}
 use Rattle.dimacs_claims.specs.Labels.{BlockValue, IsLabel, IsWithinRadius, distance_in, label, with_label}
@@ -20,6 +21,7 @@ use Rattle.dimacs_arrays.specs.{Answers.{first_misfit}, Paths.{AreLabelsBy}}
 use Rattle.dimacs_arrays.specs.PathsSpelled.{AreOrderedLabels, IsPastId, label_with, queries_spelled, query_lengths, query_row}
 use Rattle.dimacs_arrays.specs.inside.PathsSpelled.{AreInRange, AreInRangeBelow}
 use Rattle.dimacs_arrays.proofs.AnswerLemmas.{all_fit}
+use Rattle.dimacs_records.specs.declared.records.QueryKind.TheVariants as asks
 
 -- ---- IDs of queries
 past_one : (from : ℕ) (to : Option ℕ) (id other : ℕ) → IsPastId from to id → IsPastId from to other → id ≡ other
@@ -54,24 +56,24 @@ module _ (froms tos : List ℕ) where
   some_is (Some id) each = each id refl
 
   --   lawful queries are in range
-  pub lawful_in_range : (pairs : Bool) → first_misfit (query_lengths pairs froms tos) ≡ None → AreLawful (queries_spelled pairs froms tos) → AreInRangeBelow froms tos (length froms)
-  lawful_in_range false fit lawful k inside =
-      let none : length tos ≡ 0 = (all_fit (query_lengths false froms tos) fit).1.0 in
+  pub lawful_in_range : (kind : QueryKind) → first_misfit (query_lengths kind froms tos) ≡ None → AreLawful (queries_spelled kind froms tos) → AreInRangeBelow froms tos (length froms)
+  lawful_in_range asks.Sources fit lawful k inside =
+      let none : length tos ≡ 0 = (all_fit (query_lengths asks.Sources froms tos) fit).1.0 in
       (All-get_or IsId froms k 0 inside lawful.ids, rw (slice_get_past tos k (omega (arith, none))) tt)
-  lawful_in_range true fit lawful k inside =
-      let same : length tos ≡ length froms = (all_fit (query_lengths true froms tos) fit).1.0 in
+  lawful_in_range asks.Pairs fit lawful k inside =
+      let same : length tos ≡ length froms = (all_fit (query_lengths asks.Pairs froms tos) fit).1.0 in
       let within : k < length tos = omega (arith, inside, same) in
       let ids : AreIds (get_or (zip froms tos) k (0, 0)) = All-get_or AreIds (zip froms tos) k (0, 0) (omega (arith, inside, same, length-zip froms tos)) lawful.ids in
       let both : AreIds (get_or froms k 0, get_or tos k 0) = subst AreIds (get_or-zip froms tos k (0, 0) inside within) ids in
       (both.0, rw (slice_get-get_or tos k 0 within) both.1)
 
   --   and the other way round
-  pub in_range_lawful : (pairs : Bool) → first_misfit (query_lengths pairs froms tos) ≡ None → AreInRangeBelow froms tos (length froms) → AreLawful (queries_spelled pairs froms tos)
-  in_range_lawful false fit below =
-      let few : length froms ≡ min (length froms) most_count = (all_fit (query_lengths false froms tos) fit).0 in
+  pub in_range_lawful : (kind : QueryKind) → first_misfit (query_lengths kind froms tos) ≡ None → AreInRangeBelow froms tos (length froms) → AreLawful (queries_spelled kind froms tos)
+  in_range_lawful asks.Sources fit below =
+      let few : length froms ≡ min (length froms) most_count = (all_fit (query_lengths asks.Sources froms tos) fit).0 in
       record { few = omega (arith, few, length-map froms SourceQuery); ids = All-from_get_or IsId froms 0 (λ k inside. (below k inside).0) }
-  in_range_lawful true fit below =
-      let lengths = all_fit (query_lengths true froms tos) fit in
+  in_range_lawful asks.Pairs fit below =
+      let lengths = all_fit (query_lengths asks.Pairs froms tos) fit in
       let few : length froms ≡ min (length froms) most_count = lengths.0 in
       let same : length tos ≡ length froms = lengths.1.0 in
       record {

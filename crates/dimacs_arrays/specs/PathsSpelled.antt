@@ -1,8 +1,9 @@
 -- The queries, distances and labels that arrays spell.
-use Rattle.std.specs.Prelude.{ℕ, ℤ, ◌≡◌, ◌≤◌, ◌<◌, ◌+◌, ◌⊎◌, ◌==◌, Bool, true, false, if◌then◌else◌, List, [], ◌∷◌, get_or, length, min, slice_get, Option, None, Some, Result, Ok, Err, pos}
+use Rattle.std.specs.Prelude.{ℕ, ℤ, ◌≡◌, ◌≤◌, ◌<◌, ◌+◌, ◌⊎◌, ◌==◌, if◌then◌else◌, List, [], ◌∷◌, get_or, length, min, slice_get, Option, None, Some, Result, Ok, Err, pos}
 use Rattle.std.specs.List.{filter_map, range_with_len, zip}
 use Rattle.dimacs_lines.specs.Limits.{IsNode, most_count, most_nodes}
 use Rattle.dimacs_records.specs.{declared.reasons.Reason.TheVariants.{NumberRange}, Ranges.{IsId}}
+use Rattle.dimacs_records.specs.declared.records.QueryKind.{QueryKind}
 use Rattle.dimacs_instance.specs.declared.queries.Queries.{Queries}
 use Rattle.dimacs_instance.specs.QueryTexts.{AreLawful, Pairs, QueriesValue, Sources, asked}
 use Rattle.dimacs_claims.specs.{declared.block.Label.{Label}, Labels.{BlockValue, LabelsValue}}
@@ -14,13 +15,19 @@ use Rattle.dimacs_arrays.specs.{declared.error.ArrayError.{ArrayError}, declared
 use Rattle.dimacs_arrays.specs.{Answers.{AnswersArrays, length_of}, GraphArrays.{source_rows}}
 use Rattle.dimacs_arrays.specs.Paths.{AreInOrder, AreLabelsBy, label_rows}
 use Rattle.dimacs_arrays.specs.declared.error.Array.TheVariants as arrays
+use Rattle.dimacs_records.specs.declared.records.QueryKind.TheVariants as asks
 
 -- ---- queries
--- at most 2^28 queries; as many `tos` as `froms` for pairs, otherwise none
-abbrev pub query_lengths : Bool → List ℕ → List ℕ → List ArrayLength
-query_lengths pairs froms tos =
+-- for pairs as many `tos` as `froms`, otherwise none
+abbrev pub tos_wanted : QueryKind → ℕ → ℕ
+tos_wanted asks.Sources froms = 0
+tos_wanted asks.Pairs froms = froms
+
+-- at most 2^28 queries, and their `tos`
+abbrev pub query_lengths : QueryKind → List ℕ → List ℕ → List ArrayLength
+query_lengths kind froms tos =
     length_of arrays.Froms (length froms) (min (length froms) most_count)
-    ∷ length_of arrays.Tos (length tos) (if pairs then length froms else 0) ∷ []
+    ∷ length_of arrays.Tos (length tos) (tos_wanted kind (length froms)) ∷ []
 
 -- the first ID of a query that is out of range: FROM, otherwise TO
 abbrev pub IsPastId : ℕ → Option ℕ → ℕ → Type 0
@@ -30,9 +37,9 @@ abbrev pub query_row : List ℕ → List ℕ → Row
 query_row froms tos k place reason =
     (k < length froms) × (reason ≡ NumberRange) × ((id : ℕ) × (place ≡ Node id) × IsPastId (get_or froms k 0) (slice_get tos k) id)
 
-abbrev pub queries_spelled : Bool → List ℕ → List ℕ → QueriesValue
-queries_spelled true froms tos = Pairs (zip froms tos)
-queries_spelled false froms tos = Sources froms
+abbrev pub queries_spelled : QueryKind → List ℕ → List ℕ → QueriesValue
+queries_spelled asks.Sources froms tos = Sources froms
+queries_spelled asks.Pairs froms tos = Pairs (zip froms tos)
 
 -- these queries; or out of memory, but no failed test
 abbrev pub AreAsked : QueriesValue → Result Queries JudgeError → Type 0
@@ -40,9 +47,9 @@ AreAsked spelled (Ok queries) = asked queries ≡ spelled
 AreAsked spelled (Err (Refused place reason)) = ⊥
 AreAsked spelled (Err Memory) = Unit
 
-abbrev pub SpellsQueryArrays : Bool → List ℕ → List ℕ → Result Queries ArrayError → Type 0
-SpellsQueryArrays pairs froms tos =
-    AnswersArrays (query_lengths pairs froms tos) (query_row froms tos ∷ []) (AreLawful (queries_spelled pairs froms tos)) (AreAsked (queries_spelled pairs froms tos))
+abbrev pub SpellsQueryArrays : QueryKind → List ℕ → List ℕ → Result Queries ArrayError → Type 0
+SpellsQueryArrays kind froms tos =
+    AnswersArrays (query_lengths kind froms tos) (query_row froms tos ∷ []) (AreLawful (queries_spelled kind froms tos)) (AreAsked (queries_spelled kind froms tos))
 
 -- ---- distances and labels
 -- too many nodes, or the source is no node

@@ -1,14 +1,14 @@
 //! Queries, distances and labels from arrays: for functions over values, as `write_labels`.
 
-ghost use Rattle.std.specs.Prelude.{◌≡◌, ◌≤◌, ◌↔◌, ◌∷◌, [], length, if◌then◌else◌, IfNone, IfOk, IfSome, IsTrue, OnOk};
-ghost use Rattle.std.specs.List.{zip};
+ghost use Rattle.std.specs.{Prelude.{◌≡◌, ◌≤◌, ◌↔◌, ◌∷◌, [], length, IfNone, IfOk, IfSome, IsTrue, OnOk}, List.{zip}};
 ghost use Rattle.dimacs_lines.specs.Limits.{IsNode, most_nodes};
 ghost use Rattle.dimacs_records.specs.Ranges.{IsId};
+ghost use Rattle.dimacs_records.specs.declared.records.QueryKind.TheVariants as asks;
 ghost use Rattle.dimacs_instance.specs.QueryTexts.{asked};
 ghost use Rattle.dimacs_claims.specs.Labels.{IsBlock};
 ghost use Rattle.dimacs_judging.specs.Tests.{Settles};
 ghost use Rattle.dimacs_decide.specs.{Claims.{claimed_by_node}, Distances.{source_row}};
-ghost use Rattle.dimacs_arrays.specs.PathsSpelled.{AreDistancesBy, IsPastId, SpellsDistancesArray, SpellsLabelArrays, SpellsQueryArrays, block_spelled, label_with, queries_spelled, query_row};
+ghost use Rattle.dimacs_arrays.specs.PathsSpelled.{AreDistancesBy, IsPastId, SpellsDistancesArray, SpellsLabelArrays, SpellsQueryArrays, block_spelled, label_with, queries_spelled, query_row, tos_wanted};
 ghost use Rattle.dimacs_arrays.specs.{inside.Answers.{TestsLimits}, inside.PathsSpelled.{AreInRangeBelow}};
 
 use crate::error::{Array, ArrayError};
@@ -21,32 +21,35 @@ use dimacs_decide::{DistanceClaim, DistancesByNode, source_holds};
 use dimacs_instance::Queries;
 use dimacs_judging::{JudgeError, Where};
 use dimacs_lines::Memory;
-use dimacs_records::{MAX_COUNT, MAX_NODES, Reason};
+use dimacs_records::{MAX_COUNT, MAX_NODES, QueryKind, Reason};
 use std::alloc::Global;
 
 /// The queries for the distances from `froms` to all nodes or, for pairs, from each of `froms` to that of `tos`. It tests
 /// that there are at most 2^28, and for pairs as many `tos`, otherwise none; then the IDs.
 pub fn queries_over(
     alloc: Global,
-    pairs: bool,
+    kind: QueryKind,
     froms: &[u32],
     tos: &[u32],
 ) -> Result<Queries, ArrayError>
-    ensures { SpellsQueryArrays pairs froms.now tos.now result }
+    ensures { SpellsQueryArrays kind froms.now tos.now result }
 {
     let count = froms.len();
     lengths_hold(&[
         ArrayLength::of(Array::Froms, count, count.min(MAX_COUNT as usize)),
-        ArrayLength::of(Array::Tos, tos.len(), tos_wanted(pairs, count)),
+        ArrayLength::of(Array::Tos, tos.len(), tos_wanted(kind, count)),
     ])?;
     ids_hold(froms, tos)?;
-    Ok(queries_of(alloc, pairs, froms, tos)?)
+    Ok(queries_of(alloc, kind, froms, tos)?)
 }
 
-fn tos_wanted(pairs: bool, count: usize) -> usize
-    ensures { result ≡ (if pairs then count else 0) }
+fn tos_wanted(kind: QueryKind, froms: usize) -> usize
+    ensures { result ≡ tos_wanted kind froms }
 {
-    if pairs { count } else { 0 }
+    match kind {
+        QueryKind::Sources => 0,
+        QueryKind::Pairs => froms,
+    }
 }
 
 fn ids_hold(froms: &[u32], tos: &[u32]) -> Result<(), PastLimit>
@@ -84,14 +87,13 @@ fn is_id(id: u32) -> bool
     id >= 1 && id <= MAX_NODES
 }
 
-fn queries_of(alloc: Global, pairs: bool, froms: &[u32], tos: &[u32]) -> Result<Queries, Memory>
-    requires { IsTrue pairs → length tos.now ≡ length froms.now }
-    ensures { IfOk result (λ queries. asked queries ≡ queries_spelled pairs froms.now tos.now) }
+fn queries_of(alloc: Global, kind: QueryKind, froms: &[u32], tos: &[u32]) -> Result<Queries, Memory>
+    requires { kind ≡ asks.Pairs → length tos.now ≡ length froms.now }
+    ensures { IfOk result (λ queries. asked queries ≡ queries_spelled kind froms.now tos.now) }
 {
-    if pairs {
-        Ok(Queries::Pairs(pairs_of(alloc, froms, tos)?))
-    } else {
-        Ok(Queries::Sources(froms.to_vec(alloc)?))
+    match kind {
+        QueryKind::Sources => Ok(Queries::Sources(froms.to_vec(alloc)?)),
+        QueryKind::Pairs => Ok(Queries::Pairs(pairs_of(alloc, froms, tos)?)),
     }
 }
 

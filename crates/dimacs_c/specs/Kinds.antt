@@ -1,9 +1,10 @@
 -- The numbers of the kinds.
 use Rattle.std.specs.Prelude.{ℕ, ◌==◌, if◌then◌else◌, Option, None, Some}
-use Rattle.dimacs_records.specs.declared.kinds.TextKind.{TextKind}
+use Rattle.dimacs_records.specs.{declared.kinds.TextKind.{TextKind}, declared.records.QueryKind.{QueryKind}}
 use Rattle.dimacs_runs.specs.{declared.jobs.JudgeKind.{JudgeKind}, declared.jobs.SolveJob.{SolveJob}}
 use Rattle.dimacs_runs.specs.declared.jobs.SpreadKind.{SpreadKind}
 use Rattle.dimacs_records.specs.declared.kinds.TextKind.TheVariants as texts
+use Rattle.dimacs_records.specs.declared.records.QueryKind.TheVariants as asks
 use Rattle.dimacs_runs.specs.declared.jobs.JudgeKind.TheVariants as judges
 use Rattle.dimacs_runs.specs.declared.jobs.SolveJob.TheVariants as jobs
 use Rattle.dimacs_runs.specs.declared.jobs.SpreadKind.TheVariants as spreads
@@ -29,6 +30,13 @@ solve_job number limit =
     else if number == 1 then Some (jobs.Min limit)
     else if number == 3 then Some jobs.Paths
     else None
+
+abbrev pub query_kind : ℕ → QueryKind
+query_kind number = if number == 0 then asks.Sources else asks.Pairs
+
+abbrev pub number_of_queries : QueryKind → ℕ
+number_of_queries asks.Sources = 0
+number_of_queries asks.Pairs = 1
 
 abbrev pub text_kind : ℕ → Option TextKind
 text_kind number =

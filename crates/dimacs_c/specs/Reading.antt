@@ -1,5 +1,5 @@
 -- What calls that read a text into arrays return and hand out.
-use Rattle.std.specs.Prelude.{ℕ, ℤ, ◌≡◌, if◌then◌else◌, List, [], pos, Result, Ok, Err}
+use Rattle.std.specs.Prelude.{ℕ, ℤ, ◌≡◌, List, [], pos, Result, Ok, Err}
 use Rattle.dimacs_records.specs.declared.faults.ReadError.{ReadError}
 use Rattle.dimacs_records.specs.declared.faults.ReadError.TheVariants.{Refused, Device, Memory}
 use Rattle.dimacs_fill.specs.{declared.error.FillError.{FillError}, declared.graph.GraphSizes.{GraphSizes}}
@@ -7,7 +7,7 @@ use Rattle.dimacs_fill.specs.{declared.labels.LabelSizes.{LabelSizes}, declared.
 use Rattle.dimacs_fill.specs.{declared.min.MinSizes.{MinSizes}, declared.queries.QuerySizes.{QuerySizes}}
 use Rattle.dimacs_judging.specs.declared.verdict.Where.TheVariants.{Node}
 use Rattle.dimacs_runs.specs.{Refusals.{refusal_line}, Verdicts.{failure_line}}
-use Rattle.dimacs_c.specs.Calls.{Handed, HandsOut}
+use Rattle.dimacs_c.specs.{Calls.{Handed, HandsOut}, Kinds.{number_of_queries}}
 use Rattle.dimacs_fill.specs.declared.error.FillError.TheVariants as fills
 
 -- the status after reading a text
@@ -48,9 +48,9 @@ abbrev pub SetsLength : {E : Type 0} → ℕ → Result ℕ E → Type 0
 SetsLength needed (Ok length) = needed ≡ length
 SetsLength needed (Err error) = needed ≡ 0
 
--- whether queries ask for pairs, and how many there are
+-- what queries ask, and how many there are
 abbrev pub SetsQueries : ℕ → ℕ → Result QuerySizes ReadError → Type 0
-SetsQueries pairs count (Ok sizes) = (pairs ≡ (if sizes.pairs then 1 else 0)) × (count ≡ sizes.count)
+SetsQueries pairs count (Ok sizes) = (pairs ≡ number_of_queries sizes.kind) × (count ≡ sizes.count)
 SetsQueries pairs count (Err error) = (pairs ≡ 0) × (count ≡ 0)
 
 -- the radius of a block, and the lengths of its arrays

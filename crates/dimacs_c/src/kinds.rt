@@ -1,9 +1,9 @@
 //! The numbers of the kinds, as `dimacs.h` defines them.
 
 ghost use Rattle.std.specs.Prelude.{◌≡◌};
-ghost use Rattle.dimacs_c.specs.Kinds.{judge_kind, solve_job, spread_kind, text_kind};
+ghost use Rattle.dimacs_c.specs.Kinds.{judge_kind, number_of_queries, query_kind, solve_job, spread_kind, text_kind};
 
-use dimacs_records::TextKind;
+use dimacs_records::{QueryKind, TextKind};
 use dimacs_runs::{JudgeKind, SolveJob, SpreadKind};
 
 pub(crate) fn judge_of(number: u32) -> Option<JudgeKind>
@@ -37,6 +37,25 @@ pub(crate) fn solve_of(number: u32, limit: u64) -> Option<SolveJob>
         1 => Some(SolveJob::Min(limit)),
         3 => Some(SolveJob::Paths),
         _ => None,
+    }
+}
+
+/// Any number but 0 stands for pairs.
+pub(crate) fn queries_of(number: u32) -> QueryKind
+    ensures { result ≡ query_kind number }
+{
+    match number {
+        0 => QueryKind::Sources,
+        _ => QueryKind::Pairs,
+    }
+}
+
+pub(crate) fn number_of_queries(kind: QueryKind) -> u32
+    ensures { result ≡ number_of_queries kind }
+{
+    match kind {
+        QueryKind::Sources => 0,
+        QueryKind::Pairs => 1,
     }
 }
 

@@ -1,11 +1,12 @@
 //! Reading queries into arrays, and writing them.
 
-ghost use Rattle.std.specs.Prelude.{◌≡◌, nat_lt, None, codes};
+ghost use Rattle.std.specs.Prelude.{◌≡◌, None, codes};
 ghost use Rattle.dimacs_fill.specs.QueriesFilled.{ReadsQueriesInto};
 ghost use Rattle.dimacs_arrays.specs.PathsSpelled.{SpellsQueryArrays};
 ghost use Rattle.dimacs_c.specs.{ArrayTexts.{queries_text}, Arrays.{AnswersItems, buffers}, Calls.{handed}};
-ghost use Rattle.dimacs_c.specs.Reading.{AnswersRead, SetsQueries};
+ghost use Rattle.dimacs_c.specs.{Kinds.{query_kind}, Reading.{AnswersRead, SetsQueries}};
 
+use crate::kinds::{number_of_queries, queries_of};
 use crate::reading::{end_read, end_unread};
 use crate::written::hand_text;
 use dimacs_arrays::queries_over;
@@ -30,14 +31,14 @@ pub extern "C" fn dimacs_read_queries(
 {
     match read_queries_into(alloc, &mut MemorySource::new(text), froms, tos) {
         Ok(sizes) => {
-            *pairs = u32::from(sizes.pairs);
+            *pairs = number_of_queries(sizes.kind);
             *count = sizes.count;
             end_read(needed)
         }
         Err(error) => {
             *pairs = 0;
             *count = 0;
-            end_unread(alloc, b"query", error, out, needed)
+            end_unread(alloc, "query", error, out, needed)
         }
     }
 }
@@ -52,9 +53,9 @@ pub extern "C" fn dimacs_write_queries(
     out: &mut [u8],
     needed: &mut usize,
 ) -> u32
-    ensures { AnswersItems queries_text (SpellsQueryArrays (nat_lt 0 pairs) froms.now tos.now) result
+    ensures { AnswersItems queries_text (SpellsQueryArrays (query_kind pairs) froms.now tos.now) result
         (buffers (handed out.old out.new needed.new) None None None) }
 {
-    let answer = queries_over(alloc, pairs > 0, froms, tos);
+    let answer = queries_over(alloc, queries_of(pairs), froms, tos);
     hand_text(alloc, &answer, out, needed)
 }

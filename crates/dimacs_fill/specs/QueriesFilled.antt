@@ -1,13 +1,12 @@
 -- Queries in the arrays of a caller.
-use Rattle.std.specs.Prelude.{ℕ, true, false, List, [], length, map, Result}
+use Rattle.std.specs.Prelude.{ℕ, List, [], length, map, Result}
 use Rattle.dimacs_records.specs.declared.faults.ReadError.{ReadError}
-use Rattle.dimacs_instance.specs.QueryTexts.{QueriesValue, Sources, Pairs, SpellsQueries}
+use Rattle.dimacs_instance.specs.QueryTexts.{QueriesValue, Sources, Pairs, SpellsQueries, kind_asked, query_lines}
 use Rattle.dimacs_fill.specs.{declared.queries.QuerySizes.{QuerySizes}, Filling.{Array, IsFilled, ReadsInto}}
 use Rattle.dimacs_records.specs.declared.kinds.TextKind.TheVariants as kinds
 
 abbrev pub query_sizes : QueriesValue → QuerySizes
-query_sizes (Sources ids) = record { pairs = false; count = length ids }
-query_sizes (Pairs pairs) = record { pairs = true; count = length pairs }
+query_sizes queries = record { kind = kind_asked queries; count = length (query_lines queries) }
 
 -- the nodes that distances are asked from, and to
 abbrev pub froms_of : QueriesValue → List ℕ

@@ -8,13 +8,13 @@ ghost use Rattle.dimacs_fill.specs.{Filling.{filled}, QueriesFilled.{HoldQueries
 use crate::filling::fill;
 use dimacs_instance::{Queries, read_queries};
 use dimacs_lines::Source;
-use dimacs_records::ReadError;
+use dimacs_records::{QueryKind, ReadError};
 use std::alloc::Global;
 
-/// Whether queries ask for pairs, and how many there are.
-#[derive(Clone, Copy, Debug, Default, PartialEq, Eq)]
+/// What queries ask, and how many there are.
+#[derive(Clone, Copy, Debug, PartialEq, Eq)]
 pub struct QuerySizes {
-    pub pairs: bool,
+    pub kind: QueryKind,
     pub count: usize,
 }
 
@@ -42,14 +42,14 @@ fn fill_queries(queries: &Queries, froms: &mut [u32], tos: &mut [u32]) -> QueryS
         Queries::Sources(ids) => {
             fill_ids(ids, froms);
             QuerySizes {
-                pairs: false,
+                kind: QueryKind::Sources,
                 count: ids.len(),
             }
         }
         Queries::Pairs(pairs) => {
             fill_pairs(pairs, froms, tos);
             QuerySizes {
-                pairs: true,
+                kind: QueryKind::Pairs,
                 count: pairs.len(),
             }
         }

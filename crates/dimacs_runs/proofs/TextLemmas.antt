@@ -13,7 +13,7 @@ use Rattle.dimacs_runs.specs.{Runs.{ReportsAlone, text_word}, Solved.{report_alo
 use Rattle.dimacs_runs.specs.inside.Judgings.{ReadsIn, StopsAt, TextSpells}
 use Rattle.dimacs_runs.specs.inside.Outcomes.{IfEnds, outcome_texts, reporting, outcome_of, unclaimed_texts, unread_end}
 use Rattle.dimacs_runs.specs.inside.Reports.{report_lines, report_status}
-use Rattle.dimacs_runs.specs.{declared.report.Report.TheVariants as reports}
+use Rattle.dimacs_runs.specs.declared.report.Report.TheVariants as reports
 use Rattle.dimacs_records.specs.declared.faults.ReadError.TheVariants as read_errors
 
 -- a form of report: it depends only on the possible outcomes, and can report a refusal that is the only one

@@ -8,18 +8,18 @@ use Rattle.dimacs_arrays.proofs.paths_over.queries_over.Goals as goal
 
 pub returns-in_err-ids_hold : goal.returns-in_err-ids_hold
 returns-in_err-ids_hold c =
-    let pairs = c.args.pairs in
+    let kind = c.args.kind in
     let froms = c.args.froms.now in
     let tos = c.args.tos.now in
-    let fit : first_misfit (query_lengths pairs froms tos) ≡ None = rw (c.of.ensures, c.of-2.ensures, c.min.ensures, c.tos_wanted.ensures) at c.in_ok-lengths_hold.ensures in
+    let fit : first_misfit (query_lengths kind froms tos) ≡ None = rw (c.of.ensures, c.of-2.ensures, c.min.ensures, c.tos_wanted.ensures) at c.in_ok-lengths_hold.ensures in
     let limit = c.in_err-ids_hold.field-0.0 in
-    tells_limit (query_lengths pairs froms tos) (query_row froms tos ∷ []) (AreLawful (queries_spelled pairs froms tos)) (AreAsked (queries_spelled pairs froms tos)) fit (queries_spelled pairs froms tos) (Limit limit.place limit.reason)
-    (queries_one_way froms tos) (λ lawful. all_clear froms tos (lawful_in_range froms tos pairs fit lawful)) c.in_err-ids_hold.ensures.first_fault _ c.from_residual-in_err-ids_hold.ensures.1
+    tells_limit (query_lengths kind froms tos) (query_row froms tos ∷ []) (AreLawful (queries_spelled kind froms tos)) (AreAsked (queries_spelled kind froms tos)) fit (queries_spelled kind froms tos) (Limit limit.place limit.reason)
+    (queries_one_way froms tos) (λ lawful. all_clear froms tos (lawful_in_range froms tos kind fit lawful)) c.in_err-ids_hold.ensures.first_fault _ c.from_residual-in_err-ids_hold.ensures.1
 
 pub returns : goal.returns
 returns c =
-    let pairs = c.args.pairs in
+    let kind = c.args.kind in
     let froms = c.args.froms.now in
     let tos = c.args.tos.now in
-    let fit : first_misfit (query_lengths pairs froms tos) ≡ None = rw (c.of.ensures, c.of-2.ensures, c.min.ensures, c.tos_wanted.ensures) at c.in_ok-lengths_hold.ensures in
-    (fit, in_range_lawful froms tos pairs fit c.in_ok-ids_hold.ensures.in_range, c.in_ok-queries_of.ensures)
+    let fit : first_misfit (query_lengths kind froms tos) ≡ None = rw (c.of.ensures, c.of-2.ensures, c.min.ensures, c.tos_wanted.ensures) at c.in_ok-lengths_hold.ensures in
+    (fit, in_range_lawful froms tos kind fit c.in_ok-ids_hold.ensures.in_range, c.in_ok-queries_of.ensures)
