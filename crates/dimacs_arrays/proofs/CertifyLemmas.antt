@@ -22,7 +22,6 @@ use Rattle.dimacs_judging.proofs.Reasons.{balance_one_way, bound_one_way, cost_o
 use Rattle.dimacs_judging.proofs.RowLists.{all_clear-append, first_after}
 use Rattle.dimacs_judging.proofs.Settling.{error_settles, refused_in_front, refuted_refuses}
 use Rattle.dimacs_decide.specs.MinDecision.{DecidesMin}
-use Rattle.dimacs_decide.specs.declared.maximum.MaxDecision.TheVariants as of_max
 use Rattle.dimacs_decide.specs.declared.least.MinDecision.TheVariants as of_min
 use Rattle.dimacs_arrays.specs.declared.certify_max.MaxCertified.TheVariants as max_told
 use Rattle.dimacs_arrays.specs.declared.certify_min.MinCertified.TheVariants as min_told

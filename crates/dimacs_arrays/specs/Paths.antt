@@ -1,5 +1,5 @@
 -- Distances and predecessors by node, and the labels that they spell.
-use Rattle.std.specs.Prelude.{ℕ, ◌≡◌, ◌≢◌, ◌⊎◌, List, [], ◌∷◌, All, Contains, length, Option, None, Result, Ok, Err, ℤ, pos}
+use Rattle.std.specs.Prelude.{ℕ, ◌≡◌, ◌⊎◌, List, [], ◌∷◌, All, Contains, length, Option, None, Result, Ok, Err, ℤ}
 use Rattle.std.specs.{Global.{Vec}, Result.{IsErrAnd}}
 use Rattle.dimacs_lines.specs.Limits.{IsNode}
 use Rattle.dimacs_records.specs.declared.reasons.Reason.TheVariants.{NegativeWeight, NodeRange}

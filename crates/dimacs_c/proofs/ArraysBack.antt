@@ -3,7 +3,7 @@ use Rattle.std.proofs.Common.{◌≡◌, ◌∙◌, ◌≤◌, ◌<◌, ◌+◌,
 use Rattle.std.proofs.{lemmas.Bool.{ne_eqb}, lemmas.List.{ext_get_or, get_or-map, length-map, take-append-le, take_all}}
 use Rattle.std.proofs.lemmas.List.FromFn.{get_or-map-range_with_len, length-map-range_with_len}
 use Rattle.std.specs.{List.{range_with_len, zip}, Ordering.{eq_by_cmp, nat_cmp}, Cmp.{nat_cmp_total, unsigned_tied}}
-use Rattle.std.specs.{FinMap.{from_entries, get, get-from_entries}, FinMap.Entries.{find}, Option.{unwrap_or}}
+use Rattle.std.specs.{FinMap.{from_entries, get-from_entries}, FinMap.Entries.{find}, Option.{unwrap_or}}
 use Rattle.dimacs_lines.specs.Lines.{lines}
 use Rattle.dimacs_records.specs.{declared.kinds.TextKind.{TextKind}, Readings.{LineRecord}, Texts.{SpellsValue}}
 use Rattle.dimacs_records.proofs.{NameLemmas.{value-without_zeros}, ReadLaws.{spells_one_value}}

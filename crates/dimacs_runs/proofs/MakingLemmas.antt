@@ -1,5 +1,5 @@
 -- How a run ends that reads files, and creates one for the text that comes of them.
-use Rattle.std.proofs.Common.{ℕ, ◌≡◌, ◌≢◌, ◌++◌, ◌∙◌, List, [], ◌∷◌, Option, None, Some, Result, Ok, Err, refl, sym, ap, append-nil, drop, flat_map, inl, inr, map}
+use Rattle.std.proofs.Common.{ℕ, ◌≡◌, ◌≢◌, ◌++◌, ◌∙◌, List, [], ◌∷◌, Option, None, Some, Result, Ok, Err, refl, sym, ap, append-nil, flat_map, inl, inr, map}
 use Rattle.std.proofs.lemmas.Grind.{flat_map-append}
 use Rattle.std.specs.Result.{IsErrAnd}
 use Rattle.dimacs_lines.specs.Devices.{Written}

@@ -1,8 +1,8 @@
 -- A claim is certified exactly if it is true, and a maximum is found with a great enough limit.
 use Rattle.std.proofs.Common.{◌≡◌, ◌↔◌, ◌∙◌, ℕ, ℤ, List, [], Err, refl, sym, subst, inl, inr}
 use Rattle.dimacs_lines.specs.Lines.{lines}
-use Rattle.dimacs_records.specs.{declared.kinds.TextKind.{TextKind}, declared.reasons.Reason.{Reason}}
-use Rattle.dimacs_records.specs.{Readings.{LineRecord, records_of}, Texts.{AreFaultless, SpellsValue}}
+use Rattle.dimacs_records.specs.{declared.kinds.TextKind.{TextKind}, Readings.{LineRecord, records_of}}
+use Rattle.dimacs_records.specs.Texts.{AreFaultless, SpellsValue}
 use Rattle.dimacs_records.proofs.ReadLaws.{reads_exactly, spells_one_value}
 use Rattle.dimacs_claims.specs.{DistanceTexts.{GivesDistances, SpellsDistances}, Labels.{LabelsValue}}
 use Rattle.dimacs_claims.specs.SolutionTexts.{GivesSolution, SolutionValue, SpellsSolution}
@@ -13,11 +13,10 @@ use Rattle.dimacs_instance.specs.{Graph.{GivesGraph}, MaxFlows.{IsMax, MaxValue}
 use Rattle.dimacs_instance.specs.{MinFlows.{MinValue}, MinTexts.{GivesMin}}
 use Rattle.dimacs_instance.proofs.{GraphLemmas.{graph_faultless, one_graph}, MaxTextLemmas.{max_faultless, one_max}}
 use Rattle.dimacs_instance.proofs.MinTextLemmas.{min_faultless, one_min}
-use Rattle.dimacs_judging.specs.{MaxJudge.{IsMaxClaim, max_claim_rows}, MinJudge.{IsMinClaim, min_claim_rows}}
-use Rattle.dimacs_judging.specs.{declared.verdict.Where.{Where}, Optimum.{Least, Maximum, NoFlow}}
+use Rattle.dimacs_judging.specs.{MaxJudge.{max_claim_rows}, MinJudge.{min_claim_rows}, Optimum.{Least, Maximum, NoFlow}}
 use Rattle.dimacs_judging.specs.Tests.{AllClear, Row}
 use Rattle.dimacs_judging.proofs.Firsts.{none_first}
-use Rattle.dimacs_runs.specs.Certified.{CertificateOr, Certified, CertifiesDistances, CertifiesInfeasible, CertifiesLeast, CertifiesMaximum, uncertified}
+use Rattle.dimacs_runs.specs.Certified.{CertificateOr, CertifiesDistances, CertifiesInfeasible, CertifiesLeast, CertifiesMaximum, uncertified}
 use Rattle.dimacs_runs.specs.Laws.{AreTrueDistances, IsTrueMax, IsTrueMin, RunLimitLaw, TrueClaimLaw}
 use Rattle.dimacs_runs.specs.{Solved.{FaultAloneOr}, declared.status.Status.{Status}}
 use Rattle.dimacs_runs.specs.declared.status.Status.TheVariants.{Done, GaveUp, Refused}

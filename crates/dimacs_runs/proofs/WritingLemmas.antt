@@ -1,10 +1,10 @@
 -- What was written of an outcome.
-use Rattle.std.proofs.Common.{◌≡◌, ◌∙◌, ◌++◌, ◌⊎◌, ℕ, List, [], ◌∷◌, Option, Result, Ok, Err, ap, ap₂, arith, drop, inl, inr, length, refl, sym}
+use Rattle.std.proofs.Common.{◌≡◌, ◌∙◌, ◌++◌, ◌⊎◌, ℕ, List, [], ◌∷◌, Result, Ok, Err, ap, ap₂, arith, drop, inl, inr, length, refl, sym}
 use Rattle.std.specs.Prelude.{IsErr}
 use Rattle.dimacs_lines.specs.Devices.{Written}
-use Rattle.dimacs_runs.specs.{declared.outcome.Outcome.{Outcome}, declared.status.RunError.{RunError}}
+use Rattle.dimacs_runs.specs.{declared.outcome.Outcome.{Outcome}, declared.status.RunError.{RunError}, Runs.{Reports}}
 use Rattle.dimacs_runs.specs.{declared.status.RunError.TheVariants.{Device, Memory}, Judgings.{CountsDevices, OneMore}}
-use Rattle.dimacs_runs.specs.{declared.status.Status.{Status}, Outputs.{ReportsAll}, Runs.{Reports, ReportsAlone}}
+use Rattle.dimacs_runs.specs.{declared.status.Status.{Status}, Outputs.{ReportsAll}}
 use Rattle.dimacs_runs.specs.inside.Outcomes.{EndsWriting, IfEnds, MayReport, accepted_by, faults_by, nowhere, outcome_texts, unclaimed_texts}
 use Rattle.dimacs_runs.specs.inside.Reports.{report_lines, report_status}
 

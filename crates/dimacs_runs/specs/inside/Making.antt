@@ -1,5 +1,5 @@
 -- Inside: runs that read files, and then create one for their text.
-use Rattle.std.specs.Prelude.{ℕ, ◌≡◌, ◌⊎◌, ◌++◌, List, [], ◌∷◌, Option, None, Some, Result, Ok, Err, IsErr, map}
+use Rattle.std.specs.Prelude.{ℕ, ◌≡◌, ◌⊎◌, ◌++◌, List, [], ◌∷◌, Option, None, Some, Result, IsErr, map}
 use Rattle.std.specs.List.{flat_map}
 use Rattle.dimacs_lines.specs.Devices.{Written}
 use Rattle.dimacs_runs.specs.{declared.failure.CommandError.{CommandError}, declared.status.RunError.{RunError}}

@@ -1,5 +1,4 @@
-use Rattle.std.proofs.{Common.{List, Ok, SFits, refl, rules}, lemmas.Int.{to_z-of_z}}
-use Rattle.std.proofs.lemmas.Result.{err_from_is_err_and}
+use Rattle.std.proofs.{Common.{Ok, SFits, refl, rules}, lemmas.Int.{to_z-of_z}, lemmas.Result.{err_from_is_err_and}}
 use Rattle.std.specs.Int.{w128}
 use Rattle.dimacs_claims.specs.SolutionTexts.{SolutionValue}
 use Rattle.dimacs_runs.specs.inside.Outcomes.{DealsOut}
