@@ -16,7 +16,7 @@ from texts import TOP, read, write
 
 PAGE = f"{TOP}/docs/PROMISES.md"
 ITEM = re.compile(r"^- ([^→\n]*(?:\n  [^→\n]*)*) → (.*\n(?:  .*\n)*)", re.M)
-COUNTED = re.compile(r"[\d,]+( lines without imports,\s)[\d,]+( for the judge\s`run_judge`,\s)[\d,]+( for the command)")
+COUNTED = re.compile(r"[\d,]+(\slines\swithout\simports,\s)[\d,]+(\sfor\sthe\sjudge\s`run_judge`,\s)[\d,]+(\sfor\sthe\scommand)")
 LIST = re.compile(r"(?<=<!-- requires -->\n\n)(?:(?:- |  ).*\n)*")
 
 
