@@ -25,7 +25,7 @@ pub(crate) struct NodeStates<D> {
 }
 
 impl<D: SearchDistance> NodeStates<D> {
-    ghost use Rattle.dimacs_solve.specs.inside.NodeStates.{AreUnknown, IsSettled, IsReachedWithin, Sets, known, reached, settled};
+    ghost use Rattle.dimacs_solve.specs.inside.NodeStates.{AreUnknown, IsReachedWithin, Reached, Sets, Settled, is_settled, known};
 
     /// Allocates nothing.
     pub(crate) fn new(alloc: Global) -> NodeStates<D>
@@ -60,7 +60,7 @@ impl<D: SearchDistance> NodeStates<D> {
 
     #[inline]
     pub(crate) fn is_settled(&self, node: u32) -> bool
-        ensures { IsTrue result ↔ IsSettled (known D.value self.now node) }
+        ensures { result ≡ is_settled (known D.value self.now node) }
     {
         let node_state = self.node_states.get(node);
         node_state.round == self.round && node_state.settled
@@ -69,7 +69,7 @@ impl<D: SearchDistance> NodeStates<D> {
     #[inline]
     pub(crate) fn reach(&mut self, node: u32, dist: D) -> Result<(), Memory>
         ensures round { OnOk result (self.new.round ≡ self.old.round) }
-        ensures reached { OnOk result (Sets (known D.value self.old) node (reached (D.value dist)) (known D.value self.new)) }
+        ensures reached { OnOk result (Sets (known D.value self.old) node (Reached (D.value dist)) (known D.value self.new)) }
     {
         let round = self.round;
         let node_state = NodeState {
@@ -84,7 +84,7 @@ impl<D: SearchDistance> NodeStates<D> {
     #[inline]
     pub(crate) fn settle(&mut self, node: u32, dist: D) -> Result<(), Memory>
         ensures round { OnOk result (self.new.round ≡ self.old.round) }
-        ensures settled { OnOk result (Sets (known D.value self.old) node (settled (D.value dist)) (known D.value self.new)) }
+        ensures settled { OnOk result (Sets (known D.value self.old) node (Settled (D.value dist)) (known D.value self.new)) }
     {
         let round = self.round;
         let node_state = NodeState {

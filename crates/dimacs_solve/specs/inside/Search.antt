@@ -1,31 +1,25 @@
 -- Inside: Dijkstra's search from one source.
-use Rattle.std.specs.Prelude.{ℕ, zero, suc, ◌≡◌, ◌≤◌, ◌+◌, ◌-◌, ◌*◌, ◌⊎◌, ◌&&◌, if◌then◌else◌, cond, Bool, true, false, List, ◌∷◌, All, Contains, Option, Some, None, length, IsPermutation, ℤ, pos, ◌≤ℤ◌}
+use Rattle.std.specs.Prelude.{ℕ, zero, suc, ◌≡◌, ◌≤◌, ◌+◌, ◌-◌, ◌*◌, ◌⊎◌, cond, List, ◌∷◌, All, Contains, Some, None, length, IsPermutation, ℤ, pos, ◌≤ℤ◌}
 use Rattle.dimacs_lines.specs.Limits.{IsNode}
 use Rattle.dimacs_claims.specs.{declared.block.Label.{Label}, Labels.{BlockValue, IsBlock, label}}
 use Rattle.dimacs_solve.specs.{declared.adjacency.Adjacency.{Adjacency}, declared.adjacency.WeightedArc.{WeightedArc}}
 use Rattle.dimacs_solve.specs.{declared.frontier.Walk.{Walk}, inside.Adjacency.{AreByNode, out, out_arc_to}}
 use Rattle.dimacs_solve.specs.{inside.Frontiers.{IsNearest}, Paths.{IsNearestFirst}}
-use Rattle.dimacs_solve.specs.inside.NodeStates.{Known, IsSettled, IsReachedWithin, Sets, reached}
-
-abbrev pub is_settled : Known → Bool
-is_settled k = k.found && k.final
+use Rattle.dimacs_solve.specs.inside.NodeStates.{Known, Unknown, Reached, Settled, IsReachedWithin, Sets, is_settled, settled_label}
 
 -- how many of the nodes 1 to n are settled
 unfoldable pub settled_count : (ℕ → Known) → ℕ → ℕ
 settled_count node_states zero = 0
 settled_count node_states (suc n) = settled_count node_states n + cond (is_settled (node_states (suc n))) 1 0
 
--- the distance of a settled node; none for the others
-abbrev pub settled_label : Known → Option ℤ
-settled_label k = if is_settled k then Some (pos k.dist) else None
-
 -- the walk ends with an arc from a settled node
 pub record IsWalk (a : Adjacency) (node_states : ℕ → Known) (e : Walk ℕ) : Type 0 where
+  pub base : ℕ
   pub weight : ℕ
   pub node : IsNode a.nodes e.pred
-  pub pred : IsSettled (node_states e.pred)
+  pub pred : settled_label (node_states e.pred) ≡ Some (pos base)
   pub out_arc : Contains (out a e.pred) (out_arc_to e.node weight)
-  pub adds : e.dist ≡ (node_states e.pred).dist + weight
+  pub adds : e.dist ≡ base + weight
 
 -- a walk in the queue: at least as long as the floor, and as what is noted for its node
 pub record IsQueuedWalk (a : Adjacency) (floor : ℕ) (node_states : ℕ → Known) (e : Walk ℕ) : Type 0 where
@@ -38,24 +32,28 @@ pub record IsQueuedWalk (a : Adjacency) (floor : ℕ) (node_states : ℕ → Kno
 abbrev pub IsPending : List (Walk ℕ) → ℕ → ℕ → Type 0
 IsPending front v d = (p : ℕ) × Contains front (record { dist = d; node = v; pred = p })
 
--- the states and the queue agree, and no settled node is farther than the floor
+-- the queue has the walk that was noted for a reached node; a settled node isn't farther than the floor
+abbrev pub Agrees : ℕ → List (Walk ℕ) → ℕ → Known → Type 0
+Agrees floor front v Unknown = Unit {0}
+Agrees floor front v (Reached d) = IsPending front v d
+Agrees floor front v (Settled d) = d ≤ floor
+
+-- the states and the queue agree
 pub record IsFront (a : Adjacency) (floor : ℕ) (node_states : ℕ → Known) (front : List (Walk ℕ)) : Type 0 where
   pub adjacent : AreByNode a
   pub waiting : (e : Walk ℕ) → Contains front e → IsQueuedWalk a floor node_states e
-  pub pending : (v : ℕ) → (node_states v).found ≡ true → (node_states v).final ≡ false → IsPending front v (node_states v).dist
-  pub below : (v : ℕ) → IsSettled (node_states v) → (node_states v).dist ≤ floor
+  pub agree : (v : ℕ) → Agrees floor front v (node_states v)
 
 -- settled nodes stay settled as they were, no others become settled, and no length rises
 pub record Lowers (old new : ℕ → Known) : Type 0 where
-  pub kept : (v : ℕ) → IsSettled (old v) → new v ≡ old v
-  pub none : (v : ℕ) → IsSettled (new v) → new v ≡ old v
+  pub settled : (v : ℕ) → settled_label (new v) ≡ settled_label (old v)
   pub within : (v d : ℕ) → IsReachedWithin (old v) d → IsReachedWithin (new v) d
 
 -- a walk is put into the queue if it is shorter than what is noted for its node
 abbrev pub Offers : Walk ℕ → (ℕ → Known) → List (Walk ℕ) → (ℕ → Known) → List (Walk ℕ) → Type 0
 Offers e node_states front node_states' front' =
     (IsReachedWithin (node_states e.node) e.dist × (node_states' ≡ node_states) × (front' ≡ front))
-    ⊎ ((¬ IsReachedWithin (node_states e.node) e.dist) × Sets node_states e.node (reached e.dist) node_states' × IsPermutation (e ∷ front) front')
+    ⊎ ((¬ IsReachedWithin (node_states e.node) e.dist) × Sets node_states e.node (Reached e.dist) node_states' × IsPermutation (e ∷ front) front')
 
 -- at most d plus the weight is noted for the head of the arc
 abbrev pub IsArcRelaxed : (ℕ → Known) → ℕ → WeightedArc → Type 0
@@ -64,8 +62,7 @@ IsArcRelaxed node_states d out_arc = IsReachedWithin (node_states out_arc.head) 
 -- the node was settled at this distance, no settled node is farther, and one more arc stays below the limit
 pub record IsReady (a : Adjacency) (v dist : ℕ) (node_states : ℕ → Known) (front : List (Walk ℕ)) : Type 0 where
   pub node : IsNode a.nodes v
-  pub settled : IsSettled (node_states v)
-  pub at : (node_states v).dist ≡ dist
+  pub settled : settled_label (node_states v) ≡ Some (pos dist)
   pub bound : dist + a.greatest ≤ a.greatest * settled_count node_states a.nodes
   pub waits : IsFront a dist node_states front
 
@@ -95,7 +92,7 @@ pub record IsPathSearch (a : Adjacency) (b : BlockValue) (node_states : ℕ → 
   pub tight : All (HasTightOutArc a b) b.labels
   pub low : All (λ (l : Label). l.dist ≤ℤ pos floor) b.labels
   pub nearest_first : IsNearestFirst b.labels
-  pub relaxed : (u : ℕ) → IsSettled (node_states u) → All (IsArcRelaxed node_states (node_states u).dist) (out a u)
+  pub relaxed : (u d : ℕ) → label b u ≡ Some (pos d) → All (IsArcRelaxed node_states d) (out a u)
 
 -- the nearest walk was removed from the queue
 pub record IsPopped (a : Adjacency) (b : BlockValue) (node_states : ℕ → Known) (e : Walk ℕ) (front : List (Walk ℕ)) : Type 0 where

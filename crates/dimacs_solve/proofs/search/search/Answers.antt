@@ -1,6 +1,6 @@
 use Rattle.std.proofs.{Common.{◌∙◌, [], None, ap, arith}, lemmas.List.Sorted.{IsPermutation-sym, length_permutation}}
 use Rattle.dimacs_claims.specs.Labels.{BlockValue, IsBlock}
-use Rattle.dimacs_solve.specs.{inside.NodeStates.{Sets, known, settled}, inside.Search.{IsPathSearch, Relaxes}}
+use Rattle.dimacs_solve.specs.{inside.NodeStates.{Settled, Sets, known}, inside.Search.{IsPathSearch, Relaxes}}
 use Rattle.dimacs_solve.proofs.SearchLemmas.{over_tree, start_ready, start_search}
 use Rattle.dimacs_solve.proofs.search.search.Goals as goal
 
@@ -9,7 +9,7 @@ relax-requires-clause-ready g c =
     let value = g.D.SearchDistance.value in
     let node_states = known value c.next_round.new.self in
     let started = known value c.settle.new.self in
-    let sets : Sets node_states c.args.source (settled 0) started = rw c.zero.ensures at c.in_ok-settle.ensures.settled in
+    let sets : Sets node_states c.args.source (Settled 0) started = rw c.zero.ensures at c.in_ok-settle.ensures.settled in
     rw (c.zero-2.ensures, c.requires.empty) (start_ready c.args.adjacency.now c.args.source node_states started c.requires.adjacent c.requires.source c.next_round.ensures.unknown sets)
 
 pub loop-walk-init : goal.loop-walk-init
@@ -20,7 +20,7 @@ loop-walk-init g c =
     let node_states = known value c.next_round.new.self in
     let started = known value c.settle.new.self in
     let node_states' = known value c.relax.new.node_states in
-    let sets : Sets node_states source (settled 0) started = rw c.zero.ensures at c.in_ok-settle.ensures.settled in
+    let sets : Sets node_states source (Settled 0) started = rw c.zero.ensures at c.in_ok-settle.ensures.settled in
     let made = c.new-block.ensures.empty in
     let lawful : IsBlock a.nodes (record { source = source; radius = None; labels = [] }) = rw made at (c.new-block.ensures.lawful a.nodes c.requires.source) in
     let relaxes : Relaxes a source 0 started [] node_states' c.relax.new.frontier = rw (c.zero-2.ensures, c.requires.empty) at c.in_ok-relax.ensures.relaxes in
