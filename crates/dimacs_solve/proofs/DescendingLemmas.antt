@@ -57,14 +57,6 @@ next_step i n now next at below within this = record {
   within = within;
 }
 
-first_of : (i : MinValue) (earlier : List (List ℤ)) (now : List ℤ) → StartsCheap i (earlier ++ now ∷ []) → length earlier ≡ 0 → now ≡ start_flow i.arcs
-first_of i [] now starts none = starts
-first_of i (x ∷ earlier) now starts none = absurd (omega (arith, none))
-
--- without a step, the flow is the start flow
-pub at_start : (i : MinValue) (n : ℕ) (now : List ℤ) → IsAtStep i n now → n ≡ 0 → now ≡ start_flow i.arcs
-at_start i n now at none = first_of i at.earlier now at.starts (omega (arith, at.count, none))
-
 pub out_of_steps : (i : MinValue) (n limit : ℕ) (now : List ℤ) → n ≡ limit → IsAtStep i n now → (¬ Least i now) → TakesMoreSteps i limit
 out_of_steps i n limit now e at below = record {
   flows = at.earlier ++ now ∷ [];
