@@ -2,7 +2,7 @@
 use Rattle.std.proofs.Common.{◌≡◌, ◌≢◌, inl, inr, ℕ, ◌*◌, ◌/◌, ◌%◌, ◌<◌, ◌≤◌, ◌==◌, List, length, Bool, true, false, cond, is_some, refl, sym, ◌∙◌, ap, arith}
 use Rattle.std.proofs.{lemmas.Bool.{cases_eq, cases_lt, eq-eqb, false≢true, ne_eqb}, lemmas.List.{get_or_past}}
 use Rattle.std.proofs.lemmas.Nat.Bits.{bit_at-zero}
-use Rattle.std.specs.{Prelude.{◌||◌, ◌&&◌, not, IsTrue, Result, Ok, Err, OnErr}, Bool.{then_some}, Ordering.{nat_cmp}}
+use Rattle.std.specs.{Prelude.{◌||◌, ◌&&◌, not, IsTrue, Result, Ok, Err, OnErr}, Bool.{then_some}}
 use Rattle.std.specs.{Cmp.{nat_cmp_total, unsigned_tied}, FinMap.{contains_key-keys}}
 use Rattle.std.specs.FinSet.{contains, contains-from_list, same_set, nat_cmp-IsAntisymmetric}
 use Rattle.dimacs_network.specs.{Sets.{byte_at, has_bit, has_node, nodes_in}, inside.Sets.{SameBytes}}
