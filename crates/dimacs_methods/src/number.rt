@@ -42,7 +42,7 @@ pub(crate) trait Number: Copy + Default {
         self.wide() == 0
     }
 
-    /// Sums and differences of seven smaller numbers don't wrap.
+    /// Sums and differences of eight smaller numbers don't wrap.
     #[inline(always)]
     final fn small_end() -> Self {
         Self::greatest().halved(3)

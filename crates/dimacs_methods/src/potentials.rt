@@ -29,10 +29,10 @@ use crate::number::Number;
 use crate::potentials::claim::Claim;
 use crate::potentials::cycle::{cycle_over, cycle_within};
 use crate::potentials::groups::{GroupPlaces, Groups};
-use crate::potentials::join::joints;
+use crate::potentials::join::{Joints, join_all};
 use crate::potentials::links::{Link, all_links, joined_links};
 use crate::potentials::listing::Listing;
-use crate::potentials::rounds::rounds_suffice;
+use crate::potentials::rounds::{Rounds, relax_in_rounds};
 use crate::potentials::search::{SearchEnd, lower_all};
 use crate::potentials::tree::Tree;
 use crate::tables::member;
@@ -100,11 +100,13 @@ fn tie_and_link<N: Network, V: Number>(
         return Ok(Some(cycle_within(alloc, claim, &places)?));
     };
     let mut distances = vec![in alloc; V::of(0); places.groups as usize]?;
-    if rounds_suffice(&links, &mut distances) {
-        let Some(potentials) = potentials(alloc, claim, &places, &distances)? else {
-            return Ok(None);
-        };
-        return Ok(Some(Guess::Optimal(potentials)));
+    match relax_in_rounds(&links, &mut distances) {
+        Rounds::Suffice => {
+            let potentials = potentials(alloc, claim, &places, &distances)?;
+            return Ok(Some(Guess::Optimal(potentials)));
+        }
+        Rounds::Many => {}
+        Rounds::Wide => return Ok(None),
     }
     drop(distances);
     join_and_correct(alloc, claim, places, links)
@@ -117,8 +119,10 @@ fn join_and_correct<N: Network, V: Number>(
     places: GroupPlaces<V>,
     links: Vec<Link<V>>,
 ) -> Result<Option<Guess>, Memory> {
-    let Some(joints) = joints(alloc, &links, places.groups)? else {
-        return correct_labels(alloc, claim, &places, links);
+    let joints = match join_all(alloc, &links, places.groups)? {
+        Joints::Places(joints) => joints,
+        Joints::Few => return correct_labels(alloc, claim, &places, links),
+        Joints::Wide => return Ok(None),
     };
     let mut places = places;
     places.join(&joints);
@@ -144,33 +148,31 @@ fn correct_labels<N: Network, V: Number>(
     if let SearchEnd::Cycle(groups) = &end {
         return Ok(Some(cycle_over(alloc, claim, places, groups)?));
     }
-    let Some(potentials) = potentials(alloc, claim, places, &tree.distances)? else {
+    if !tree.are_small {
         return Ok(None);
-    };
+    }
+    let potentials = potentials(alloc, claim, places, &tree.distances)?;
     Ok(Some(match end {
         SearchEnd::Optimal => Guess::Optimal(potentials),
         _ => Guess::GaveUp(potentials),
     }))
 }
 
-/// The distances, negated. None if one isn't small.
+/// The distances, which are small, negated.
 fn potentials<N: Network, V: Number>(
     alloc: Global,
     claim: &Claim<'_, N>,
     places: &GroupPlaces<V>,
     distances: &[V],
-) -> Result<Option<Potentials>, Memory> {
+) -> Result<Potentials, Memory> {
     let mut potentials = Potentials::new(alloc, claim.instance.network().nodes());
     for number in 0..claim.numbers.count() {
         let place = places.of(number);
         let distance = member(distances, place.group, V::of(0));
-        if !distance.is_small() {
-            return Ok(None);
-        }
         let value = distance.plus(place.shift).negated().wide();
         set_potential(&mut potentials, claim.numbers.id(number), value)?;
     }
-    Ok(Some(potentials))
+    Ok(potentials)
 }
 
 /// Sets a potential that is 0 until now. Ignores an ID that is no node, and a value out of range.

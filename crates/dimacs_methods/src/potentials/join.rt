@@ -23,15 +23,27 @@ struct Joining<'a, V> {
     /// Groups that may have only one link in, or out.
     todo: Vec<u32>,
     joined: u32,
+    /// Whether the shifts that were looked at are small.
+    are_small: bool,
+}
+
+/// What comes of joining groups.
+#[derive(Drop)]
+pub(crate) enum Joints<V> {
+    Places(GroupPlaces<V>),
+    /// Less than an eighth of the groups can be joined.
+    Few,
+    /// A shift isn't small.
+    Wide,
 }
 
 /// Joins each group with only one link in, or out, to the link's other end. If slack potentials exist, then some of
-/// them make the link tight. None if less than an eighth of the groups can be joined, or a shift isn't small.
-pub(crate) fn joints<V: Number>(
+/// them make the link tight.
+pub(crate) fn join_all<V: Number>(
     alloc: Global,
     links: &[Link<V>],
     groups: u32,
-) -> Result<Option<GroupPlaces<V>>, Memory> {
+) -> Result<Joints<V>, Memory> {
     let mut joining = Joining::new(alloc, links, groups)?;
     joining.count_links();
     for _ in 0..u64::MAX {
@@ -39,11 +51,17 @@ pub(crate) fn joints<V: Number>(
             break;
         };
         joining.join(group)?;
+        if !joining.are_small {
+            return Ok(Joints::Wide);
+        }
     }
     if joining.joined < groups / 8 {
-        return Ok(None);
+        return Ok(Joints::Few);
     }
-    joining.groups.into_places(alloc)
+    Ok(match joining.groups.into_places(alloc)? {
+        Some(places) => Joints::Places(places),
+        None => Joints::Wide,
+    })
 }
 
 impl<'a, V: Number> Joining<'a, V> {
@@ -58,6 +76,7 @@ impl<'a, V: Number> Joining<'a, V> {
             out,
             todo: (0..count).collect(alloc)?,
             joined: 0,
+            are_small: true,
         })
     }
 
@@ -98,7 +117,9 @@ impl<'a, V: Number> Joining<'a, V> {
         }
         let back = self.other_link(group, number);
         self.groups.tie(link.from, link.to, link.cost);
-        let root = self.groups.find(group).group;
+        let place = self.groups.find(link.to);
+        let root = place.group;
+        self.are_small = place.shift.is_small();
         merge(&mut self.into, from, to, root);
         merge(&mut self.out, from, to, root);
         self.leave_out(root, number);
