@@ -96,7 +96,7 @@ impl<D: SearchDistance> Frontier<D> {
     }
 
     /// Moves the walks in the farther half of the heap's range to a pile. If they are few, the heap may grow before the
-    /// next try. So all tries together take linear time.
+    /// next try. A walk is moved at most once for each bit of its length.
     #[inline(never)]
     fn spill(&mut self) -> Result<(), Memory>
         ensures { OnOk result (IsPermutation self.old self.new) }

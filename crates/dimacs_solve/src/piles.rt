@@ -10,7 +10,7 @@ use std::alloc::Global;
 use std::cmp::Reverse;
 
 /// Walks are few if they are less than one of so many.
-const FEW: usize = 16;
+const FEW: usize = 4;
 
 /// Walks no longer than `ceiling`.
 #[derive(Drop)]
@@ -76,8 +76,9 @@ pub(crate) fn split<D: SearchDistance>(
 ) -> Result<(Vec<Reverse<Walk<D>>>, Vec<Reverse<Walk<D>>>), Memory>
     ensures { IfOk result (λ parts. IsSplit D.value (D.value middle) walks.now parts.0.items parts.1.items) }
 {
-    let mut closer = Vec::new(alloc);
-    let mut farther = Vec::new(alloc);
+    let near = count_within(walks, middle).min(walks.len());
+    let mut closer = Vec::with_capacity(alloc, near)?;
+    let mut farther = Vec::with_capacity(alloc, walks.len() - near)?;
     for walk in walks {
         if middle < walk.0.dist {
             farther.push(*walk)?;
