@@ -1,7 +1,7 @@
 //! Claims and certificates: queries, solutions, cuts, potentials and labels.
 
 use crate::network::NodeSet;
-use crate::text::{refuse, Declared, Reading, Record, Refusal};
+use crate::text::{refuse, refuse_if, Declared, Reading, Record, Refusal};
 
 /// Queries for all distances from some nodes.
 #[derive(Default)]
@@ -64,9 +64,7 @@ impl Reading for Solution {
     #[inline(always)]
     fn take(&mut self, record: &Record, line: u64) -> Result<(), Refusal> {
         if record.letter == b's' {
-            if self.value.is_some() {
-                return refuse(0, "SolutionTwice");
-            }
+            refuse_if(self.value.is_some(), 0, "SolutionTwice")?;
             self.value = Some((record.wide, line));
             return Ok(());
         }
@@ -83,10 +81,7 @@ impl Reading for Solution {
     }
 
     fn finish(&self) -> Result<(), Refusal> {
-        if self.value.is_none() {
-            return refuse(0, "SolutionMissing");
-        }
-        Ok(())
+        refuse_if(self.value.is_none(), 0, "SolutionMissing")
     }
 }
 
@@ -111,12 +106,8 @@ impl Reading for Cut {
         }
         self.declared.test()?;
         let node = numbers[0] as u32;
-        if node > self.nodes {
-            return refuse(2, "NodeRange");
-        }
-        if !self.named.insert(node) {
-            return refuse(2, "NodeTwice");
-        }
+        refuse_if(node > self.nodes, 2, "NodeRange")?;
+        refuse_if(!self.named.insert(node), 2, "NodeTwice")?;
         self.declared.test_one_more(self.count)?;
         self.count += 1;
         Ok(())
@@ -201,16 +192,10 @@ impl Labels {
     fn take_block(&mut self, numbers: &[i64; 5]) -> Result<(), Refusal> {
         self.declared_blocks.test()?;
         let source = numbers[0] as u32;
-        if source > self.nodes {
-            return refuse(2, "NodeRange");
-        }
-        if !self.sources.insert(source) {
-            return refuse(2, "NodeTwice");
-        }
+        refuse_if(source > self.nodes, 2, "NodeRange")?;
+        refuse_if(!self.sources.insert(source), 2, "NodeTwice")?;
         self.declared_blocks.test_one_more(self.blocks.len())?;
-        if self.last_block_is_short() {
-            return refuse(0, "TooFew");
-        }
+        refuse_if(self.last_block_is_short(), 0, "TooFew")?;
         self.blocks.push(Block { source, declared: numbers[1] as usize, first_label: self.labels.len() });
         self.labelled_in[source as usize] = self.blocks.len() as u32;
         Ok(())
@@ -223,22 +208,12 @@ impl Labels {
             return refuse(0, "RecordOrder");
         };
         let (id, pred) = (numbers[0] as u32, numbers[2] as u32);
-        if id > self.nodes {
-            return refuse(2, "NodeRange");
-        }
-        if pred > self.nodes {
-            return refuse(4, "NodeRange");
-        }
+        refuse_if(id > self.nodes, 2, "NodeRange")?;
+        refuse_if(pred > self.nodes, 4, "NodeRange")?;
         let this_block = self.blocks.len() as u32;
-        if self.labelled_in[id as usize] == this_block {
-            return refuse(2, "NodeTwice");
-        }
-        if self.labels.len() - block.first_label == block.declared {
-            return refuse(0, "TooMany");
-        }
-        if self.labelled_in[pred as usize] != this_block {
-            return refuse(0, "PredUnknown");
-        }
+        refuse_if(self.labelled_in[id as usize] == this_block, 2, "NodeTwice")?;
+        refuse_if(self.labels.len() - block.first_label == block.declared, 0, "TooMany")?;
+        refuse_if(self.labelled_in[pred as usize] != this_block, 0, "PredUnknown")?;
         self.labelled_in[id as usize] = this_block;
         if distance.abs() >= 1 << 61 {
             beyond_61_bits();
@@ -264,10 +239,7 @@ impl Reading for Labels {
 
     fn finish(&self) -> Result<(), Refusal> {
         self.declared_blocks.test_full(self.blocks.len())?;
-        if self.last_block_is_short() {
-            return refuse(0, "TooFew");
-        }
-        Ok(())
+        refuse_if(self.last_block_is_short(), 0, "TooFew")
     }
 }
 

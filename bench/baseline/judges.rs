@@ -29,6 +29,12 @@ fn at_certificate(reason: &str) -> String {
     format!("x certificate 0 0 {reason}\n")
 }
 
+/// Refuses by this line, if this holds.
+#[inline(always)]
+fn refuse_if(is_so: bool, line: impl FnOnce() -> String) -> Result<(), String> {
+    (!is_so).then_some(()).ok_or_else(line)
+}
+
 fn read<R: Reading>(text: &str, kind: text::Kind, path: &str, mut reading: R) -> Result<R, String> {
     text::read(kind, path, &mut reading).map_err(|fault| refusal_line(text, fault))?;
     Ok(reading)
@@ -46,47 +52,31 @@ pub fn judge_max(instance: &str, solution: &str, cut: &str) -> Outcome {
     test_bounds(&flows, network.values.iter().map(|&cap| (0, cap)))?;
     let nets = nets_of(&network, &flows);
     for node in 1..=network.nodes {
-        if node != network.source && node != network.sink && nets[node as usize] != 0 {
-            return Err(at_node(node, "Balance"));
-        }
+        let is_end = node == network.source || node == network.sink;
+        refuse_if(!is_end && nets[node as usize] != 0, || at_node(node, "Balance"))?;
     }
-    if nets[network.source as usize] != solution.value() {
-        return Err(at_solution(solution.value_line(), 2, "ValueDiffers"));
-    }
+    let value = nets[network.source as usize];
+    refuse_if(value != solution.value(), || at_solution(solution.value_line(), 2, "ValueDiffers"))?;
     test_cut(&network, &flows, &cut)?;
     Ok(format!("v max {}\n", solution.value()))
 }
 
 fn test_bounds(flows: &[i64], bounds: impl Iterator<Item = (i64, i64)>) -> Result<(), String> {
     for (arc, (&flow, (low, cap))) in flows.iter().zip(bounds).enumerate() {
-        if flow < low {
-            return Err(at_arc(arc, "BelowLow"));
-        }
-        if flow > cap {
-            return Err(at_arc(arc, "AboveCap"));
-        }
+        refuse_if(flow < low, || at_arc(arc, "BelowLow"))?;
+        refuse_if(flow > cap, || at_arc(arc, "AboveCap"))?;
     }
     Ok(())
 }
 
 fn test_cut(network: &Network, flows: &[i64], cut: &Cut) -> Result<(), String> {
-    if cut.nodes != network.nodes {
-        return Err(at_certificate("NodesDiffer"));
-    }
-    if !cut.named.contains(network.source) {
-        return Err(at_node(network.source, "SourceOutside"));
-    }
-    if cut.named.contains(network.sink) {
-        return Err(at_node(network.sink, "SinkInside"));
-    }
+    refuse_if(cut.nodes != network.nodes, || at_certificate("NodesDiffer"))?;
+    refuse_if(!cut.named.contains(network.source), || at_node(network.source, "SourceOutside"))?;
+    refuse_if(cut.named.contains(network.sink), || at_node(network.sink, "SinkInside"))?;
     for (arc, &(tail, head)) in network.ends.iter().enumerate() {
-        match (cut.named.contains(tail), cut.named.contains(head)) {
-            (true, false) if flows[arc] != network.values[arc] => {
-                return Err(at_arc(arc, "NotSaturated"));
-            }
-            (false, true) if flows[arc] != 0 => return Err(at_arc(arc, "BackFlow")),
-            _ => {}
-        }
+        let (from, to) = (cut.named.contains(tail), cut.named.contains(head));
+        refuse_if(from && !to && flows[arc] != network.values[arc], || at_arc(arc, "NotSaturated"))?;
+        refuse_if(!from && to && flows[arc] != 0, || at_arc(arc, "BackFlow"))?;
     }
     Ok(())
 }
@@ -99,9 +89,7 @@ pub fn judge_min(instance: &str, solution: &str, potentials: &str) -> Outcome {
     test_bounds(&flows, network.bounds.iter().copied())?;
     let nets = nets_of(&network, &flows);
     for node in 1..=network.nodes {
-        if nets[node as usize] != network.supplies[node as usize] as i128 {
-            return Err(at_node(node, "Balance"));
-        }
+        refuse_if(nets[node as usize] != network.supplies[node as usize] as i128, || at_node(node, "Balance"))?;
     }
     test_cost(&network, &flows, &solution)?;
     test_reduced_costs(&network, &flows, &potentials)?;
@@ -112,27 +100,19 @@ fn test_cost(network: &Network, flows: &[i64], solution: &Solution) -> Result<()
     let mut cost = 0i128;
     for (arc, (&flow, &unit_cost)) in flows.iter().zip(&network.values).enumerate() {
         cost += unit_cost as i128 * flow as i128;
-        if cost.unsigned_abs() > 10u128.pow(30) {
-            return Err(at_arc(arc, "CostRange"));
-        }
+        refuse_if(cost.unsigned_abs() > 10u128.pow(30), || at_arc(arc, "CostRange"))?;
     }
-    if cost != solution.value() {
-        return Err(at_solution(solution.value_line(), 2, "ValueDiffers"));
-    }
-    Ok(())
+    refuse_if(cost != solution.value(), || at_solution(solution.value_line(), 2, "ValueDiffers"))
 }
 
 fn test_reduced_costs(network: &Network, flows: &[i64], potentials: &Potentials) -> Result<(), String> {
-    if potentials.named.nodes != network.nodes {
-        return Err(at_certificate("NodesDiffer"));
-    }
+    refuse_if(potentials.named.nodes != network.nodes, || at_certificate("NodesDiffer"))?;
     let y = &potentials.values;
     for (arc, &(tail, head)) in network.ends.iter().enumerate() {
         let reduced_cost = network.values[arc] as i128 - y[tail as usize] + y[head as usize];
         let (low, cap) = network.bounds[arc];
-        if reduced_cost > 0 && flows[arc] != low || reduced_cost < 0 && flows[arc] != cap {
-            return Err(at_arc(arc, "NotTight"));
-        }
+        let is_tight = (reduced_cost <= 0 || flows[arc] == low) && (reduced_cost >= 0 || flows[arc] == cap);
+        refuse_if(!is_tight, || at_arc(arc, "NotTight"))?;
     }
     Ok(())
 }
@@ -165,16 +145,13 @@ fn put_others(
     let mut came = vec![0u32; network.ends.len()];
     for (k, entry) in solution.entries.iter().enumerate().skip(in_order) {
         let arc_at = |place| index.arc_at(network, entry.ends, place);
-        let Some(first) = index.first_place(network, entry.ends) else {
-            return Err(at_solution(solution.entry_line(k), 0, "UnknownArc"));
-        };
+        let at_entry = |reason| at_solution(solution.entry_line(k), 0, reason);
+        let first = index.first_place(network, entry.ends).ok_or_else(|| at_entry("UnknownArc"))?;
         if came[first] == 0 {
             let arcs = (first..).map_while(arc_at);
             came[first] = arcs.take_while(|&arc| arc < in_order).count() as u32;
         }
-        let Some(arc) = arc_at(first + came[first] as usize) else {
-            return Err(at_solution(solution.entry_line(k), 0, "ArcTwice"));
-        };
+        let arc = arc_at(first + came[first] as usize).ok_or_else(|| at_entry("ArcTwice"))?;
         flows[arc] = entry.flow;
         came[first] += 1;
     }
@@ -198,12 +175,9 @@ fn put_others_alone(
             Some(skipped) => Some(next + skipped),
             None => index.first_place(network, entry.ends).and_then(arc_at),
         };
-        let Some(arc) = found else {
-            return Err(at_solution(solution.entry_line(k), 0, "UnknownArc"));
-        };
-        if came[arc] {
-            return Err(at_solution(solution.entry_line(k), 0, "ArcTwice"));
-        }
+        let at_entry = |reason| at_solution(solution.entry_line(k), 0, reason);
+        let arc = found.ok_or_else(|| at_entry("UnknownArc"))?;
+        refuse_if(came[arc], || at_entry("ArcTwice"))?;
         came[arc] = true;
         flows[arc] = entry.flow;
         next = arc + 1;
@@ -226,19 +200,13 @@ pub fn judge_paths(graph: &str, queries: &str, labels: &str) -> Outcome {
     let queries = read("query", text::QUERIES, queries, Queries::default())?;
     let mut labels = read("certificate", text::LABELS, labels, Labels::default())?;
     labels.shrink();
-    if labels.nodes != graph.nodes {
-        return Err(at_certificate("NodesDiffer"));
-    }
+    refuse_if(labels.nodes != graph.nodes, || at_certificate("NodesDiffer"))?;
     for &node in &queries.sources {
-        if node > graph.nodes {
-            return Err(at_node(node, "QueryNode"));
-        }
+        refuse_if(node > graph.nodes, || at_node(node, "QueryNode"))?;
     }
     let labelled: HashSet<u32> = labels.blocks.iter().map(|block| block.source).collect();
     for &node in &queries.sources {
-        if !labelled.contains(&node) {
-            return Err(at_node(node, "BlockMissing"));
-        }
+        refuse_if(!labelled.contains(&node), || at_node(node, "BlockMissing"))?;
     }
     let mut nodes = vec![LabelledNode::NONE; graph.nodes as usize + 1];
     for block in 0..labels.blocks.len() {
@@ -286,12 +254,7 @@ fn test_block(graph: &Network, labels: &Labels, block: usize, nodes: &mut [Label
         }
     }
     for label in labels.labels_of(block) {
-        if !nodes[label.id as usize].has_arc {
-            return Err(at_node(label.id, "NoTightArc"));
-        }
+        refuse_if(!nodes[label.id as usize].has_arc, || at_node(label.id, "NoTightArc"))?;
     }
-    match failed {
-        Some((arc, reason)) => Err(at_arc(arc, reason)),
-        None => Ok(()),
-    }
+    failed.map_or(Ok(()), |(arc, reason)| Err(at_arc(arc, reason)))
 }

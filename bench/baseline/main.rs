@@ -34,13 +34,9 @@ fn main() {
         ["judge-paths", graph, queries, labels] => judge_paths(graph, queries, labels),
         _ => usage(),
     };
-    match outcome {
-        Ok(lines) => print!("{lines}"),
-        Err(line) => {
-            print!("{line}");
-            std::process::exit(1);
-        }
-    }
+    let status = outcome.is_err().into();
+    print!("{}", outcome.unwrap_or_else(|line| line));
+    std::process::exit(status)
 }
 
 fn usage() -> ! {

@@ -15,6 +15,12 @@ pub fn refuse<T>(field: u32, reason: &'static str) -> Result<T, Refusal> {
     Err(Refusal { field, reason })
 }
 
+/// Refuses a line of which this holds.
+#[inline(always)]
+pub fn refuse_if(is_so: bool, field: u32, reason: &'static str) -> Result<(), Refusal> {
+    (!is_so).then_some(()).ok_or(Refusal { field, reason })
+}
+
 /// The fault of a text.
 pub struct Fault {
     pub line: u64,
@@ -93,9 +99,7 @@ pub struct Declared {
 
 impl Declared {
     pub fn declare(&mut self, count: i64) -> Result<(), Refusal> {
-        if self.is_there {
-            return refuse(0, "ProblemTwice");
-        }
+        refuse_if(self.is_there, 0, "ProblemTwice")?;
         self.is_there = true;
         self.count = count as usize;
         Ok(())
@@ -103,27 +107,18 @@ impl Declared {
 
     #[inline(always)]
     pub fn test(&self) -> Result<(), Refusal> {
-        if !self.is_there {
-            return refuse(0, "ProblemMissing");
-        }
-        Ok(())
+        refuse_if(!self.is_there, 0, "ProblemMissing")
     }
 
     /// Whether one may follow these.
     #[inline(always)]
     pub fn test_one_more(&self, found: usize) -> Result<(), Refusal> {
-        if found == self.count {
-            return refuse(0, "TooMany");
-        }
-        Ok(())
+        refuse_if(found == self.count, 0, "TooMany")
     }
 
     pub fn test_full(&self, found: usize) -> Result<(), Refusal> {
         self.test()?;
-        if found < self.count {
-            return refuse(0, "TooFew");
-        }
-        Ok(())
+        refuse_if(found < self.count, 0, "TooFew")
     }
 }
 
@@ -235,16 +230,11 @@ fn leading_digits(bytes: &[u8], at: usize) -> (u64, usize) {
 
 /// Any line: skipped, refused, or given to the reading.
 fn take_line<R: Reading>(kind: Kind, bytes: &[u8], reading: &mut R, line: u64) -> Result<(), Refusal> {
-    match record(kind, bytes)? {
-        Some(record) => reading.take(&record, line),
-        None => Ok(()),
-    }
+    record(kind, bytes)?.map_or(Ok(()), |record| reading.take(&record, line))
 }
 
 fn record(kind: Kind, line: &[u8]) -> Result<Option<Record>, Refusal> {
-    if line.len() > LINE_MAX {
-        return refuse(0, "LineTooLong");
-    }
+    refuse_if(line.len() > LINE_MAX, 0, "LineTooLong")?;
     let mut fields = line.split(|&b| b == b' ' || b == 9 || b == 13).filter(|field| !field.is_empty());
     let Some(first) = fields.next() else {
         return Ok(None);
@@ -263,15 +253,10 @@ fn record(kind: Kind, line: &[u8]) -> Result<Option<Record>, Refusal> {
         }
         count += 1;
     }
-    if count != form.types.len() {
-        return refuse(0, "FieldCount");
-    }
+    refuse_if(count != form.types.len(), 0, "FieldCount")?;
     let mut record = Record { letter: form.letter, numbers: [0; FIELDS_MAX], wide: 0 };
     for (i, (&field_type, text)) in form.types.iter().zip(texts).enumerate() {
-        let value = match field(field_type, text) {
-            Ok(value) => value,
-            Err(reason) => return refuse(i as u32 + 2, reason),
-        };
+        let value = field(field_type, text).or_else(|reason| refuse(i as u32 + 2, reason))?;
         record.numbers[i] = value as i64;
         if let Wide = field_type {
             record.wide = value;
@@ -282,10 +267,10 @@ fn record(kind: Kind, line: &[u8]) -> Result<Option<Record>, Refusal> {
 
 fn field(field_type: FieldType, text: &[u8]) -> Result<i128, &'static str> {
     match field_type {
-        Word(words) => match words.iter().position(|word| word.as_bytes() == text) {
-            Some(place) => Ok(place as i128),
-            None => Err("BadWord"),
-        },
+        Word(words) => {
+            let place = words.iter().position(|word| word.as_bytes() == text);
+            place.map(|place| place as i128).ok_or("BadWord")
+        }
         Nodes => number(text, 0, NODES_MAX),
         Count => number(text, 0, COUNT_MAX),
         Id => number(text, 1, NODES_MAX),
@@ -311,11 +296,7 @@ fn number(text: &[u8], least: i128, greatest: i128) -> Result<i128, &'static str
         }
     }
     let value = if negative { -size } else { size };
-    if value < least || value > greatest {
-        Err("NumberRange")
-    } else {
-        Ok(value)
-    }
+    (least..=greatest).contains(&value).then_some(value).ok_or("NumberRange")
 }
 
 /// A piece of a file: what was pulled and not yet looked at lies from `start` to `end`.
