@@ -10,22 +10,11 @@ import glob
 import re
 import sys
 
+from believed import imported
 from texts import TOP, read, write
 
 WIDTH = 120
 LINE = re.compile(r"(ghost )?use (Rattle\.[^;]*\});?$")
-# A member of an import's braces, which may have braces of its own, two levels deep.
-MEMBER = re.compile(r"(?:[^{},]|\{(?:[^{}]|\{[^{}]*\})*\})+")
-
-
-def imported(path, before=""):
-    """What `A.{B.{c as d}, e}` names: (A.B, `c as d`) and (A, e)."""
-    module, braces, names = path.strip().partition(".{")
-    if not braces:
-        yield before, module
-        return
-    for it in MEMBER.findall(names[:-1]):
-        yield from imported(it, f"{before}.{module}" if before else module)
 
 
 def folder_of(module):
@@ -66,7 +55,8 @@ def grouped(lines):
     for line in [*lines, None]:
         found = line is not None and LINE.match(line)
         if found:
-            run += [(bool(found[1]), *it) for it in imported(found[2])]
+            named = imported(found[2])
+            run += [(bool(found[1]), module, f"{name} as {alias}" if alias else name) for module, name, alias in named]
         elif run and line is not None and re.match(r"use Rattle\..* as \w+$", line):
             others.append(line)
         else:
