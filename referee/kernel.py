@@ -163,6 +163,12 @@ def assumes_nothing_else(said):
     return set(last.splitlines()) <= INTEGERS if begun else said.endswith(NOTHING_ASSUMED)
 
 
+def is_same(one, other):
+    """Whether two names are of one file, which needn't be there."""
+    is_there = os.path.exists(one) and os.path.exists(other)
+    return os.path.samefile(one, other) if is_there else os.path.realpath(one) == os.path.realpath(other)
+
+
 def parted(words):
     """The command, the files that it reads, and those that get the certificate and the theorem, or None."""
     words, keep = list(words), None
@@ -179,7 +185,7 @@ def parted(words):
         raise Failed(2, f"{keep}: this file is there, and isn't one that --keep wrote")
     names, made = words[1 : count + 1], (words[count + 1 :] or [None])[0]
     for written, others in (made, names), (keep, words[1:]):
-        if written and os.path.realpath(written) in map(os.path.realpath, others):
+        if written and any(is_same(written, it) for it in others):
             raise Failed(2, f"{written}: named twice")
     return words[0], names, made, keep
 

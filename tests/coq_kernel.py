@@ -172,12 +172,10 @@ def keeping():
         for name in ("Mine.v", "Link.v", "a b.v", "Kept.txt"):
             answer = checked([*words, "--keep", name], folder)
             yield f"{name} isn't written", answer[:2] == (2, "") and files.read("Mine.v") == kept[1:] and not os.path.exists(f"{folder}/nowhere"), answer
-        for more in (["New.v", "--keep", "New.v"], [names[1]]):
+        os.link(f"{folder}/{names[1]}", f"{folder}/linked")
+        for more in (["New.v", "--keep", "New.v"], [names[1]], ["linked"]):
             answer = checked([*words, *more], folder)
             yield f"one file by two names: {more[0]}", answer[:2] == (2, "") and files.read(names[1]) == solution, answer
-        os.link(f"{folder}/{names[1]}", f"{folder}/linked")
-        answer = ran([f"{BUILT}/judge", *words, "linked"], folder)
-        yield "the judge replaces no claim", answer[0] == 2 and "linked: is read" in answer[2] and files.read("linked") == solution, answer
         answer = checked(words, folder, env={"PATH": "/nowhere"})
         yield "no coqc", answer[:2] == (3, "") and "there is no coqc" in answer[2], answer
         for wrong in ("", "max", "max a b c d", "certify-max a", "other a b c", "certify-max a b --keep"):

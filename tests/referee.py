@@ -194,6 +194,8 @@ CERTIFIED_RUNS = [
     *["paths gr near made", "max max flow made more", "max max", "infeasible", "infeasible min made more"],
     *["max max flow \udcff", "max max flow folder", "max max zero absent/made", "max faulty flow made"],
     *["max max absent made", "max max flow /dev/full", "max max flow long", "max max zero long", "infeasible min long"],
+    # What is written is read, or its name looks like an option.
+    *["max max flow ./max", "max max flow linked", "infeasible min min", "paths gr near near", "max max flow --made"],
 ]
 
 # How the shell closes devices, or fills them; `|` is a pipe that nobody reads.
@@ -225,6 +227,7 @@ def compare_commands(binary, second):
     with tempfile.TemporaryDirectory(dir=MEMORY) as folder:
         os.mkdir(os.path.join(folder, "folder"))
         os.symlink("loop", os.path.join(folder, "loop"))
+        os.symlink("flow", os.path.join(folder, "linked"))
         for kind, words, how in runs:
             proved = ended([binary, *(f"{kind}-{words}" if words else "").split()], how, folder)
             plain = ended([sys.executable, referee.__file__, *words.split()], how, folder) if kind == "judge" else proved

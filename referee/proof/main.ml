@@ -4,8 +4,7 @@ external end_with_4 : unit -> unit = "judge_ends_with_4"
 
 let () = end_with_4 ()
 
-exception Usage
-exception Slip of string
+exception Usage of string
 exception Device of string
 
 let usage =
@@ -59,19 +58,20 @@ let noted lines_of finding = found := lines_of finding; finding
 let flows = noted (function Judge.Shown lines | Judge.Better lines -> lines)
 let labels = noted Fun.id
 
-(* A file that is read isn't written over. *)
-let refuse_to_replace read made =
+(* What is likely a slip: a file that is read isn't written over, and a name that looks like an option names none. *)
+let refuse_slips read made =
   let file name =
     match Unix.stat name with
     | { st_kind = S_REG; st_dev; st_ino; _ } -> Some (st_dev, st_ino)
     | _ | exception Unix.Unix_error _ -> None in
+  if String.starts_with ~prefix:"--" made then raise (Usage (made ^ " looks like an option"));
   if List.exists (fun name -> file name <> None && file name = file made) read then
-    raise (Slip (made ^ ": is read, so it isn't written"))
+    raise (Usage (made ^ " is read, so it isn't written"))
 
 (* The first line of the report is printed. The file gets the others, if there are any, or by `found-` what was found, for
    kernel.py. A search that fails is a wrong one. *)
 let certify word command (names, made) =
-  Option.iter (refuse_to_replace names) made;
+  Option.iter (refuse_slips names) made;
   let state = after_texts command names in
   let yes, lines =
     try Option.get (Judge.report_of (Judge.text_ended command state)) with
@@ -106,7 +106,7 @@ let parted count names =
   match List.filteri (fun k _ -> k < count) names, List.filteri (fun k _ -> k >= count) names with
   | read, [] when List.length read = count -> read, None
   | read, [ made ] -> read, Some made
-  | _ -> raise Usage
+  | _ -> raise (Usage usage)
 
 (* Whether the bytes from k on are UTF-8. *)
 let rec is_utf8 s k =
@@ -122,7 +122,7 @@ let rec is_utf8 s k =
 
 let run command names =
   match command, names with
-  | _ when not (List.for_all (fun name -> is_utf8 name 0) names) -> raise Usage
+  | _ when not (List.for_all (fun name -> is_utf8 name 0) names) -> raise (Usage usage)
   | ("max" | "judge-max"), [ _; _; _ ] -> judge Judge.command_max names
   | ("min" | "judge-min"), [ _; _; _ ] -> judge Judge.command_min names
   | ("infeasible" | "judge-infeasible"), [ _; _ ] -> judge Judge.command_infeasible names
@@ -135,7 +135,7 @@ let run command names =
       certify command (Judge.command_certify_infeasible (fun i -> flows (Search.infeasible i))) (parted 1 names)
   | ("certify-paths" | "found-paths"), _ ->
       certify command (Judge.command_certify_paths (fun g l -> labels (Search.paths g l))) (parted 2 names)
-  | _ -> raise Usage
+  | _ -> raise (Usage usage)
 
 (* A file that is opened doesn't take the place of a standard device that is closed. *)
 let keep_closed device =
@@ -152,7 +152,7 @@ let status =
     Gc.(set { (get ()) with minor_heap_size = 1 lsl 20; space_overhead = 60 });
     List.iter keep_closed Unix.[ stdin; stdout; stderr ];
     let (yes, lines), file =
-      match Array.to_list Sys.argv with _ :: command :: names -> run command names | _ -> raise Usage in
+      match Array.to_list Sys.argv with _ :: command :: names -> run command names | _ -> raise (Usage usage) in
     let file = Option.map (fun (name, made) -> name, written made) file and output = written lines in
     (* All is there before any is printed, and room for what printing takes: memory can't be gone between. *)
     Gc.minor ();
@@ -160,8 +160,7 @@ let status =
     print ("standard output", Unix.stdout) output;
     if yes then 0 else if lines = gave_up then 5 else 1
   with
-  | Usage -> complain 2 ("usage\n" ^ usage)
-  | Slip message -> complain 2 message
+  | Usage message -> complain 2 ("usage\n" ^ message)
   | Device message -> complain 3 ("device fault\njudge: " ^ message)
   | Out_of_memory | Stack_overflow -> complain 4 "out of memory"
 
