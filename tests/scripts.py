@@ -28,7 +28,7 @@ nothing | 400    | tests/links.py
 nothing | 14     | tests/theorem.py
 nothing | 140    | tests/limits.py
 nothing | 110    | tests/man_pages.py
-program | 13460  | tests/referee.py {program}
+program | 13390  | tests/referee.py {program}
 program | 50     | tests/coq_kernel.py {program}
 program | 4      | tests/plain_recipes.py {program}
 program | 290    | tests/batch.py {program}
@@ -36,7 +36,7 @@ program | 150    | tests/large_runs.py {program}
 program | 40     | tests/malicious.py {program} 50000
 program | 99     | tests/refusals.py {program}
 program | 650    | tests/draw.py {program}
-program | 890    | tests/rows.py {program}
+program | 850    | tests/rows.py {program}
 program | 1050   | tests/explain.py {program} 80
 program | 50     | tests/usage.py {program}
 program | 60     | tests/completion.py {program}
