@@ -20,6 +20,7 @@ import sys
 import tempfile
 
 import scripts
+from explained_yes import distances_text
 from instances import BINARY, Folder, max_text, refusing_library, text
 
 # How much more a malicious text may take than a kind one: of time, and of memory.
@@ -129,9 +130,7 @@ def distances(paths, nodes, order=list, extra=(), radius=""):
 def claimed(texts):
     """The same graph, and the distances of the labels as a claim."""
     graph, _queries, labels = texts
-    problem, *lines = labels.splitlines()
-    _p, _dist, nodes, blocks = problem.split()
-    return [graph, text(f"p distances {nodes} {blocks}", *(" ".join(line.split()[:3]) for line in lines))]
+    return [graph, distances_text(labels)]
 
 
 def max_cases(n):

@@ -23,8 +23,6 @@ ASKED = [
     ("help", WHOLE),
     ("--help", WHOLE),
     ("-h", WHOLE),
-    ("--version", VERSION),
-    ("-V", VERSION),
 ]
 
 NONE = r"Usage: dimacs COMMAND FILE\.\.\.\n\n`dimacs help` lists the commands\n"

@@ -9,9 +9,9 @@ that the page is what this writes.
 import os
 import re
 import sys
-import textwrap
 
 import believed
+from theorem import filled
 from texts import TOP, read, write
 
 PAGE = f"{TOP}/docs/PROMISES.md"
@@ -41,16 +41,12 @@ class Sources:
         return {it[1]: " ".join(line[3:] for line in self.defined.blocks[it] if line.startswith("-- ")) for it in reached}
 
 
-def filled(item):
-    return textwrap.fill(item, 120, subsequent_indent="  ", break_long_words=False, break_on_hyphens=False) + "\n"
-
-
 def item_of(sources, contracts, definitions, faults):
     """An item with the comments of its definitions."""
     comments = sources.comments(re.findall(r"`(?:\w+::)?(\w+)`", contracts))
     names = re.findall(r"`(\w+)`:", definitions)
     faults += [f"{contracts}: no comment of {it}, or they don't rest on it" for it in names if not comments.get(it)]
-    return filled(f"- {' '.join(contracts.split())} → {' '.join(f'`{it}`: {comments.get(it)}.' for it in names)}")
+    return filled(f"- {' '.join(contracts.split())} → {' '.join(f'`{it}`: {comments.get(it)}.' for it in names)}") + "\n"
 
 
 def counts(defined):
@@ -65,7 +61,7 @@ def made(page):
     page = ITEM.sub(lambda it: item_of(sources, *it.groups(), faults), page)
     page = COUNTED.sub(lambda it: "".join(map("".join, zip(counts(sources.defined), it.groups()))), page)
     items = (f"- `{crate}`: {', '.join(f'`{it}`' for it in sorted(names))}" for crate, names in sources.requiring.items())
-    return LIST.sub("".join(map(filled, items)), page), faults
+    return LIST.sub("".join(f"{filled(it)}\n" for it in items), page), faults
 
 
 def main():

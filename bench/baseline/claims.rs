@@ -175,12 +175,6 @@ impl Labels {
         &self.labels[block.first_label..block.first_label + block.declared]
     }
 
-    /// Gives up what reading alone needed.
-    pub fn shrink(&mut self) {
-        self.labelled_in = Vec::new();
-        self.sources = NodeSet::default();
-    }
-
     fn take_problem(&mut self, numbers: &[i64; 5]) -> Result<(), Refusal> {
         self.declared_blocks.declare(numbers[2])?;
         self.nodes = numbers[1] as u32;

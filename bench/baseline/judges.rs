@@ -198,8 +198,7 @@ fn nets_of(network: &Network, flows: &[i64]) -> Vec<i128> {
 pub fn judge_paths(graph: &str, queries: &str, labels: &str) -> Outcome {
     let graph = read_instance(NetworkKind::Graph, graph)?;
     let queries = read("query", text::QUERIES, queries, Queries::default())?;
-    let mut labels = read("certificate", text::LABELS, labels, Labels::default())?;
-    labels.shrink();
+    let labels = read("certificate", text::LABELS, labels, Labels::default())?;
     refuse_if(labels.nodes != graph.nodes, || at_certificate("NodesDiffer"))?;
     for &node in &queries.sources {
         refuse_if(node > graph.nodes, || at_node(node, "QueryNode"))?;
