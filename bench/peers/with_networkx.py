@@ -1,8 +1,11 @@
 """Reads an instance into networkx, and prints how many nodes and arcs it has, or solves it, and prints the value:
 
-    with_networkx.py read|solve max|min FILE
-    with_networkx.py read gr FILE
-    with_networkx.py solve gr FILE SOURCE..
+    with_networkx.py read max|min|gr FILE
+    with_networkx.py solve|time max|min FILE
+    with_networkx.py solve|time gr FILE SOURCE..
+
+To time is to solve twice, by networkx itself and by the backend of dimacs, which has to be installed beside networkx
+3.3 or later; the seconds are without reading. docs/LIBRARY.md has ratios of some calls.
 
 networkx has no reader of DIMACS texts; this is the loop that its users write. To be read, and for least cost, a graph
 may have several arcs with the same ends; else such arcs are refused, since networkx wants, or is faster with, one. It
@@ -10,6 +13,7 @@ knows no lower bounds: an arc's is taken from its capacity and from the supplies
 """
 
 import sys
+import time
 
 import networkx
 
@@ -67,16 +71,27 @@ def solve_paths(graph, sources):
     return f"v sp {reached} {total}"
 
 
+def solved(kind, file, sources):
+    """The value of an instance, and the seconds that it took, without reading."""
+    graph = networkx.MultiDiGraph() if kind == "min" else networkx.DiGraph()
+    named = read(graph, kind, file)
+    begun = time.perf_counter()
+    solve = {"max": solve_max, "min": solve_min, "gr": solve_paths}[kind]
+    return solve(graph, sources if kind == "gr" else named), time.perf_counter() - begun
+
+
 def main():
     task, kind, file, *sources = sys.argv[1:]
-    graph = networkx.MultiDiGraph() if task == "read" or kind == "min" else networkx.DiGraph()
-    named = read(graph, kind, file)
     if task == "read":
+        graph = networkx.MultiDiGraph()
+        read(graph, kind, file)
         print(graph.number_of_nodes(), graph.number_of_edges())
-    elif kind == "gr":
-        print(solve_paths(graph, sources))
+    elif task == "solve":
+        print(solved(kind, file, sources)[0])
     else:
-        print(solve_max(graph, named) if kind == "max" else solve_min(graph, named))
+        for backend in "networkx", "dimacs":
+            networkx.config.backend_priority = [backend]
+            print(backend, *solved(kind, file, sources))
 
 
 main()
