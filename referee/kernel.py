@@ -101,10 +101,10 @@ def claim(command, texts, status, output, made, found):
         kind = command[len("certify-") :]
         finding = "lines_of found" if kind == "paths" else f"{'Better' if status else 'Shown'} (lines_of found)"
         yield f"Definition search {SEARCHES[kind]} := {finding}.\n\n"
-        function, given, names = f"({function} search)", f"search {given}", [*names, "[]"]
+        function, given = f"({function} search)", f"search {given}"
         said = "(said ++ map (fun line => [Word line]) (lines_of found))%list" if made else said
     answer = f"Some ({'false' if status else 'true'}, {said})"
-    yield f"Theorem answer : report_of (run_on {function} [{'; '.join(names)}])\n  = {answer}.\n"
+    yield f"Theorem answer : report_of (run_on {function} [{'; '.join([*names, '[]', '[]'][:3])}])\n  = {answer}.\n"
     yield f"Proof. vm_cast_no_check (eq_refl ({answer})). Qed.\n\n"
     promise = f"{'no' if status and not certified else 'yes' if certified and not status else 'promise'}_{command.replace('-', '_')} {given}answer"
     meant = MEANT.get(command, MEANT.get(command[len("certify-") :] if certified else ""))

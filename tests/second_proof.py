@@ -45,7 +45,7 @@ SPOILED = {
     | {"another program is promised": (UNPROVED, [("quick_infeasible i k", "None")])},
     "Certify": spoiled(
         "promise_certify_infeasible search a r",
-        "rewrite (run_without_second_is",
+        "intros [F|(i & I & [(? & ?",
         [("is_feasible i y file /\\ ~ no_flow i)", "is_feasible i y file /\\ True)"), ("intros N. now apply (N 1 y), F.", "easy.")],
     )
     | {"a certificate isn't tested": (UNPROVED, [("(quick_infeasible i) (true", "(fun _ => None) (true")])},

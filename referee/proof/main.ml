@@ -48,7 +48,9 @@ let after_texts command names =
   List.iter (fun (_, file) -> Unix.close file) files;
   state
 
-let judge command names = Option.get (Judge.report_of (after_texts command names)), None
+(* The report after texts that the command doesn't have, which are empty. *)
+let report command state = Option.get (Judge.report_of (Judge.text_ended command (Judge.text_ended command state)))
+let judge command names = report command (after_texts command names), None
 
 let gave_up = [ [ Judge.Word "g"; Judge.Word "search" ] ]
 
@@ -74,7 +76,7 @@ let certify word command (names, made) =
   Option.iter (refuse_slips names) made;
   let state = after_texts command names in
   let yes, lines =
-    try Option.get (Judge.report_of (Judge.text_ended command state)) with
+    try report command state with
     | (Out_of_memory | Stack_overflow) as gone -> raise gone
     | _ -> false, gave_up in
   let file = if word.[0] = 'f' then List.rev_map (fun line -> [ Judge.Word line ]) (List.rev !found) else List.tl lines in
