@@ -213,17 +213,14 @@ def label_cases(n):
 
 def queue_cases(n, asked):
     """Cases in which many walks of a search wait together: arcs from the source, or from a node beside a far one."""
-    words = "solve-paths I S shown"
+    words, far = "solve-paths I S shown", ["a 1 2 0", f"a 1 3 {2**62}"]
 
-    def star(weight):
-        return [text(f"p sp {n + 3} {n}", *(f"a 1 {i + 4} {weight(i)}" for i in range(n))), asked]
+    def star(weight, tail=1, before=()):
+        arcs = (f"a {tail} {i + 4} {weight(i)}" for i in range(n))
+        return [text(f"p sp {n + 3} {n + len(before)}", *before, *arcs), asked]
 
-    def beside(weight):
-        arcs = (f"a 2 {i + 4} {weight(i)}" for i in range(n))
-        return [text(f"p sp {n + 3} {n + 2}", "a 1 2 0", f"a 1 3 {2**62}", *arcs), asked]
-
-    weights = [random.Random(1).randrange(1, 10000) for _ in range(n)]
-    kind = star(lambda i: weights[i])
+    random_weights = random.Random(1)
+    kind = star(lambda i: random_weights.randrange(1, 10000))
     for name, weight in (
         ("of one weight", lambda i: 999),
         ("of no weight", lambda i: 0),
@@ -231,7 +228,7 @@ def queue_cases(n, asked):
         ("whose weights double", lambda i: 2 ** (i % 62)),
     ):
         yield f"solve-paths: arcs {name}", words, star(weight), kind, LIMIT
-        yield f"solve-paths: arcs {name}, beside a far node", words, beside(weight), kind, LIMIT
+        yield f"solve-paths: arcs {name}, beside a far node", words, star(weight, 2, far), kind, LIMIT
 
 
 def hub_cases(n):
