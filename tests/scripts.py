@@ -28,20 +28,20 @@ nothing | 400    | tests/links.py
 nothing | 14     | tests/theorem.py
 nothing | 140    | tests/limits.py
 nothing | 110    | tests/man_pages.py
-program | 13390  | tests/referee.py {program}
+program | 13360  | tests/referee.py {program}
 program | 50     | tests/coq_kernel.py {program}
 program | 4      | tests/plain_recipes.py {program}
 program | 290    | tests/batch.py {program}
 program | 150    | tests/large_runs.py {program}
 program | 40     | tests/malicious.py {program} 50000
-program | 99     | tests/refusals.py {program}
+program | 94     | tests/refusals.py {program}
 program | 650    | tests/draw.py {program}
-program | 850    | tests/rows.py {program}
+program | 830    | tests/rows.py {program}
 program | 1050   | tests/explain.py {program} 80
 program | 50     | tests/usage.py {program}
 program | 60     | tests/completion.py {program}
 program | 50     | tests/shown_runs.py {program}
-proved  | 6290   | tests/targets.py --build {build}
+proved  | 6280   | tests/targets.py --build {build}
 proved  | 60     | tools/dist.py ; tests/packages.py dist
 build   | 120    | tests/library.py --build {build} Python wheel
 build   | 1040   | tests/library.py --build {build} C++

@@ -47,11 +47,10 @@ def full(version, file):
 
 def of_program(program, wanted):
     """Yields what the program names, by each way to ask it."""
-    line = f"dimacs {full(wanted, program)}"
-    for words, stream, at in (["--version"], 1, 0), (["-V"], 1, 0), (["help"], 1, 0), (["--help"], 1, 0), ([], 2, 1):
+    for words in ["--version"], ["-V"], ["help"], ["--help"], []:
         ran = subprocess.run([program, *words], capture_output=True, text=True, check=False)
-        lines = (ran.stdout if stream == 1 else ran.stderr).split("\n")
-        yield f"dimacs {' '.join(words)}", lines[at : at + 1], [line]
+        first = (ran.stdout + ran.stderr).removeprefix("dimacs: usage\n").partition("\n")[0]
+        yield f"dimacs {' '.join(words)}", first, f"dimacs {full(wanted, program)}"
 
 
 def of_library(file, wanted):
