@@ -127,14 +127,20 @@ def compared(binary, judge, cases):
     return found, differing
 
 
+def by_workers(compare, commands, binary, judge, count, seed):
+    """What so many cases of these commands meet, how often, and those in which the answers differ."""
+    cases = [(commands[number % len(commands)], f"{seed}:{number}") for number in range(count)]
+    found, differing = collections.Counter(), []
+    with concurrent.futures.ProcessPoolExecutor(WORKERS) as pool:
+        for counts, more in pool.map(compare, *map(itertools.repeat, (binary, judge)), [cases[k::50] for k in range(50)]):
+            found += counts
+            differing += more
+    return found, differing
+
+
 def compare_all(binary, judge, count, seed):
     """What is met by all cases, which is listed, and how it fails."""
-    cases = [(COMMANDS[number % len(COMMANDS)], f"{seed}:{number}") for number in range(count)]
-    found, failures = collections.Counter(), []
-    with concurrent.futures.ProcessPoolExecutor(WORKERS) as pool:
-        for counts, differing in pool.map(compared, *map(itertools.repeat, (binary, judge)), [cases[k::50] for k in range(50)]):
-            found += counts
-            failures += differing
+    found, failures = by_workers(compared, COMMANDS, binary, judge, count, seed)
     listed = to_be_met()
     for it in listed:
         print(f"{found[it]:6} {it}")
@@ -145,13 +151,7 @@ def compare_all(binary, judge, count, seed):
 
 def certify_all(binary, judge, count, seed):
     """How many claims are certified, and which of them otherwise by the judge in Coq; the same for wrong searches."""
-    cases = [(certified.COMMANDS[number % 4], f"{seed}:{number}") for number in range(count)]
-    found, failures = collections.Counter(), []
-    with concurrent.futures.ProcessPoolExecutor(WORKERS) as pool:
-        programs = map(itertools.repeat, (binary, judge))
-        for counts, differing in pool.map(certified.compared, *programs, [cases[k::50] for k in range(50)]):
-            found += counts
-            failures += differing
+    found, failures = by_workers(certified.compared, certified.COMMANDS, binary, judge, count, seed)
     failures += [f"certify-{it}: never met" for it in certified.ANSWERS if not found[it]]
     parts = [(count, failures), certified.wrong_searches(binary, 24)]
     parts += [it(judge, FILES) for it in (certified.refused_calls, certified.limited_runs)]
