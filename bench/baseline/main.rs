@@ -20,15 +20,15 @@ mod network;
 mod output;
 mod text;
 
-use judges::{judge_max, judge_min, judge_paths, read_instance, Outcome};
+use judges::{judge_max, judge_min, judge_paths, read_instance};
 use network::{print, summary, NetworkKind};
 
 fn main() {
     let words: Vec<String> = std::env::args().skip(1).collect();
     let words: Vec<&str> = words.iter().map(String::as_str).collect();
     let outcome = match words[..] {
-        ["convert", kind, file] => convert(network_kind(kind), file),
-        ["show", kind, file] => show(network_kind(kind), file),
+        ["convert", kind, file] => read_instance(network_kind(kind), file).map(|network| print(&network)),
+        ["show", kind, file] => read_instance(network_kind(kind), file).map(|network| summary(&network) + "\n"),
         ["judge-max", instance, solution, cut] => judge_max(instance, solution, cut),
         ["judge-min", instance, solution, potentials] => judge_min(instance, solution, potentials),
         ["judge-paths", graph, queries, labels] => judge_paths(graph, queries, labels),
@@ -51,13 +51,4 @@ fn network_kind(word: &str) -> NetworkKind {
         "gr" => NetworkKind::Graph,
         _ => usage(),
     }
-}
-
-fn convert(kind: NetworkKind, file: &str) -> Outcome {
-    print(&read_instance(kind, file)?);
-    Ok(String::new())
-}
-
-fn show(kind: NetworkKind, file: &str) -> Outcome {
-    Ok(summary(&read_instance(kind, file)?) + "\n")
 }
