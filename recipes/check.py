@@ -39,62 +39,48 @@ LIBRARY = f"{BUILD}/libdimacs.so"
 
 # Each recipe, the run that judges it, and what it needs. lemon_scaling is lemon_min with its other solver.
 RECIPES = """
-networkx_max.py         judge-max         module networkx
-scipy_max.py            judge-max         module scipy
-igraph_max.py           judge-max         module igraph
-ortools_max.py          judge-max         module ortools
-lemon_max.cpp           judge-max         header lemon/preflow.h
-boost_max.cpp           judge-max         header boost/graph/push_relabel_max_flow.hpp
-glpsol_max.sh           judge-max         program glpsol
-networkx_min.py         judge-min         module networkx
-scipy_min.py            judge-min         module scipy
-ortools_min.py          judge-min         module ortools
-lemon_min.cpp           judge-min         header lemon/network_simplex.h
-lemon_scaling.cpp       judge-min         header lemon/cost_scaling.h
-glpsol_min.sh           judge-min         program glpsol
-networkx_infeasible.py  judge-infeasible  module networkx
-lemon_infeasible.cpp    judge-infeasible  header lemon/circulation.h
-networkx_paths.py       certify-paths     module networkx
-scipy_paths.py          certify-paths     module scipy
-igraph_paths.py         certify-paths     module igraph
-lemon_paths.cpp         certify-paths     header lemon/dijkstra.h
-networkx_library.py     judge-max         module networkx
-lemon_library.cpp       judge-min         header lemon/network_simplex.h
-scipy_library.py        judge-paths       module scipy
+networkx_max.py     judge-max      module networkx
+scipy_max.py        judge-max      module scipy
+igraph_max.py       judge-max      module igraph
+ortools_max.py      judge-max      module ortools
+lemon_max.cpp       judge-max      header lemon/preflow.h
+boost_max.cpp       judge-max      header boost/graph/push_relabel_max_flow.hpp
+glpsol_max.sh       judge-max      program glpsol
+networkx_min.py     judge-min      module networkx
+scipy_min.py        judge-min      module scipy
+ortools_min.py      judge-min      module ortools
+lemon_min.cpp       judge-min      header lemon/network_simplex.h
+lemon_scaling.cpp   judge-min      header lemon/cost_scaling.h
+glpsol_min.sh       judge-min      program glpsol
+networkx_paths.py   certify-paths  module networkx
+scipy_paths.py      certify-paths  module scipy
+igraph_paths.py     certify-paths  module igraph
+lemon_paths.cpp     certify-paths  header lemon/dijkstra.h
 """
 
 # The instances of each run, and the verdict, with its lines joined by '; '. Where none stands, all recipes are to come
 # to the same one.
 INSTANCES = """
-judge-max        | pipes.max                         | v max 12
-judge-max        | trucks.max                        | v max 23
-judge-max        | apart.max                         | v max 0
-judge-max        | random.max, layers.max, doubled.max, wide.max
-judge-min        | freight.min                       | v min 55
-judge-min        | canning.min                       | v min 153675
-judge-min        | random.min, shipping.min, doubled.min, wide.min
-judge-infeasible | shortage.min, detroit.min         | v infeasible
-judge-infeasible | short.min, back.min, surplus.min, deficit.min | v infeasible
-certify-paths    | road.gr road.query, romania.gr romania.query  | v sp distances 2
-certify-paths    | town.gr town.p2p, town.gr town.ss, hamlet.gr hamlet.p2p, hamlet.gr hamlet.ss
-judge-paths      | road.gr road.query                | v 1 5 1400; v 1 6 unreachable; v 6 3 1400
-judge-paths      | romania.gr romania.query          | v 1 2 418; v 17 12 942
-judge-paths      | town.gr town.ss, hamlet.gr hamlet.ss | v sp ss 6
-judge-paths      | town.gr town.p2p, hamlet.gr hamlet.p2p
+judge-max     | pipes.max                      | v max 12
+judge-max     | trucks.max                     | v max 23
+judge-max     | apart.max                      | v max 0
+judge-max     | random.max, layers.max, doubled.max, wide.max
+judge-min     | freight.min                    | v min 55
+judge-min     | canning.min                    | v min 153675
+judge-min     | random.min, shipping.min, doubled.min, wide.min
+judge-min     | shortage.min, detroit.min      | v infeasible
+judge-min     | short.min, back.min, surplus.min, deficit.min | v infeasible
+certify-paths | road.gr road.query, romania.gr romania.query | v sp distances 2
+certify-paths | town.gr town.p2p, town.gr town.ss, hamlet.gr hamlet.p2p, hamlet.gr hamlet.ss
 """
 
 # What a recipe doesn't promise, by its own words: numbers beyond 32 bits, or beyond what floating point numbers hold.
 BEYOND = [("scipy_max.py", "wide.max"), ("scipy_min.py", "wide.min"), ("glpsol_min.sh", "wide.min")]
 
 # What the recipes write, by the last word of the run; a text with an arc from node 0; and texts without a fault.
-WRITTEN = {"max": ["solution", "cut"], "min": ["solution", "pot"], "infeasible": ["cut"], "paths": ["distances"]}
-FAULTY = {"max": ["zero.max"], "min": ["zero.min"], "infeasible": ["zero.min"], "paths": ["zero.gr", "road.query"]}
-RIGHT = {
-    "max": ["pipes.max"],
-    "min": ["freight.min"],
-    "infeasible": ["shortage.min"],
-    "paths": ["road.gr", "road.query"],
-}
+WRITTEN = {"max": ["solution", "cut"], "min": ["solution", "pot"], "paths": ["distances"]}
+FAULTY = {"max": ["zero.max"], "min": ["zero.min"], "paths": ["zero.gr", "road.query"]}
+RIGHT = {"max": ["pipes.max"], "min": ["freight.min"], "paths": ["road.gr", "road.query"]}
 
 
 # ---- generated instances, the same ones each time
@@ -237,8 +223,7 @@ class Check:
         self.ends(recipe, FAULTY[kind] + written, 1, "x instance [0-9]+ 2 NumberRange")
         usage = recipe.split(".")[0].replace("scaling", "min")
         self.ends(recipe, FAULTY[kind] + written + ["more"], 2, f".*{usage}(.py|.sh)? [A-Z ]+")
-        if written:
-            self.ends(recipe, RIGHT[kind] + written, 3, f"can't run {nowhere}.*", DIMACS=nowhere)
+        self.ends(recipe, RIGHT[kind] + written, 3, f"can't run {nowhere}.*", DIMACS=nowhere)
 
     def answers(self, recipe, run, written):
         """Tests its verdicts."""
@@ -273,7 +258,7 @@ def main():
                 check.fail(f"{recipe}: it isn't built")
             else:
                 print(recipe, flush=True)
-                written = [] if "_library" in recipe else [f"{recipe}.{end}" for end in WRITTEN[run.partition("-")[2]]]
+                written = [f"{recipe}.{end}" for end in WRITTEN[run.partition("-")[2]]]
                 check.messages(recipe, run, written)
                 check.answers(recipe, run, written)
     if left_out:

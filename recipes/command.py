@@ -77,10 +77,13 @@ def cost_of(flows, instance):
 
 def certify_min(doc, solve):
     """Reads INSTANCE, writes SOLUTION, and runs `dimacs certify-min` on the two, which writes POTENTIALS.
-    solve(instance) returns the flow of each arc."""
+    solve(instance) returns the flow of each arc; None if the solver finds that no flow is feasible, of which
+    `dimacs certify-infeasible` decides whether it is so: it writes a set that shows it in place of POTENTIALS."""
     path, solution, potentials = arguments(doc)
     instance = read("min", path)
     flows = solve(instance)
+    if flows is None:
+        return run("certify-infeasible", path, potentials)
     write_solution(solution, cost_of(flows, instance), flows, instance)
     return run("certify-min", path, solution, potentials)
 

@@ -1,7 +1,7 @@
 #!/usr/bin/env python3
 """A flow of least cost by networkx, certified: networkx_min.py INSTANCE SOLUTION POTENTIALS
 
-An instance without a feasible flow ends it with a message: networkx_infeasible.py shows that there is none.
+If networkx finds no feasible flow, that is certified: a set of nodes takes the place of POTENTIALS.
 """
 import sys
 
@@ -11,11 +11,11 @@ import command
 
 
 def solve(instance):
-    """The flow of each arc. networkx knows no lower bounds: its flow is what flows above them."""
+    """The flow of each arc, if there is one. networkx knows no lower bounds: its flow is what flows above them."""
     try:
         _, flow = nx.network_simplex(instance.to_networkx())
-    except nx.NetworkXUnfeasible as error:
-        sys.exit(str(error))
+    except nx.NetworkXUnfeasible:
+        return None
     return instance.flows_from(flow).tolist()
 
 

