@@ -59,36 +59,39 @@ def write_distances(path, nodes, blocks):
     write(path, *lines)
 
 
-def judge_max(doc, solve):
+def maximum_flow(doc, solve):
     """Reads INSTANCE, writes SOLUTION and CUT, and runs `dimacs judge-max` on the three. solve(instance) returns the
-    flow's value, the flow of each arc, and the nodes on the source's side of a minimum cut."""
+    flow's value, the flow of each arc, and the nodes on the source's side of a minimum cut; or None in place of these:
+    then `dimacs certify-max` writes CUT."""
     path, solution, cut = arguments(doc)
     instance = read("max", path)
     value, flows, side = solve(instance)
     write_solution(solution, value, flows, instance)
-    write(cut, f"p cut {instance.nodes} {len(side)}", *(f"u {node}" for node in side))
-    return run("judge-max", path, solution, cut)
+    if side is not None:
+        write(cut, f"p cut {instance.nodes} {len(side)}", *(f"u {node}" for node in side))
+    sys.exit(run("certify-max" if side is None else "judge-max", path, solution, cut))
 
 
-def cost_of(flows, instance):
-    """The cost, which may have more than 64 bits."""
-    return sum(map(operator.mul, instance.costs.tolist(), flows))
-
-
-def certify_min(doc, solve):
-    """Reads INSTANCE, writes SOLUTION, and runs `dimacs certify-min` on the two, which writes POTENTIALS.
-    solve(instance) returns the flow of each arc; None if the solver finds that no flow is feasible, of which
-    `dimacs certify-infeasible` decides whether it is so: it writes a set that shows it in place of POTENTIALS."""
-    path, solution, potentials = arguments(doc)
+def least_cost(doc, solve):
+    """Reads INSTANCE, writes SOLUTION and POTENTIALS, and runs `dimacs judge-min` on the three. solve(instance) returns
+    the flow of each arc, and the potential of each node; or None in place of these: then `dimacs certify-min` writes
+    POTENTIALS. It returns None alone if the solver finds that no flow is feasible: `dimacs certify-infeasible` decides
+    whether it is so, and writes a set that shows it in place of POTENTIALS."""
+    path, solution, certificate = arguments(doc)
     instance = read("min", path)
-    flows = solve(instance)
-    if flows is None:
-        return run("certify-infeasible", path, potentials)
-    write_solution(solution, cost_of(flows, instance), flows, instance)
-    return run("certify-min", path, solution, potentials)
+    found = solve(instance)
+    if found is None:
+        sys.exit(run("certify-infeasible", path, certificate))
+    flows, prices = found
+    cost = sum(map(operator.mul, instance.costs.tolist(), flows))  # which may have more than 64 bits
+    write_solution(solution, cost, flows, instance)
+    if prices is not None:
+        lines = (f"y {node} {price}" for node, price in enumerate(prices, 1))
+        write(certificate, f"p pot {instance.nodes} {len(prices)}", *lines)
+    sys.exit(run("certify-min" if prices is None else "judge-min", path, solution, certificate))
 
 
-def certify_paths(doc, solve):
+def shortest_paths(doc, solve):
     """Reads GRAPH (.gr) and QUERY (.ss or .p2p), writes DISTANCES with a block for each source in QUERY, and runs
     `dimacs certify-paths`, which needs no predecessors. solve(graph, sources) returns the distances from each source: a
     dict of the nodes that are reached."""
@@ -96,4 +99,4 @@ def certify_paths(doc, solve):
     graph = read("gr", path)
     sources = set(read("query", query).froms.tolist())
     write_distances(distances, graph.nodes, solve(graph, sources))
-    return run("certify-paths", path, distances)
+    sys.exit(run("certify-paths", path, distances))

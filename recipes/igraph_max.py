@@ -3,8 +3,6 @@
 
 igraph's flows are floating point numbers (`4.0`): they are exact below 2^53.
 """
-import sys
-
 import igraph
 
 import command
@@ -18,5 +16,4 @@ def solve(instance):
     return int(found.value), map(int, found.flow), [node + 1 for node in found.partition[0]]
 
 
-if __name__ == "__main__":
-    sys.exit(command.judge_max(__doc__, solve))
+command.maximum_flow(__doc__, solve)

@@ -4,7 +4,6 @@
 No weight may be negative. igraph's distances are floating point numbers: they are exact below 2^53.
 """
 import math
-import sys
 
 import igraph
 
@@ -21,5 +20,4 @@ def solve(graph, sources):
     return found
 
 
-if __name__ == "__main__":
-    sys.exit(command.certify_paths(__doc__, solve))
+command.shortest_paths(__doc__, solve)

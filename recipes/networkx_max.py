@@ -1,7 +1,5 @@
 #!/usr/bin/env python3
 """A maximum flow and a minimum cut by networkx, judged: networkx_max.py INSTANCE SOLUTION CUT"""
-import sys
-
 import networkx as nx
 
 import command
@@ -15,5 +13,4 @@ def solve(instance):
     return value, instance.flows_from(flow), side
 
 
-if __name__ == "__main__":
-    sys.exit(command.judge_max(__doc__, solve))
+command.maximum_flow(__doc__, solve)

@@ -3,8 +3,6 @@
 
 If networkx finds no feasible flow, that is certified: a set of nodes takes the place of POTENTIALS.
 """
-import sys
-
 import networkx as nx
 
 import command
@@ -16,8 +14,7 @@ def solve(instance):
         _, flow = nx.network_simplex(instance.to_networkx())
     except nx.NetworkXUnfeasible:
         return None
-    return instance.flows_from(flow).tolist()
+    return instance.flows_from(flow).tolist(), None
 
 
-if __name__ == "__main__":
-    sys.exit(command.certify_min(__doc__, solve))
+command.least_cost(__doc__, solve)

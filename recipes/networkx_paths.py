@@ -3,8 +3,6 @@
 
 No weight may be negative.
 """
-import sys
-
 import networkx as nx
 
 import command
@@ -16,5 +14,4 @@ def solve(graph, sources):
     return {source: nx.single_source_dijkstra_path_length(roads, source) for source in sources}
 
 
-if __name__ == "__main__":
-    sys.exit(command.certify_paths(__doc__, solve))
+command.shortest_paths(__doc__, solve)

@@ -21,5 +21,4 @@ def solve(instance):
     return solver.optimal_flow(), solver.flows(arcs), solver.get_source_side_min_cut()
 
 
-if __name__ == "__main__":
-    sys.exit(command.judge_max(__doc__, solve))
+command.maximum_flow(__doc__, solve)

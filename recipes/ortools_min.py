@@ -26,8 +26,7 @@ def solve(instance):
         return None
     if status != solver.OPTIMAL:
         sys.exit(f"OR-Tools ended with status {status}")
-    return [low + solver.flow(number) for number, low in enumerate(instance.lows.tolist())]
+    return [low + solver.flow(number) for number, low in enumerate(instance.lows.tolist())], None
 
 
-if __name__ == "__main__":
-    sys.exit(command.certify_min(__doc__, solve))
+command.least_cost(__doc__, solve)

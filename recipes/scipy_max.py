@@ -20,15 +20,7 @@ def solve(instance):
         at = both.data.argmax()
         sys.exit(f"the capacities between {both.row[at] + 1} and {both.col[at] + 1} don't fit 32 bits")
     found = maximum_flow(caps.astype("int32"), instance.source - 1, instance.sink - 1)
-    return found.flow_value, instance.flows_from(found)
+    return found.flow_value, instance.flows_from(found), None
 
 
-def main():
-    path, solution, cut = command.arguments(__doc__)
-    instance = command.read("max", path)
-    command.write_solution(solution, *solve(instance), instance)
-    return command.run("certify-max", path, solution, cut)
-
-
-if __name__ == "__main__":
-    sys.exit(main())
+command.maximum_flow(__doc__, solve)

@@ -24,18 +24,4 @@ def solve(instance):
     return instance.flows_from(found).tolist(), [round(y) for y in found.eqlin.marginals]
 
 
-def main():
-    path, solution, certificate = command.arguments(__doc__)
-    instance = command.read("min", path)
-    found = solve(instance)
-    if found is None:
-        return command.run("certify-infeasible", path, certificate)
-    flows, prices = found
-    command.write_solution(solution, command.cost_of(flows, instance), flows, instance)
-    lines = (f"y {node} {price}" for node, price in enumerate(prices, 1))
-    command.write(certificate, f"p pot {instance.nodes} {len(prices)}", *lines)
-    return command.run("judge-min", path, solution, certificate)
-
-
-if __name__ == "__main__":
-    sys.exit(main())
+command.least_cost(__doc__, solve)

@@ -3,8 +3,6 @@
 
 No weight may be negative. SciPy's distances are floating point numbers: they are exact below 2^53.
 """
-import sys
-
 import numpy as np
 from scipy.sparse.csgraph import dijkstra
 
@@ -20,5 +18,4 @@ def solve(graph, sources):
     return found
 
 
-if __name__ == "__main__":
-    sys.exit(command.certify_paths(__doc__, solve))
+command.shortest_paths(__doc__, solve)
