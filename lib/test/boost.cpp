@@ -253,6 +253,7 @@ static void hidden_vertices() {
         is_missing("of least cost", [&] { return certify_min(part, none, 1, capacity, left, weight); });
         is_missing("a hidden sink", [&] { return certify_min(part, 0, none, capacity, left, weight); });
         is_missing("of paths", [&] { return certify_paths(part, none, weight, get(&Place::far, graph)); });
+        is_missing("of text", [&] { return dimacs::boost::write_distances(part, none, get(&Place::far, graph)); });
     }
     const auto cut = dimacs::boost::certify_max(part, 0, 1, capacity, left);
     const auto least = dimacs::boost::certify_min(part, 0, 1, capacity, left, weight);

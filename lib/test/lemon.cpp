@@ -189,6 +189,7 @@ static void missing_nodes() {
     is_missing("to be judged", [&] { return ours::judge_max(graph, three, none, to, three, cut); });
     const Made made{{0, 3, 6}};
     is_missing("of paths", [&] { return ours::certify_paths(graph, three, none, made); });
+    is_missing("of written distances", [&] { return ours::write_distances(graph, none, made); });
 
     Graph::NodeMap<bool> is_seen(graph, true);
     is_seen[hidden] = false;

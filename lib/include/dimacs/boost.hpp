@@ -253,28 +253,27 @@ struct FixedValue {
 // has a cut. NotOptimal has a better flow, by edge. RefusedAt has an edge that carries more than its capacity, or a
 // vertex out of balance. An edge that would carry more than 64 bits is out of range.
 template <class G, class Capacity, class Residual>
-dimacs::detail::CertifiedMaxOver<Index<G>> certify_max(const G &graph, const typename Index<G>::Node &source_vertex,
-                                                       const typename Index<G>::Node &target_vertex,
-                                                       const Capacity &capacity, const Residual &residual) {
+auto certify_max(const G &graph, const typename Index<G>::Node &source_vertex,
+                 const typename Index<G>::Node &target_vertex, const Capacity &capacity, const Residual &residual) {
     const Index<G> index(graph);
     const auto caps = index.by_arc(capacity), flows = detail::flows_of(index, caps, residual);
     const auto from = index.number(source_vertex), to = index.number(target_vertex);
-    return dimacs::detail::certify_max_over(index, dimacs::detail::max_over(index, from, to, caps), flows);
+    const auto instance = dimacs::detail::max_over(index, from, to, caps);
+    return dimacs::detail::answer_over(index, [&] { return dimacs::certify_max(instance, flows); });
 }
 
 // Decides whether that flow costs least of all flows of its value, as successive_shortest_path_nonnegative_weights and
 // cycle_canceling make one. A yes has potentials: the reduced cost of an edge is its weight, minus the potential of its
 // source, plus that of its target. The noes are those of certify_max.
 template <class G, class Capacity, class Residual, class Weight>
-dimacs::detail::CertifiedMinOver<Index<G>> certify_min(const G &graph, const typename Index<G>::Node &source_vertex,
-                                                       const typename Index<G>::Node &target_vertex,
-                                                       const Capacity &capacity, const Residual &residual,
-                                                       const Weight &weight) {
+auto certify_min(const G &graph, const typename Index<G>::Node &source_vertex,
+                 const typename Index<G>::Node &target_vertex, const Capacity &capacity, const Residual &residual,
+                 const Weight &weight) {
     const Index<G> index(graph);
     const auto caps = index.by_arc(capacity), flows = detail::flows_of(index, caps, residual);
     detail::FixedValue fixed(index, caps, index.by_arc(weight), flows);
     fixed.return_to(index.number(source_vertex), index.number(target_vertex));
-    return dimacs::detail::certify_min_over(index, fixed.instance(), fixed.flows);
+    return dimacs::detail::answer_over(index, [&] { return dimacs::certify_min(fixed.instance(), fixed.flows); });
 }
 
 // Decides whether distances, as dijkstra_shortest_paths and bellman_ford_shortest_paths leave them in a map, are right.
@@ -282,11 +281,13 @@ dimacs::detail::CertifiedMinOver<Index<G>> certify_min(const G &graph, const typ
 // without a sign, 2^63 - 1 is a distance, and out of range. RefusedAt has the edge or the vertex at which they are
 // wrong.
 template <class G, class Weight, class Distance>
-dimacs::detail::CertifiedPathsOver<Index<G>> certify_paths(const G &graph, const typename Index<G>::Node &source_vertex,
-                                                           const Weight &weight, const Distance &distance) {
+auto certify_paths(const G &graph, const typename Index<G>::Node &source_vertex, const Weight &weight,
+                   const Distance &distance) {
     const Index<G> index(graph);
     const auto distances = detail::distances_of(index, distance), weights = index.by_arc(weight);
-    return dimacs::detail::certify_paths_over(index, index.number(source_vertex), weights, distances);
+    const auto source = index.number(source_vertex);
+    const auto arcs = dimacs::detail::graph_over(index, weights);
+    return dimacs::detail::answer_over(index, [&] { return dimacs::certify_paths(arcs, source, distances); });
 }
 
 // ---- Texts as graphs, and back ----
@@ -398,7 +399,8 @@ Answer<std::string, Refused> write_distances(const G &graph, const typename Inde
                                              const Distance &distance) {
     const Index<G> index(graph);
     const auto distances = detail::distances_of(index, distance);
-    return dimacs::detail::over(index, [&] { return dimacs::write_distances(index.number(source_vertex), distances); });
+    const auto from = index.number(source_vertex);
+    return dimacs::detail::over(index, [&] { return dimacs::write_distances(from, distances); });
 }
 
 }  // namespace boost

@@ -82,11 +82,47 @@ RefusedOver<Index> refused_node(const Index &index, std::size_t node, const std:
     return {"x node " + index.node_name(node) + " " + reason, reason, index.nodes()[node], std::nullopt};
 }
 
+// What a call answers, over the graph: a yes without arcs and nodes is the same.
+template <class Index, class It>
+It of_graph(const Index &, const It &it) {
+    return it;
+}
+
 template <class Index>
-RefusedOver<Index> refused_over(const Index &index, const Refused &no) {
+RefusedOver<Index> of_graph(const Index &index, const Refused &no) {
     if (no.arc && *no.arc - 1 < index.arcs().size()) return refused_arc(index, *no.arc - 1, no.reason);
     if (no.node && *no.node - 1 < index.nodes().size()) return refused_node(index, *no.node - 1, no.reason);
     return {no.printed, no.reason, std::nullopt, std::nullopt};
+}
+
+template <class Index>
+NotOptimal<typename Index::Flow> of_graph(const Index &index, const NotOptimal<Flows> &no) {
+    return {no.printed, index.flow(no.better)};
+}
+
+template <class Index>
+Feasible<typename Index::Flow> of_graph(const Index &index, const Feasible<Flows> &no) {
+    return {index.flow(no.flow)};
+}
+
+template <class Index>
+CertifiedMax<typename Index::Marked> of_graph(const Index &index, const CertifiedMax<Inside> &yes) {
+    return {yes.value, index.marked(yes.inside)};
+}
+
+template <class Index>
+CertifiedMin<typename Index::Potential> of_graph(const Index &index, const CertifiedMin<Potentials> &yes) {
+    return {yes.value, index.potential(yes.potentials)};
+}
+
+template <class Index>
+CertifiedInfeasible<typename Index::Marked> of_graph(const Index &index, const CertifiedInfeasible<Inside> &yes) {
+    return {index.marked(yes.inside)};
+}
+
+template <class Index>
+Judged of_graph(const Index &, const CertifiedPaths<Predecessors> &) {
+    return {};
 }
 
 // Throws for a node that the graph doesn't have.
@@ -152,8 +188,20 @@ auto over(const Index &index, const Call &call) {
     try {
         return call();
     } catch (const PastLimit &it) {
-        throw PastLimitAt<typename Index::Node, typename Index::Arc>(it.refused(), refused_over(index, it.refused()));
+        throw PastLimitAt<typename Index::Node, typename Index::Arc>(it.refused(), of_graph(index, it.refused()));
     }
+}
+
+template <class Index, class... Its>
+auto answer_of(const Index &index, const Answer<Its...> &answer) {
+    using Found = Answer<decltype(of_graph(index, std::declval<const Its &>()))...>;
+    return std::visit([&](const auto &it) -> Found { return of_graph(index, it); }, answer.variant());
+}
+
+// The same of a call that judges or certifies, whose answer has the graph's own nodes and arcs too.
+template <class Index, class Call>
+auto answer_over(const Index &index, const Call &call) {
+    return answer_of(index, over(index, call));
 }
 
 // The arcs of a graph, by the numbers of their ends.
@@ -175,66 +223,6 @@ Graph graph_over(const Index &index, Numbers weights) {
 template <class Index>
 MaxInstance max_over(const Index &index, std::uint32_t source, std::uint32_t sink, Numbers caps) {
     return {index.size(), source, sink, index.tails(), index.heads(), caps};
-}
-
-template <class Index>
-using CertifiedMaxOver =
-    Answer<CertifiedMax<typename Index::Marked>, NotOptimal<typename Index::Flow>, RefusedOver<Index>>;
-
-template <class Index>
-CertifiedMaxOver<Index> certify_max_over(const Index &index, const MaxInstance &instance, Numbers flows) {
-    const auto answer = over(index, [&] { return certify_max(instance, flows); });
-    if (answer) return CertifiedMax<typename Index::Marked>{answer->value, index.marked(answer->inside)};
-    if (auto *no = answer.template get_if<NotOptimal<Flows>>()) {
-        return NotOptimal<typename Index::Flow>{no->printed, index.flow(no->better)};
-    }
-    return refused_over(index, *answer.template get_if<Refused>());
-}
-
-template <class Index>
-using CertifiedMinOver =
-    Answer<CertifiedMin<typename Index::Potential>, NotOptimal<typename Index::Flow>, GaveUp, RefusedOver<Index>>;
-
-template <class Index>
-CertifiedMinOver<Index> certify_min_over(const Index &index, const MinInstance &instance, Numbers flows) {
-    const auto answer = over(index, [&] { return certify_min(instance, flows); });
-    if (answer) return CertifiedMin<typename Index::Potential>{answer->value, index.potential(answer->potentials)};
-    if (auto *no = answer.template get_if<NotOptimal<Flows>>()) {
-        return NotOptimal<typename Index::Flow>{no->printed, index.flow(no->better)};
-    }
-    if (answer.template get_if<GaveUp>()) return GaveUp{};
-    return refused_over(index, *answer.template get_if<Refused>());
-}
-
-template <class Index>
-using CertifiedInfeasibleOver = Answer<CertifiedInfeasible<typename Index::Marked>, Feasible<typename Index::Flow>>;
-
-template <class Index>
-CertifiedInfeasibleOver<Index> certify_infeasible_over(const Index &index, const MinInstance &instance) {
-    const auto answer = over(index, [&] { return certify_infeasible(instance); });
-    if (answer) return CertifiedInfeasible<typename Index::Marked>{index.marked(answer->inside)};
-    return Feasible<typename Index::Flow>{index.flow(answer.template get_if<Feasible<Flows>>()->flow)};
-}
-
-template <class Index>
-using JudgedFlowOver = Answer<JudgedFlow, RefusedOver<Index>>;
-
-template <class Index, class Call>
-JudgedFlowOver<Index> judge_over(const Index &index, const Call &call) {
-    const Answer<JudgedFlow, Refused> answer = over(index, call);
-    if (answer) return *answer;
-    return refused_over(index, *answer.get_if<Refused>());
-}
-
-template <class Index>
-using CertifiedPathsOver = Answer<Judged, RefusedOver<Index>>;
-
-template <class Index>
-CertifiedPathsOver<Index> certify_paths_over(const Index &index, std::uint32_t source, Numbers weights,
-                                             Numbers distances) {
-    const auto answer = over(index, [&] { return certify_paths(graph_over(index, weights), source, distances); });
-    if (answer) return Judged{};
-    return refused_over(index, *answer.template get_if<Refused>());
 }
 
 }  // namespace detail

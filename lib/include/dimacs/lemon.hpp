@@ -173,68 +173,68 @@ struct IndexedMin {
 // Decides whether a flow, for example Preflow's flowMap(), is maximum. A yes has a cut, as minCutMap fills one in.
 // NotOptimal has a better flow. RefusedAt has the arc that carries too much or less than 0, or the node out of balance.
 template <class G, class Capacity, class Flow>
-detail::CertifiedMaxOver<Index<G>> certify_max(const G &graph, const Capacity &capacity, typename G::Node source,
-                                               typename G::Node target, const Flow &flow) {
+auto certify_max(const G &graph, const Capacity &capacity, typename G::Node source, typename G::Node target,
+                 const Flow &flow) {
     const Index<G> index(graph);
     const auto caps = index.by_arc(capacity), flows = index.by_arc(flow);
-    return detail::certify_max_over(index, detail::max_over(index, index.number(source), index.number(target), caps),
-                                    flows);
+    const auto instance = detail::max_over(index, index.number(source), index.number(target), caps);
+    return detail::answer_over(index, [&] { return dimacs::certify_max(instance, flows); });
 }
 
 // Judges that a flow is maximum, by a cut: a map by node that is true on the source's side.
 template <class G, class Capacity, class Flow, class Cut>
-detail::JudgedFlowOver<Index<G>> judge_max(const G &graph, const Capacity &capacity, typename G::Node source,
-                                           typename G::Node target, const Flow &flow, const Cut &cut) {
+auto judge_max(const G &graph, const Capacity &capacity, typename G::Node source, typename G::Node target,
+               const Flow &flow, const Cut &cut) {
     const Index<G> index(graph);
     const auto caps = index.by_arc(capacity), flows = index.by_arc(flow);
     const auto instance = detail::max_over(index, index.number(source), index.number(target), caps);
-    return detail::judge_over(index, [&] { return dimacs::judge_max(instance, flows, index.marks(cut)); });
+    return detail::answer_over(index, [&] { return dimacs::judge_max(instance, flows, index.marks(cut)); });
 }
 
 // Decides whether a flow, as NetworkSimplex' flowMap fills one in, costs least. A yes has potentials, as its
 // potentialMap fills them in. NotOptimal has a cheaper flow. RefusedAt as in certify_max. A node's outflow minus its
 // inflow has to be its supply, so the supplies sum to 0.
 template <class G, class Lower, class Upper, class Cost, class Supply, class Flow>
-detail::CertifiedMinOver<Index<G>> certify_min(const G &graph, const Lower &lower, const Upper &upper, const Cost &cost,
-                                               const Supply &supply, const Flow &flow) {
+auto certify_min(const G &graph, const Lower &lower, const Upper &upper, const Cost &cost, const Supply &supply,
+                 const Flow &flow) {
     const IndexedMin<G> arrays(graph, lower, upper, cost, supply);
     const auto flows = arrays.index.by_arc(flow);
-    return detail::certify_min_over(arrays.index, arrays.instance(), flows);
+    return detail::answer_over(arrays.index, [&] { return dimacs::certify_min(arrays.instance(), flows); });
 }
 
 // Decides whether no flow is feasible, as after INFEASIBLE of NetworkSimplex. A yes has a map that is true in a set of
 // nodes whose supply can't be met. Feasible has a feasible flow.
 template <class G, class Lower, class Upper, class Supply>
-detail::CertifiedInfeasibleOver<Index<G>> certify_infeasible(const G &graph, const Lower &lower, const Upper &upper,
-                                                             const Supply &supply) {
+auto certify_infeasible(const G &graph, const Lower &lower, const Upper &upper, const Supply &supply) {
     const Index<G> index(graph);
     const auto lows = index.by_arc(lower), caps = index.by_arc(upper);
     const auto supplies = index.by_node(supply);
     const std::vector<std::int64_t> costs(index.arcs().size());
     const MinInstance instance{index.size(), index.tails(), index.heads(), lows, caps, costs, supplies};
-    return detail::certify_infeasible_over(index, instance);
+    return detail::answer_over(index, [&] { return dimacs::certify_infeasible(instance); });
 }
 
 // Judges that a flow costs least, by LEMON's potentials: an arc's reduced cost is its cost, plus the potential of its
 // source, minus that of its target.
 template <class G, class Lower, class Upper, class Cost, class Supply, class Flow, class Potential>
-detail::JudgedFlowOver<Index<G>> judge_min(const G &graph, const Lower &lower, const Upper &upper, const Cost &cost,
-                                           const Supply &supply, const Flow &flow, const Potential &potential) {
+auto judge_min(const G &graph, const Lower &lower, const Upper &upper, const Cost &cost, const Supply &supply,
+               const Flow &flow, const Potential &potential) {
     const IndexedMin<G> arrays(graph, lower, upper, cost, supply);
     const Index<G> &index = arrays.index;
     const auto flows = index.by_arc(flow), potentials = index.turned(index.by_node(potential));
-    return detail::judge_over(index, [&] { return dimacs::judge_min(arrays.instance(), flows, potentials); });
+    return detail::answer_over(index, [&] { return dimacs::judge_min(arrays.instance(), flows, potentials); });
 }
 
 // Decides whether the distances that a search found, as Dijkstra, BellmanFord or Bfs with the lengths 1, are right:
 // reached(v) is whether there is a walk to v, and dist(v) the least length of one. RefusedAt has the arc or the node at
 // which they are wrong. A dist(v) of 2^63 - 1 is out of range.
 template <class G, class Length, class Search>
-detail::CertifiedPathsOver<Index<G>> certify_paths(const G &graph, const Length &length, typename G::Node source,
-                                                   const Search &search) {
+auto certify_paths(const G &graph, const Length &length, typename G::Node source, const Search &search) {
     const Index<G> index(graph);
     const auto distances = index.distances(search), weights = index.by_arc(length);
-    return detail::certify_paths_over(index, index.number(source), weights, distances);
+    const auto from = index.number(source);
+    const auto arcs = detail::graph_over(index, weights);
+    return detail::answer_over(index, [&] { return dimacs::certify_paths(arcs, from, distances); });
 }
 
 // ---- Texts as graphs, and back ----
@@ -369,7 +369,8 @@ template <class G, class Search>
 Answer<std::string, Refused> write_distances(const G &graph, typename G::Node source, const Search &search) {
     const Index<G> index(graph);
     const auto distances = index.distances(search);
-    return detail::over(index, [&] { return dimacs::write_distances(index.number(source), distances); });
+    const auto from = index.number(source);
+    return detail::over(index, [&] { return dimacs::write_distances(from, distances); });
 }
 
 }  // namespace lemon
