@@ -24,6 +24,12 @@ export class Verdict {
     }
 }
 
+/** Lets objects of a class have a part by other names too. */
+function alsoCalled(type, part, ...names) {
+    const get = function () { return this[part]; };
+    for (const name of names) Object.defineProperty(type.prototype, name, {get, configurable: true});
+}
+
 /** A yes, with a certificate by which the judge answers yes too. */
 export class Certified {
     constructor(value, certificate) {
@@ -34,18 +40,6 @@ export class Certified {
     explain() {
         return explanationOf(this);
     }
-
-    get inside() {
-        return this.certificate;
-    }
-
-    get potentials() {
-        return this.certificate;
-    }
-
-    get predecessors() {
-        return this.certificate;
-    }
 }
 
 /** An answer, which was judged before it was returned. */
@@ -54,19 +48,10 @@ export class Solved extends Certified {
         super(value, certificate);
         this.solution = solution;
     }
-
-    get flows() {
-        return this.solution;
-    }
-
-    get distances() {
-        return this.solution;
-    }
-
-    get pairs() {
-        return this.solution;
-    }
 }
+
+alsoCalled(Certified, "certificate", "inside", "potentials", "predecessors");
+alsoCalled(Solved, "solution", "flows", "distances", "pairs");
 
 function placed({text, line, field, arc, node}, reason) {
     if (text) return `${text} ${line} ${field} ${reason}`;
@@ -116,11 +101,9 @@ export class Infeasible extends Refused {
         super("Infeasible", {}, "no flow is feasible");
         this.certificate = certificate;
     }
-
-    get inside() {
-        return this.certificate;
-    }
 }
+
+alsoCalled(Infeasible, "certificate", "inside");
 
 /** The instance that was claimed to have no feasible flow has one. */
 export class Feasible extends Refused {
