@@ -295,31 +295,25 @@ static constexpr bool is_safe = std::is_convertible_v<const Vectors &, View> && 
 static_assert(is_safe<MaxInstance, MaxVectors> && is_safe<MinInstance, MinVectors> && is_safe<Graph, GraphVectors>);
 
 /* What is gone at once lends nothing: a use of it doesn't compile, or gives a value. */
-template <template <class> class Use, class It, class = void>
-static constexpr bool lends = false;
-template <template <class> class Use, class It>
-static constexpr bool lends<Use, It, std::void_t<Use<It>>> =
-    std::is_reference_v<Use<It>> || std::is_pointer_v<Use<It>>;
-template <template <class> class Use, class It = Answer<MaxVectors, Refused>>
-static constexpr bool lends_while_it_stands =
-    lends<Use, It &> && lends<Use, const It &> && !lends<Use, It> && !lends<Use, const It>;
-template <class It>
-using Arrow = decltype(std::declval<It>().operator->());
-template <class It>
-using No = decltype(std::declval<It>().template get_if<Refused>());
-template <class It>
-using Star = decltype(*std::declval<It>());
-template <class It>
-using Yes = decltype(std::declval<It>().value());
-template <class It>
-using Variant = decltype(std::declval<It>().variant());
-static_assert(lends_while_it_stands<Arrow> && lends_while_it_stands<No> && lends_while_it_stands<Star> &&
-              lends_while_it_stands<Yes> && lends_while_it_stands<Variant>);
-template <class It>
-using Message = decltype(std::declval<It>().message());
-static_assert(!lends<Message, Refused> && !lends<Message, NotOptimalText>);
-static_assert(!std::is_reference_v<decltype(Value(1).str())>);
-static_assert(!std::is_reference_v<decltype(std::declval<PastLimit>().refused())>);
+#define USE(use) [](auto &&it) -> decltype(static_cast<decltype(it)>(it) use) { return static_cast<decltype(it)>(it) use; }
+template <class It, class Use>
+static constexpr bool lends(Use) {
+    if constexpr (std::is_invocable_v<Use, It>) {
+        using Used = std::invoke_result_t<Use, It>;
+        return std::is_reference_v<Used> || std::is_pointer_v<Used>;
+    } else {
+        return false;
+    }
+}
+template <class Use, class It = Answer<MaxVectors, Refused>>
+static constexpr bool lends_while_it_stands(Use use) {
+    return lends<It &>(use) && lends<const It &>(use) && !lends<It>(use) && !lends<const It>(use);
+}
+static_assert(lends_while_it_stands(USE(.operator->())) && lends_while_it_stands(USE(.template get_if<Refused>())));
+static_assert(lends_while_it_stands(USE(.operator*())) && lends_while_it_stands(USE(.value())));
+static_assert(lends_while_it_stands(USE(.variant())));
+static_assert(!lends<Refused>(USE(.message())) && !lends<NotOptimalText>(USE(.message())));
+static_assert(!lends<Value>(USE(.str())) && !lends<PastLimit>(USE(.refused())));
 
 static void values() {
     static_assert(!converts<double> && !converts<float> && !converts<const char *> && !converts<std::nullptr_t>);

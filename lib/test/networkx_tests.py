@@ -2,9 +2,8 @@
 """Runs networkx' own tests of flows and shortest paths with the backend in place: networkx_tests.py
 
 They are those of the networkx that is found, 3.3 or later, and need pytest, numpy and SciPy. Each call that the
-backend takes is answered by it, the others by networkx itself. It prints a table of the functions, for each how many
-calls were answered by the backend and how many were left to networkx, and why; then the tests that fail. Those that are
-known to are counted as passed, and printed with the reason.
+backend takes is answered by it, the others by networkx itself. It prints of each function how many calls were answered
+by the backend; then the tests that fail. Those that are known to are counted as passed, and printed with the reason.
 """
 import collections
 import os
@@ -39,24 +38,18 @@ class Counted:
     """What becomes of calls and of tests."""
 
     def __init__(self):
-        self.answered, self.left = collections.Counter(), collections.Counter()
-        self.reasons = collections.defaultdict(set)
+        self.answered = collections.Counter()
         self.passed, self.failed = [], []
 
     def watch(self, backend, names):
         for name in names:
-            setattr(backend, name, self.counting(name, getattr(backend, name), backend.Unable))
+            setattr(backend, name, self.counting(name, getattr(backend, name)))
 
-    def counting(self, name, function, unable):
+    def counting(self, name, function):
         def counted(*words, **more):
+            answer = function(*words, **more)
             self.answered[name] += 1
-            try:
-                return function(*words, **more)
-            except unable as it:
-                self.answered[name] -= 1
-                self.left[name] += 1
-                self.reasons[name].add(str(it))
-                raise
+            return answer
 
         return counted
 
@@ -84,11 +77,7 @@ def main():
     counted.watch(backend, info.FUNCTIONS)
     packages = [f"networkx.algorithms.{it}" for it in ("flow", "shortest_paths")]
     pytest.main(["-q", "--tb=no", "-p", "no:cacheprovider", "--pyargs", *packages], [counted])
-    print("| Function | Answered by dimacs | Left to networkx |\n|---|---|---|")
-    for name in info.FUNCTIONS:
-        print(f"| `{name}` | {counted.answered[name]} | {counted.left[name]} |")
-    for name, reasons in counted.reasons.items():
-        print(*(f"{name}: {it}" for it in sorted(reasons)), sep="\n")
+    print(*(f"{name}: {counted.answered[name]} answered" for name in info.FUNCTIONS), sep="\n")
     new = [it for it in counted.failed if it not in KNOWN]
     print(*(f"failed: {it}{': ' * (it in KNOWN)}{KNOWN.get(it, '')}" for it in counted.failed), sep="\n")
     answered = all(counted.answered[name] for name in info.FUNCTIONS)

@@ -1,5 +1,5 @@
 /* The calls that read texts into arrays and write arrays as texts, beside what the tests of dimacs.hpp and of the crate
- * show: what they hand out without enough room, what they refuse, and the ends of 64 bits. */
+ * show: what they hand out without enough room, and the ends of 64 bits. What they refuse is in contracts. */
 #include "check.h"
 #include "dimacs.h"
 
@@ -94,12 +94,8 @@ static const uint32_t some_tails[] = {1, 2, 1}, some_heads[] = {2, 3, 2};
 
 static void reads_instances(void) {
     READ("room for two arcs", READ_MAX(MAX_TEXT, 2), 0, "", " 4 1 4 3 | 1 2 | 2 4 | " END " 5");
-    READ("a capacity below 0", READ_MAX("p max 2 1\nn 1 s\nn 2 t\na 1 2 -1\n", MOST), 1, "x instance 4 4 BoundOrder\n",
-         " 0 0 0 0");
     READ("room for an arc and two nodes", READ_MIN(MIN_TEXT, 1, 2), 0, "",
          " 3 2 3 | 1 | 2 | 0 | " END " | -9223372036854775808 | 4 0");
-    READ("a node twice", READ_MIN("p min 3 0\nn 3 1\nn 3 1\n", MOST, MOST), 1, "x instance 3 2 NodeTwice\n",
-         " 0 0 0");
     READ("a graph", READ_GRAPH(GRAPH_TEXT), 0, "", " 3 2 | 1 3 | 2 3 | -9223372036854775808 " END);
     READ("the word of another kind", READ_GRAPH("p max 4 5\n"), 1, "x instance 1 2 BadWord\n", " 0 0");
     uint32_t status = dimacs_read_max(TEXT(MAX_TEXT), NULL, 0, &needed, &nodes, &source, &sink, NULL, 0, NULL, 0,
@@ -113,24 +109,17 @@ static void reads_claims(void) {
     READ("an arc that isn't there", READ_SOLUTION("s 0\nf 1 2 1\nf 2 1 1\nf 1 2 1\nf 1 2 1\n", 3, MOST), 1,
          "x solution 3 0 UnknownArc\n", " 0 0");
     READ("room for two bytes", READ_CUT("p cut 5 2\nu 4\nu 1\n", 2), 0, "", " 5 | 1 0");
-    READ("a node twice", READ_CUT("p cut 5 2\nu 4\nu 4\n", MOST), 1, "x certificate 3 2 NodeTwice\n", " 0");
     READ("room for two", READ_POTENTIALS("p pot 4 2\ny 4 -9223372036854775808\ny 2 " END "\n", 2), 0, "",
          " 4 | 0 " END);
-    READ("past 64 bits", READ_POTENTIALS("p pot 4 2\ny 4 -9223372036854775809\ny 3 9223372036854775808\n", MOST), 1,
-         "x node 3 NumberRange\n", " 0");
     READ("sources", READ_QUERIES("p aux sp ss 2\ns 3\ns 1\n", MOST), 0, "", " 0 2 | 3 1");
     READ("room for one pair", READ_QUERIES("p aux sp p2p 2\nq 3 1\nq 2 2\n", 1), 0, "", " 1 2 | 3 | 1");
-    READ("a query of the other kind", READ_QUERIES("p aux sp ss 1\nq 3 1\n", MOST), 1, "x query 2 0 RecordOrder\n",
-         " 0 0");
     READ("distances", READ_DISTANCES(BLOCKS, 2, MOST), 0, "", " 4 | 9223372036854775806 0 " END " -7");
-    READ("the distance that stands for none", READ_DISTANCES(BLOCKS, 3, MOST), 1, "x node 4 NumberRange\n", " 0");
     READ("many nodes without a line", READ_DISTANCES("p distances 134217728 1\nt 134217728 0\n", 134217728, 2), 0, "",
          " 134217728 | " END " " END);
     READ("labels", READ_LABELS(LABELS, 2, MOST), 0, "",
          " " END " 4 4 | 4 0 0 2 | 9223372036854775806 0 " END " -7");
     READ("a radius, and room for three", READ_LABELS(LABELS, 3, 3), 0, "",
          " 9223372036854775806 4 4 | 0 3 0 | " END " 5 0");
-    READ("a radius that stands for none", READ_LABELS(LABELS, 4, MOST), 1, "x node 4 NumberRange\n", " 0 0 0");
 }
 
 /* ---- writing ---- */
@@ -149,18 +138,12 @@ static void writes_instances(void) {
                dimacs_write_max(&max, out, 5, &needed) == 0 && needed == 64 && !memcmp(out, "p max?", 6));
     max.sink = 1;
     CHECK("source and sink are one", dimacs_write_max(&max, OUT), 2, "x node 1 NodeTwice\n");
-    max.caps.length = 2;
-    CHECK("fewer capacities", dimacs_write_max(&max, OUT), 2, "");
     READ_MIN(MIN_TEXT, MOST, MOST);
     dimacs_min min = {nodes, {tails, 2}, {heads, 2}, {lows, 2}, {caps, 2}, {costs, 2}, {supplies, 3}};
     CHECK("a minimum cost flow instance", dimacs_write_min(&min, OUT), 0, "p min 3 2\nn 1 4\nn 3 -4\n" MIN_ARCS);
-    lows[1] = -1;
-    CHECK("a lower bound below 0", dimacs_write_min(&min, OUT), 2, "x arc 2 BoundOrder\n");
     READ_GRAPH(GRAPH_TEXT);
     dimacs_graph graph = {nodes, {tails, 2}, {heads, 2}, {costs, 2}};
     CHECK("a graph", dimacs_write_graph(&graph, OUT), 0, GRAPH_TEXT);
-    heads[0] = 0;
-    CHECK("head 0", dimacs_write_graph(&graph, OUT), 2, "x arc 1 NodeRange\n");
 }
 
 static uint32_t write_solution(int64_t claimed, size_t count) {
@@ -178,15 +161,11 @@ static void writes_claims(void) {
     CHECK("pairs", dimacs_write_queries(7, NODES(3, 2), 2, NODES(134217728, 2), 2, OUT), 0,
           "p aux sp p2p 2\nq 3 134217728\nq 2 2\n");
     CHECK("no pairs", dimacs_write_queries(1, NULL, 0, NULL, 0, OUT), 0, "p aux sp p2p 0\n");
-    CHECK("node 0", dimacs_write_queries(0, NODES(3, 0), 2, NULL, 0, OUT), 2, "x node 0 NumberRange\n");
     CHECK("distances", dimacs_write_distances(2, NUMBERS(LAST - 1, 0, LAST, INT64_MIN), 4, OUT), 0,
           "p distances 4 1\nt 2 2\nd 1 9223372036854775806\nd 4 -9223372036854775808\n");
     CHECK("the source isn't at 0", dimacs_write_distances(2, NUMBERS(0, 1), 2, OUT), 1, "x node 2 NotShortest\n");
-    CHECK("the source is no node", dimacs_write_distances(3, NUMBERS(0, 0), 2, OUT), 2, "x node 3 NodeRange\n");
     CHECK("labels", dimacs_write_labels(2, NUMBERS(5, 0, LAST, -7), 4, NODES(4, 0, 0, 2), 4, OUT), 0,
           "p dist 4 1\nt 2 2\nd 4 -7 2\nd 1 5 4\n");
-    CHECK("the source isn't at 0", dimacs_write_labels(2, NUMBERS(5, 1), 2, NODES(9, 0), 2, OUT), 1,
-          "x node 2 NotShortest\n");
     CHECK("a cycle", dimacs_write_labels(1, NUMBERS(0, 1, 1), 3, NODES(0, 3, 2), 3, OUT), 1, "x node 2 PredUnknown\n");
 }
 

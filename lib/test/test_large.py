@@ -1,6 +1,6 @@
-"""The calls over arrays of a million items, in each of their outcomes, over what tests/large_runs.py has as texts; and
-those over texts of 100 MB. A call that gave up for want of memory above some size would keep its contract, and is seen
-by nothing else."""
+"""The calls over arrays of a million items, in each kind of outcome, over what tests/large_runs.py has as texts; and those
+over texts of 100 MB. A call that gave up for want of memory above some size would keep its contract, and is seen by
+nothing else. Which refusal it is, is in contracts."""
 
 import array
 import unittest
@@ -48,7 +48,7 @@ class Large(unittest.TestCase):
         instance = nodes, source, sink, tails, heads, caps = dimacs.read("max", texts["max"])
         flows, slow, above = flows_of("max", instance, texts)
         cut, narrow = (dimacs.read("cut", texts[it]).inside for it in ("cut", "narrow"))
-        lost, below = with_other(-1, flows[-1] - 1, flows), with_other(0, -1, flows)
+        lost = with_other(-1, flows[-1] - 1, flows)
         no_node = nodes, source, sink, tails, with_other(-1, 0, heads), caps
         judge, certify, solve = dimacs.judge_max_arrays, dimacs.certify_max_arrays, dimacs.solve_max_arrays
         made = solve(*instance)
@@ -60,10 +60,7 @@ class Large(unittest.TestCase):
             ("g limit", solve, *instance, 1),
             (f"x arc {ITEMS - 1} NotSaturated", judge, *instance, flows, narrow),
             (f"x arc {ITEMS} AboveCap", certify, *instance, above),
-            (f"x node {NODES} Balance", judge, *instance, lost, cut),
             (f"x node {NODES} Balance", certify, *instance, lost),
-            ("x arc 1 BelowLow", judge, *instance, below, cut),
-            ("x arc 1 BelowLow", certify, *instance, below),
             (f"x arc {ITEMS} NodeRange", judge, *no_node, flows, cut),
             (f"x arc {ITEMS} NodeRange", certify, *no_node, flows),
             (f"x arc {ITEMS} NodeRange", solve, *no_node),
@@ -74,7 +71,7 @@ class Large(unittest.TestCase):
         instance = nodes, tails, heads, lows, caps, costs, supplies = dimacs.read("min", texts["min"])
         flows, dear, above = flows_of("min", instance, texts)
         potentials, steep = (dimacs.read("pot", texts[it]).potentials for it in ("pot", "steep"))
-        more, below = with_other(-1, flows[-1] + 1, flows), with_other(0, -1, flows)
+        more = with_other(-1, flows[-1] + 1, flows)
         disordered = nodes, tails, heads, with_other(-1, caps[-1] + 1, lows), caps, costs, supplies
         judge, certify = dimacs.judge_min_arrays, dimacs.certify_min_arrays
         cost = LESS * STEPS
@@ -85,10 +82,7 @@ class Large(unittest.TestCase):
             ("x instance 0 0 Feasible", dimacs.certify_infeasible_arrays, *instance),
             (f"x arc {ITEMS} NotTight", judge, *instance, flows, steep),
             (f"x arc {ITEMS} AboveCap", certify, *instance, above),
-            ("x node 2 Balance", judge, *instance, more, potentials),
             ("x node 2 Balance", certify, *instance, more),
-            ("x arc 1 BelowLow", judge, *instance, below, potentials),
-            ("x arc 1 BelowLow", certify, *instance, below),
             (f"x arc {ITEMS} BoundOrder", judge, *disordered, flows, potentials),
             (f"x arc {ITEMS} BoundOrder", certify, *disordered, flows),
         )
@@ -120,7 +114,7 @@ class Large(unittest.TestCase):
         for weights, distances in (ones, labels.distances), (zeros, zeros):
             graph, before = (nodes, tails, heads, weights, 1), labels.predecessors
             looped = nodes, tails, with_other(-1, ITEMS, heads), with_other(-1, -1, weights), 1
-            long, afar = with_other(-1, distances[-1] + 1, distances), with_other(0, 1, distances)
+            long = with_other(-1, distances[-1] + 1, distances)
             made = solve(*graph)
             self.answers(
                 (1, judge, *graph, distances, before),
@@ -129,10 +123,7 @@ class Large(unittest.TestCase):
                 (f"x node {ITEMS} NoTightArc", judge, *graph, long, before),
                 (f"x arc {ITEMS - 1} NotShortest", certify, *graph, long),
                 (f"x arc {ITEMS} NotShortest", judge, *looped, distances, before),
-                (f"x arc {ITEMS} NotShortest", certify, *looped, distances),
                 (f"x arc {ITEMS} NegativeWeight", solve, *looped),
-                ("x node 1 NotShortest", judge, *graph, afar, before),
-                ("x node 1 NotShortest", certify, *graph, afar),
             )
 
     def test_texts_of_100_mb(self):

@@ -1,5 +1,5 @@
 /* The calls over texts, beside what the tests of dimacs.hpp and of the crate show: what isn't read, what names no kind
- * or no command, and texts of any bytes. */
+ * or no command, and texts of any bytes. Contracts have the rest. */
 #include "texts.h"
 #include "check.h"
 #include "dimacs.h"
@@ -36,11 +36,8 @@ static void kinds(void) {
     CASE("a claim that isn't read", judge(DIMACS_INFEASIBLE, surplus, "?", both), 0, "v infeasible\n", "");
     CASE("no claim is certified", certify(DIMACS_INFEASIBLE, surplus, "?"), 0, "v infeasible\n", both);
     CASE("no query is solved", solve(DIMACS_MAX, max, "?"), 0, "v max 6\n", cut);
-    CASE("no kind to judge", judge(4, max, flow, cut), 2, "", "");
     CASE("sets aren't solved for", solve(DIMACS_INFEASIBLE, surplus, ""), 2, "", "");
     CASE("no kind of text", dimacs_convert(9, TEXT(max), OUT), 2, "", "");
-    CASE("nor to show", dimacs_show(9, TEXT(max), OUT), 2, "", "");
-    CASE("no kind to spread", dimacs_spread(DIMACS_INFEASIBLE, TEXT(max), TEXT(flow), OUT, SHOWN), 2, "", "");
 }
 
 static void keeps_to_the_room(void) {
