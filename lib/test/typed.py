@@ -1,6 +1,7 @@
 """What mypy sees of answers: test_docs.py has it read this, and nothing runs it."""
 
 import pathlib
+from mmap import mmap
 from typing import Any, assert_type
 
 import numpy
@@ -12,7 +13,7 @@ from dimacs import scipy as certified
 from dimacs.answers import AmountsLike, IdsLike, Lengths, MarksLike, Number, Scaled
 
 
-def texts(text: str, packed: bytes, path: pathlib.Path) -> None:
+def texts(text: str, packed: bytes, path: pathlib.Path, mapped: mmap) -> None:
     assert_type(dimacs.judge_max(text, text, text), Verdict[int])
     assert_type(dimacs.judge_min(text, text, text), Verdict[int])
     assert_type(dimacs.judge_infeasible(text, text), Verdict[None])
@@ -27,7 +28,7 @@ def texts(text: str, packed: bytes, path: pathlib.Path) -> None:
     assert_type(dimacs.spread_max(text, packed), bytes)
     assert_type(dimacs.spread_min(packed, text), str)
     assert_type(dimacs.convert("max", text), str)
-    assert_type(dimacs.show("max", packed), bytes)
+    assert_type(dimacs.show("max", mapped), bytes)
     value, cut = dimacs.certify_max(text, text)
     assert_type(value, int)
     assert_type(cut, str)
@@ -38,6 +39,8 @@ def texts(text: str, packed: bytes, path: pathlib.Path) -> None:
 def arrays(it: list[int], text: str) -> None:
     assert_type(dimacs.judge_max_arrays(2, 1, 2, it, it, it, it, it), Verdict[int])
     assert_type(dimacs.judge_min_arrays(2, it, it, it, it, it, it, it, it, scale=10), Verdict[Number])
+    either = dimacs.judge_min_arrays(2, it, it, it, it, it, it, it, it, scale=10 if text else None)
+    assert_type(either, Verdict[int] | Verdict[Number])
     assert_type(dimacs.judge_infeasible_arrays(2, it, it, it, it, it, it, it), Verdict[None])
     assert_type(dimacs.judge_paths_arrays(2, it, it, it, 1, it, it), Verdict[int])
     assert_type(dimacs.certify_max_arrays(2, 1, 2, it, it, it, it), Certified[int, MarksLike])

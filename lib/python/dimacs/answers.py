@@ -24,8 +24,9 @@ MarksLike = Union[list[bool], "array[int]", Marks]
 IdsLike = Union[list[int], "array[int]", Ids, Amounts]
 AmountsLike = Union[list[int], "array[int]", Amounts]
 
-#: With scale= a number, and an array of them, or of distances.
+#: What scale= may be but None. With it a number, and an array of them, or of distances.
 Number = Union[int, Fraction, Decimal]
+Scales = Union[Number, tuple[Number, Number], str]
 Scaled = Union[list[Number], "NDArray[object_]"]
 Lengths = Union[list[Union[Number, float]], "NDArray[object_]"]
 

@@ -30,7 +30,8 @@ from functools import wraps
 from typing import Any, Callable, ParamSpec, Protocol, TypeVar, Union, overload
 
 from . import calls
-from .answers import Amounts, AmountsLike, Certified, Ids, IdsLike, Lengths, Marks, MarksLike, Number, Scaled, Solved, Verdict
+from .answers import Amounts, AmountsLike, Certified, Ids, IdsLike, Lengths, Marks, MarksLike, Number, Scaled, Scales, Solved
+from .answers import Verdict
 from .buffers import LIMIT, Numbers
 from .given import DISTANCES, FLOWS, GRAPH, INSIDE, MAX, MIN, POTENTIALS, PREDECESSORS, Given
 from .instances import Blocks, Cut, Instance, Solution, Value
@@ -49,7 +50,7 @@ class _Call(Protocol[_Words, _Answer, _OfValues, _Scaled]):
     @overload
     def __call__(self, instance: Instance, /, *words: Any, **more: Any) -> _Answer: ...
     @overload
-    def __call__(self, *words: Any, scale: Any, **more: Any) -> _Scaled: ...
+    def __call__(self, *words: Any, scale: Scales, **more: Any) -> _Scaled: ...
 
 
 def of_values(

@@ -5,6 +5,7 @@ from __future__ import annotations
 
 import os
 from contextlib import contextmanager
+from mmap import mmap
 from typing import Any, Iterator, Union, overload
 
 from . import library
@@ -14,7 +15,7 @@ from .commands import run, test_kind
 from .explained import ROLES, Asked, kept
 
 StrText = Union[str, "os.PathLike[str]"]
-BytesText = Union[bytes, bytearray, memoryview]
+BytesText = Union[bytes, bytearray, memoryview, mmap]
 Text = Union[StrText, BytesText]
 
 
