@@ -5,7 +5,7 @@ from __future__ import annotations
 
 import re
 import threading
-from typing import Any, Iterator, Sequence, TypeVar
+from typing import Any, Callable, Iterator, Sequence, TypeVar
 
 from . import library
 from .answers import Explainable, PastLimit, Refused
@@ -31,6 +31,7 @@ ROLES |= dict.fromkeys(("max", "min", "gr"), "instance") | dict.fromkeys(("cut",
 _NO_FILE = "\0"
 
 _Answer = TypeVar("_Answer", bound=Explainable)
+_Made = TypeVar("_Made")
 
 
 def kept(answer: _Answer, asked: Any) -> _Answer:
@@ -98,33 +99,8 @@ class Asked:
 
 
 def _solution(given: Given, flows: Sequence[int]) -> Iterator[str]:
-    yield f"s {given.value_of(flows)}"
-    yield from (f"f {tail} {head} {it}" for tail, head, it in zip(given.column(TAILS), given.column(HEADS), flows))
-
-
-def _labels(given: Given, kind: str, distances: Sequence[int], before: Sequence[int] | None) -> Iterator[str]:
-    source = given.number("source")
-    reached = [node for node, it in enumerate(distances, 1) if it < UNLIMITED and node != source]
-    if before is None:
-        found = [f"d {node} {distances[node - 1]}" for node in reached]
-    else:
-        order = _after_predecessors(reached, before)
-        found = [f"d {node} {distances[node - 1]} {before[node - 1]}" for node in order]
-    return iter([f"p {kind} {len(distances)} 1", f"t {source} {len(found)}", *found])
-
-
-def _after_predecessors(nodes: Sequence[int], before: Sequence[int]) -> list[int]:
-    """These nodes, each after its predecessor if that is one of them and no cycle leads there, else by number."""
-    left = set(nodes)
-    order: list[int] = []
-    for node in nodes:
-        chain: list[int] = []
-        while node in left:
-            left.remove(node)
-            chain.append(node)
-            node = before[node - 1]
-        order += reversed(chain)
-    return order
+    yield f"s {given.value_of(flows)}\n"
+    yield from (f"f {tail} {head} {it}\n" for tail, head, it in zip(given.column(TAILS), given.column(HEADS), flows))
 
 
 _CHANGED = "the arrays hold other numbers now, and these are refused: the answer isn't theirs"
@@ -147,56 +123,49 @@ class AskedOfArrays(Asked):
     def _column(self, kind: Array) -> Any:
         return self._more[kind.name] if kind.name in self._more else self._given.column(kind)
 
-    def _text(self, name: str) -> str:
-        given, kind = self._given, self.kind
+    def _text(self, name: str) -> bytes:
+        """Raises Refused for what no text has: a source whose distance isn't 0, or predecessors that don't lead back to it."""
+        given, source = self._given, [self._given.number("source")] if self.kind == "paths" else []
         if name == "instance":
-            return text_of_instance(given).decode("ascii")
-        if name == "certificate" and kind != "paths":
-            called, items = ("pot", POTENTIALS) if kind == "min" else ("cut", INSIDE)
-            numbers = array_of(self._column(items), items.items, items.name)
-            return text_of(called, numbers.length, [], numbers).decode("ascii")
+            return text_of_instance(given)
         if name == "query":
-            lines = iter(["p aux sp ss 1", f"s {given.number('source')}"])
-        elif name == "solution":
-            lines = _solution(given, self._column(FLOWS))
-        elif name == "better":
-            lines = _solution(given, self._more[name])
-        elif name == "distances":
-            lines = _labels(given, "distances", self._column(DISTANCES), None)
-        else:
-            lines = _labels(given, "dist", self._column(DISTANCES), self._column(PREDECESSORS))
-        return "".join(f"{it}\n" for it in lines)
+            return f"p aux sp ss 1\ns {source[0]}\n".encode()
+        if name in ("solution", "better"):
+            return "".join(_solution(given, self._more[name] if name == "better" else self._column(FLOWS))).encode()
+        shown: dict[str, Any] = {"min": ("pot", POTENTIALS), "paths": ("dist", DISTANCES, PREDECESSORS)}
+        called, *kinds = shown.get(self.kind, ("cut", INSIDE)) if name == "certificate" else (name, DISTANCES)
+        arrays = [array_of(self._column(it), it.items, it.name) for it in kinds]
+        return text_of(called, arrays[0].length, source, *arrays)
+
+    def _in_memory(self, call: Callable[[], _Made]) -> _Made:
+        with self._lock:
+            self._given.words()
+            try:
+                return call()
+            finally:
+                self._given.forget()
 
     def written(self, name: str) -> bytes:
         """The text of an array by its name in commands."""
-        with self._lock:
-            self._given.words()
-            try:
-                return self._text(name).encode("ascii")
-            finally:
-                self._given.forget()
+        return self._in_memory(lambda: self._text(name))
 
     def lines(self) -> list[str]:
-        with self._lock:
-            self._given.words()
-            try:
-                return self._told()
-            finally:
-                self._given.forget()
+        return self._in_memory(self._told)
 
     def _told(self) -> list[str]:
         names = _NAMES[self._call].split()
         if not self._call.startswith("judge"):
             read = 1 if self._call == "certify_infeasible" else 2
             names = [*names[:read], *(it for it in self._more if it == "better")]
+        command = [self._call.replace("_", "-"), *(2 * _NO_FILE + it for it in names)]
+        command += [2 * _NO_FILE + "certificate"] if self._call == "solve_paths" else []
         try:
-            texts = [self._text(it) for it in names]
+            first, *more = _explanation(" ".join(command), [self._text(it) for it in names])
         except PastLimit:
             return [_CHANGED] if self.printed is None else [self.printed, self.said]
-        names += ["certificate"] if self._call == "solve_paths" else []
-        command = [self._call.replace("_", "-"), *(2 * _NO_FILE + it for it in names)]
-        first, *more = _explanation(" ".join(command), texts)
-        if self.printed is None and first.startswith("x "):
+        except Refused:
+            first, more = "x", []
+        if self.printed is None and first.startswith("x"):
             return [_CHANGED]
         if self.printed is not None and not self._is_same(first):
             more = [self._own()]
