@@ -43,13 +43,16 @@ class Counted:
 
     def watch(self, backend, names):
         for name in names:
-            setattr(backend, name, self.counting(name, getattr(backend, name)))
+            setattr(backend, name, self.counting(name, getattr(backend, name), backend.Unable))
 
-    def counting(self, name, function):
+    def counting(self, name, function, unable):
         def counted(*words, **more):
-            answer = function(*words, **more)
             self.answered[name] += 1
-            return answer
+            try:
+                return function(*words, **more)
+            except unable:
+                self.answered[name] -= 1
+                raise
 
         return counted
 

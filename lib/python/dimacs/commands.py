@@ -21,7 +21,6 @@ def test_kind(kind: Any) -> None:
 #: In place of a text that a call doesn't read.
 _NO_TEXT = bytes_of(b"")
 
-
 #: How many texts a call takes, and how much room it is given at first, by the lengths of two of them.
 _VERBS: dict[str, tuple[int, Callable[[int, int], list[int]]]] = {
     "judge": (3, lambda first, second: [LINE]),

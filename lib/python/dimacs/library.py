@@ -18,7 +18,6 @@ LINE = 256
 
 _HERE = os.path.dirname(os.path.realpath(__file__))
 
-
 #: Where the library of a system is in `build`. In the package it has the same name.
 BUILT = {"linux": "libdimacs.so", "win32": "windows/dimacs.dll"}
 

@@ -17,7 +17,6 @@ NAME, BELOW, ALONG, STRONG = 9.8, 7.1, 7.7, 8.4
 #: Lines of a verdict that a caption has.
 MOST_LINES = 4
 
-
 #: What a line of XML has no way to write, or what ends it.
 _UNREADABLE = re.compile("[^\x20-\x7e\xa0-\ud7ff\ue000-\ufffd\U00010000-\U0010ffff]")
 
