@@ -170,17 +170,10 @@ class FirefoxPage {
 const CHROMIUM = ["--headless=new", "--no-sandbox", "--disable-gpu", "--no-first-run", "--remote-debugging-pipe"];
 const FIREFOX = ["--headless", "--no-remote", "--remote-debugging-port", "0"];
 
+/** Of each its words before a folder and an address, and its page. */
 const BROWSERS = {
-    chromium: {
-        words: (room) => [...CHROMIUM, `--user-data-dir=${room}`, "about:blank"],
-        connect: overPipes,
-        Page: ChromiumPage,
-    },
-    firefox: {
-        words: (room) => [...FIREFOX, "--profile", room, "about:blank"],
-        connect: overSocket,
-        Page: FirefoxPage,
-    },
+    chromium: {words: (room) => [...CHROMIUM, `--user-data-dir=${room}`], connect: overPipes, Page: ChromiumPage},
+    firefox: {words: (room) => [...FIREFOX, "--profile", room], connect: overSocket, Page: FirefoxPage},
 };
 
 async function addressOf(browser) {
@@ -199,7 +192,7 @@ async function addressOf(browser) {
 export async function withPage(kind, program, use) {
     const {words, connect, Page} = BROWSERS[kind], room = mkdtempSync(join(tmpdir(), "browser-"));
     const stdio = ["ignore", "ignore", "pipe", "pipe", "pipe"], env = {...process.env, HOME: room};
-    const browser = spawn(program, words(room), {stdio, env, detached: true});
+    const browser = spawn(program, [...words(room), "about:blank"], {stdio, env, detached: true});
     const guard = setTimeout(() => {
         process.kill(-browser.pid, "SIGKILL");
         throw new Error("the browser hangs");
