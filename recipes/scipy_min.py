@@ -13,9 +13,9 @@ import command
 
 
 def solve(instance):
-    """The flow of each arc and the potential of each node, if there is a flow. A row is what leaves a node minus what enters it, so its
-    dual is a potential with the sign that the judge wants. The simplex method ends in a corner, where all are
-    whole, up to rounding; an interior point needn't be."""
+    """The flow of each arc and the potential of each node, if there is a flow. A row is what leaves a node minus what
+    enters it, so its dual is a potential with the sign that the judge wants. The simplex method ends in a corner, where
+    all are whole, up to rounding; an interior point needn't be."""
     found = linprog(**instance.to_scipy(), method="highs-ds")
     if found.status == 2:
         return None

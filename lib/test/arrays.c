@@ -1,5 +1,5 @@
-/* The calls over arrays: that each reads and writes what is its own, also of arrays that are empty, and rooms. What they
- * answer is in contracts. */
+/* The calls over arrays: that each reads and writes what is its own, also of arrays that are empty, and rooms. What
+ * they answer is in contracts. */
 #include "check.h"
 #include "dimacs.h"
 

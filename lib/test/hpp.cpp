@@ -295,7 +295,8 @@ static constexpr bool is_safe = std::is_convertible_v<const Vectors &, View> && 
 static_assert(is_safe<MaxInstance, MaxVectors> && is_safe<MinInstance, MinVectors> && is_safe<Graph, GraphVectors>);
 
 /* What is gone at once lends nothing: a use of it doesn't compile, or gives a value. */
-#define USE(use) [](auto &&it) -> decltype(static_cast<decltype(it)>(it) use) { return static_cast<decltype(it)>(it) use; }
+#define USE(use) \
+    [](auto &&it) -> decltype(static_cast<decltype(it)>(it) use) { return static_cast<decltype(it)>(it) use; }
 template <class It, class Use>
 static constexpr bool lends(Use) {
     if constexpr (std::is_invocable_v<Use, It>) {
