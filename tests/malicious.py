@@ -100,6 +100,15 @@ def min_path(ids, nodes, order=list):
     ]
 
 
+def late_costs(nodes, cost):
+    """A path of arcs that cost -1, as many along it that cost nothing, and 40 of this cost after them; nothing is carried."""
+    ids, drawn = shuffled(near(nodes)), random.Random(1)
+    chords = (sorted(drawn.sample(range(nodes), 2)) for _ in range(nodes))
+    arcs = shuffled([(*arc, -1) for arc in path(ids)] + [(ids[i], ids[k], 0) for i, k in chords])
+    arcs += [(*arc, cost) for arc in path(range(nodes + 1, nodes + 42))]
+    return [text(f"p min {nodes + 41} {len(arcs)}", *(f"a {tail} {head} 0 5 {it}" for tail, head, it in arcs)), text("s 0")]
+
+
 def supplies(ids, nodes):
     """An instance without arcs in which every other node sends 1, and the set of those."""
     return [
@@ -175,6 +184,8 @@ def min_cases(n):
     yield "certify-min: IDs far apart", "certify-min I S shown", apart, wide, PAGES_LIMIT
     yield "certify-min: IDs falling", "certify-min I S shown", min_path(falling(ids), n), kind, LIMIT
     yield "solve-min: IDs far apart", "solve-min I claim shown", apart, wide, PAGES_LIMIT
+    words = "certify-min I S shown"
+    yield "certify-min: sums that fit no 32 bits, late", words, late_costs(n, 2**27), late_costs(n, 1), LIMIT
     kind, wide, apart = supplies(ids, n), supplies(ids, MOST), supplies(far(n), MOST)
     yield "supplies: IDs far apart", "judge-infeasible I S", apart, wide, PAGES_LIMIT
     yield "supplies: IDs falling", "judge-infeasible I S", supplies(falling(ids), n), kind, LIMIT
