@@ -1,4 +1,4 @@
-use Rattle.std.proofs.{Common.{[], ◌∷◌, refl, rules, SFits, w64, lit<}, lemmas.Int.{to_z-of_z}}
+use Rattle.std.proofs.{Common.{[], ◌∷◌, refl, rules, w64, lit<}, lemmas.Int.{to_z-of_z}}
 use Rattle.std.specs.{Prelude.{codes}, Int.{w128}}
 use Rattle.dimacs_records.specs.{declared.kinds.TextKind.TheVariants.{Distances}, Forms.{Id, Wide, form}}
 use Rattle.dimacs_records.specs.declared.records.Record.TheVariants.{DistancesNode}
@@ -9,7 +9,5 @@ pub returns : goal.returns
 returns c =
     let line = c.in_ok-size.field-0 in
     let value = c.from.result in
-    let fits : SFits w128 value = search rules in
-    let narrow : SFits w64 line.number = search rules in
-    rw (to_z-of_z w128 value fits, c.from.ensures, to_z-of_z w64 line.number narrow)
+    rw (to_z-of_z w128 value (search rules), c.from.ensures, to_z-of_z w64 line.number (search rules))
     (plain_spells Distances (form (codes "d") (Id ∷ Wide ∷ [])) c.args.bytes.now 100 line.size (DistancesNode line.id line.number) (2, lit< tt, refl) refl refl refl refl (value_widened c.args.bytes.now 100 line.id line.number line.size c.in_ok-size.ensures))

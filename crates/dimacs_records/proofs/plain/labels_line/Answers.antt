@@ -14,8 +14,7 @@ returns c =
     let pred = c.in_ok-pred in
     let wide = c.from.result in
     let dist_fits : SFits w64 dist.dist = search rules in
-    let wide_fits : SFits w128 wide = search rules in
-    rw (to_z-of_z w128 wide wide_fits, c.from.ensures, to_z-of_z w64 dist.dist dist_fits, c.at-size.ensures)
+    rw (to_z-of_z w128 wide (search rules), c.from.ensures, to_z-of_z w64 dist.dist dist_fits, c.at-size.ensures)
     (plain_spells Labels (form (codes "d") (Id ∷ Wide ∷ Id ∷ [])) bytes 100 c.id-2.new.self.at (LabelsNode id.id dist.dist pred.pred) (3, lit< tt, refl) refl refl refl refl
     (label_stands bytes id.id pred.pred c.id.new.self.at c.size.new.self.at c.id-2.new.self.at dist.dist c.in_ok-numbers.ensures.begins
     (rw start at id.ensures.stands) id.ensures.range (rw (id.ensures.bytes, start) at dist.ensures.stands) dist_fits

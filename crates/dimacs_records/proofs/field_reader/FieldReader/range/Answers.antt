@@ -1,4 +1,4 @@
-use Rattle.std.proofs.{Common.{◌≡◌, refl, sym, rules, w64, SFits, None}, lemmas.Int.{to_z-of_z}}
+use Rattle.std.proofs.{Common.{◌≡◌, refl, sym, rules, w64, None}, lemmas.Int.{to_z-of_z}}
 use Rattle.dimacs_records.specs.{Forms.{Number}, Spelling.{Amount, SpellsField}, inside.FieldReader.{field_reason}}
 use Rattle.dimacs_records.proofs.FieldLemmas.{field_reason-said, or_else-none}
 use Rattle.dimacs_records.proofs.field_reader.FieldReader.range.Goals as goal
@@ -9,9 +9,6 @@ returns-in-Ok-clause-takes c =
     let low = c.args.low in
     let high = c.args.high in
     let text = c.in-Some.token.field.text.now in
-    let n_fits : SFits w64 n = search rules in
-    let low_fits : SFits w64 low = search rules in
-    let high_fits : SFits w64 high = search rules in
-    let said : SpellsField (Number low high) text (Amount n) = rw (to_z-of_z w64 low low_fits, to_z-of_z w64 high high_fits) at c.in-Ok.ensures in
+    let said : SpellsField (Number low high) text (Amount n) = rw (to_z-of_z w64 low (search rules), to_z-of_z w64 high (search rules)) at c.in-Ok.ensures in
     let clean : field_reason (Number low high) text ≡ None = field_reason-said (Number low high) text (Amount n) said in
-    rw (c.in-Some.ensures.some, to_z-of_z w64 n n_fits) (refl, refl, rw clean (sym (or_else-none c.args.self.now.fault)), λ h. said)
+    rw (c.in-Some.ensures.some, to_z-of_z w64 n (search rules)) (refl, refl, rw clean (sym (or_else-none c.args.self.now.fault)), λ h. said)

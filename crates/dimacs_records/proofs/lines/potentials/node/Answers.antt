@@ -1,4 +1,4 @@
-use Rattle.std.proofs.{Common.{◌≡◌, refl, [], ◌∷◌, rules, SFits}, lemmas.Int.{to_z-of_z}}
+use Rattle.std.proofs.{Common.{◌≡◌, refl, [], ◌∷◌, rules}, lemmas.Int.{to_z-of_z}}
 use Rattle.std.specs.{Int.{w128}, Prelude.{codes}}
 use Rattle.dimacs_records.specs.{declared.kinds.TextKind.TheVariants.{Potentials}, Forms.{Id, Wide}}
 use Rattle.dimacs_records.specs.{declared.records.Record.TheVariants.{PotentialsNode}, inside.FieldReader.{finished}}
@@ -8,8 +8,7 @@ use Rattle.dimacs_records.proofs.lines.potentials.node.Goals as goal
 pub returns : goal.returns
 returns c =
     let value = c.wide-value.result in
-    let value_fits : SFits w128 value = search rules in
     let r = PotentialsNode c.id-id.result value in
-    let finishes : c.finish.result ≡ finished c.wide-value.new.self r = rw (to_z-of_z w128 value value_fits) at c.finish.ensures in
+    let finishes : c.finish.result ≡ finished c.wide-value.new.self r = rw (to_z-of_z w128 value (search rules)) at c.finish.ensures in
     reads_form Potentials (codes "y") (Id ∷ Wide ∷ []) c.args.fields c.wide-value.new.self r c.finish.result refl refl c.requires
     (c.id-id.new.self, c.id-id.ensures, (c.wide-value.new.self, c.wide-value.ensures, refl)) finishes
