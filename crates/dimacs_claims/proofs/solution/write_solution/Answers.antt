@@ -1,4 +1,4 @@
-use Rattle.std.proofs.{Common.{◌≡◌, SFits, ap, refl, rules, ◌∙◌, length, map, take, arith}, lemmas.Int.{to_z-of_z}}
+use Rattle.std.proofs.{Common.{◌≡◌, ap, refl, rules, ◌∙◌, length, map, take, arith}, lemmas.Int.{to_z-of_z}}
 use Rattle.std.specs.Int.{w128}
 use Rattle.dimacs_records.proofs.{ReadLaws.{spells_one_value}, WrittenLemmas.{all_items, lines_of_items}}
 use Rattle.dimacs_claims.specs.SolutionTexts.{canonical_solution, claimed, entry_record}
@@ -8,11 +8,10 @@ use Rattle.dimacs_claims.proofs.solution.write_solution.Goals as goal
 pub returns-clause-puts : goal.returns-clause-puts
 returns-clause-puts g c =
     let value = c.args.solution.now.value in
-    let fits : SFits w128 value = search rules in
     let entries = c.as_slice-entries.result.now in
     let n = length entries in
     let same : entries ≡ c.args.solution.now.entries.items = search rules in
-    rw (all_items entry_record n entries refl, same, to_z-of_z w128 value fits) at (c.put_text.ensures (λ i. take i (map entry_record entries)) (lines_of_items entry_record _ n entries (omega arith) (λ i rec within e. e)))
+    rw (all_items entry_record n entries refl, same, to_z-of_z w128 value (search rules)) at (c.put_text.ensures (λ i. take i (map entry_record entries)) (lines_of_items entry_record _ n entries (omega arith) (λ i rec within e. e)))
 
 pub returns-clause-round_trip : goal.returns-clause-round_trip
 returns-clause-round_trip g c = solution_round_trip (claimed c.args.solution.now)

@@ -1,4 +1,4 @@
-use Rattle.std.proofs.{Common.{SFits, rules, subst, sym}, lemmas.Int.{to_z-of_z}}
+use Rattle.std.proofs.{Common.{rules, subst, sym}, lemmas.Int.{to_z-of_z}}
 use Rattle.std.specs.Int.{w128}
 use Rattle.dimacs_records.specs.{declared.records.Record.{Record}, declared.records.Record.TheVariants.{DistancesNode}}
 use Rattle.dimacs_records.specs.Tests.{Passes}
@@ -18,8 +18,7 @@ keep_label-requires-clause-passes c =
     let dist = c.in-DistancesNode.dist in
     let line = DistancesNode id dist in
     let passes = subst (λ (t : LabelsBegun). Passes (bare_context t line) line) (sym c.self.view_is) (subst (λ (r : Record). Passes (bare_context c.args.self.now r) r) c.in-DistancesNode.is c.requires.passes) in
-    let fits : SFits w128 dist = search rules in
-    rw (to_z-of_z w128 dist fits) (label_passes c.self.inside.labels id dist c.last_source-pred.result c.last_source-pred.ensures.lawful c.self.invariant c.last_source-pred.ensures.last passes)
+    rw (to_z-of_z w128 dist (search rules)) (label_passes c.self.inside.labels id dist c.last_source-pred.result c.last_source-pred.ensures.lawful c.self.invariant c.last_source-pred.ensures.last passes)
 
 pub invariant_of-self : goal.invariant_of-self
 invariant_of-self c =

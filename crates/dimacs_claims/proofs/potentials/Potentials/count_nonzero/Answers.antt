@@ -1,4 +1,4 @@
-use Rattle.std.proofs.Common.{◌≡◌, ◌≢◌, ◌≤◌, ◌+◌, ◌-◌, length, ◌∙◌, sym, ap, arith, of_z, to_z, SFits, rules}
+use Rattle.std.proofs.Common.{◌≡◌, ◌≢◌, ◌≤◌, ◌+◌, ◌-◌, length, ◌∙◌, sym, ap, arith, of_z, to_z, rules}
 use Rattle.std.proofs.lemmas.Int.{to_z-of_z}
 use Rattle.std.specs.{Prelude.{pos}, Int.{w128}}
 use Rattle.dimacs_claims.specs.Potentials.{potential_of}
@@ -13,7 +13,6 @@ overflow_add-count c = omega (arith, c.loop-id.invariant.counted, c.loop-id.inva
 pub loop-id-preserved : goal.loop-id-preserved
 loop-id-preserved c =
     let least = c.loop-id.invariant.least in
-    let fits : SFits w128 c.of.result = search rules in
     let nonzero = nonzero_at c.args.self.now in
     let skip = c.next-id.ensures in
     let more : 1 ≤ c.loop-id.id + 1 = omega arith in
@@ -23,6 +22,6 @@ loop-id-preserved c =
           let some : potential_of c.args.self.now c.loop-id.id ≢ pos 0 = λ e. w.if-of-ne0.true (ap (of_z w128) (c.of.ensures.value ∙ e)) in
           record { least = omega (arith, least, skip.onward); within = skip.within; counted = omega (arith, same, w.count-is, c.loop-id.invariant.counted, count_below_in c.args.self.now c.loop-id.id least some) }
       | else-of-ne0 w ↦
-          let none : potential_of c.args.self.now c.loop-id.id ≡ pos 0 = sym c.of.ensures.value ∙ sym (to_z-of_z w128 c.of.result fits) ∙ ap (to_z w128) w.if-of-ne0.false in
+          let none : potential_of c.args.self.now c.loop-id.id ≡ pos 0 = sym c.of.ensures.value ∙ sym (to_z-of_z w128 c.of.result (search rules)) ∙ ap (to_z w128) w.if-of-ne0.false in
           record { least = omega (arith, least, skip.onward); within = skip.within; counted = omega (arith, same, w.count-is, c.loop-id.invariant.counted, count_below_out c.args.self.now c.loop-id.id least none) }
     ]

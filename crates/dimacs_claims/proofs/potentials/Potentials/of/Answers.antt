@@ -1,4 +1,4 @@
-use Rattle.std.proofs.{Common.{sym, SFits, rules}, lemmas.Int.{to_z-of_z}}
+use Rattle.std.proofs.{Common.{sym, rules}, lemmas.Int.{to_z-of_z}}
 use Rattle.std.specs.Int.{w128}
 use Rattle.dimacs_records.proofs.NameLemmas.{value-without_zeros}
 use Rattle.dimacs_claims.proofs.ValueLemmas.{potential_wide}
@@ -6,10 +6,8 @@ use Rattle.dimacs_claims.proofs.potentials.Potentials.of.Goals as goal
 
 pub returns-clause-value : goal.returns-clause-value
 returns-clause-value c =
-    let fits : SFits w128 c.unwrap_or.result = search rules in
-    rw (to_z-of_z w128 c.unwrap_or.result fits, ← c.self.view_is, c.unwrap_or.ensures, c.get.ensures) (sym (value-without_zeros c.self.inside.values c.args.id))
+    rw (to_z-of_z w128 c.unwrap_or.result (search rules), ← c.self.view_is, c.unwrap_or.ensures, c.get.ensures) (sym (value-without_zeros c.self.inside.values c.args.id))
 
 pub returns-clause-wide : goal.returns-clause-wide
 returns-clause-wide c =
-    let fits : SFits w128 c.unwrap_or.result = search rules in
-    rw (to_z-of_z w128 c.unwrap_or.result fits, c.unwrap_or.ensures, c.get.ensures, ← value-without_zeros c.self.inside.values c.args.id) (potential_wide _ c.self.invariant c.args.id)
+    rw (to_z-of_z w128 c.unwrap_or.result (search rules), c.unwrap_or.ensures, c.get.ensures, ← value-without_zeros c.self.inside.values c.args.id) (potential_wide _ c.self.invariant c.args.id)

@@ -1,4 +1,4 @@
-use Rattle.std.proofs.{Common.{w64, SFits, rules}, lemmas.Int.{to_z-of_z}, lemmas.Result.{err_from_is_err_and}}
+use Rattle.std.proofs.{Common.{w64, rules}, lemmas.Int.{to_z-of_z}, lemmas.Result.{err_from_is_err_and}}
 use Rattle.std.specs.Int.{w128}
 use Rattle.dimacs_records.specs.{declared.records.Record.TheVariants.{SolutionValue}, Readings.{records_of}}
 use Rattle.dimacs_records.proofs.OrderLemmas.{refused_by_records}
@@ -23,13 +23,11 @@ pub returns-in_ok-test_record-in-SolutionValue-clause-taken : goal.returns-in_ok
 returns-in_ok-test_record-in-SolutionValue-clause-taken g c = λ rs h before.
     let stands = g.P.Place.stands_for c.args.self.now.place in
     let passes = rw c.context.ensures at c.in_ok-test_record-in-SolutionValue.ensures.passes in
-    let fits : SFits w128 c.in-SolutionValue.value = search rules in
-    rw (c.in-SolutionValue.is, to_z-of_z w128 c.in-SolutionValue.value fits) (value_placed stands rs c.args.self.now.value c.args.line c.in-SolutionValue.value passes h).1
+    rw (c.in-SolutionValue.is, to_z-of_z w128 c.in-SolutionValue.value (search rules)) (value_placed stands rs c.args.self.now.value c.args.line c.in-SolutionValue.value passes h).1
 
 pub returns-in_ok-place-in-SolutionEntry-clause-taken : goal.returns-in_ok-place-in-SolutionEntry-clause-taken
 returns-in_ok-place-in-SolutionEntry-clause-taken g c = λ rs h before.
     let said = c.in-SolutionEntry in
     let entry : Entry = record { tail = said.tail; head = said.head; flow = said.flow; line = c.args.line } in
-    let fits : SFits w64 said.flow = search rules in
-    let placed = rw (to_z-of_z w64 said.flow fits) at c.in_ok-place-in-SolutionEntry.ensures.placed in
+    let placed = rw (to_z-of_z w64 said.flow (search rules)) at c.in_ok-place-in-SolutionEntry.ensures.placed in
     rw said.is (entry_placed (g.P.Place.stands_for c.args.self.now.place) rs c.args.self.now.value entry (g.P.Place.stands_for c.place.new.self) placed h).1

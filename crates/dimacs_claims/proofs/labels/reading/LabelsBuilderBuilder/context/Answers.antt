@@ -1,4 +1,4 @@
-use Rattle.std.proofs.{Common.{refl, SFits, rules}, lemmas.Int.{to_z-of_z}}
+use Rattle.std.proofs.{Common.{refl, rules}, lemmas.Int.{to_z-of_z}}
 use Rattle.std.specs.Int.{w128}
 use Rattle.dimacs_records.specs.declared.records.Record.TheVariants.{LabelsNode, LabelsProblem}
 use Rattle.dimacs_claims.proofs.BuilderLemmas.{context_by_records}
@@ -14,8 +14,7 @@ returns-in-LabelsBlock-clause-of_records c = λ rs h. rw (h, returns-in-LabelsBl
 pub returns-in-LabelsNode-clause-of_records : goal.returns-in-LabelsNode-clause-of_records
 returns-in-LabelsNode-clause-of_records c = λ rs h.
     let line = c.in-LabelsNode in
-    let dist : SFits w128 line.dist = search rules in
-    rw (h, c.label_context.ensures, to_z-of_z w128 line.dist dist, line.is) (context_by_records c.args.self.now (LabelsNode line.id line.dist line.pred) refl)
+    rw (h, c.label_context.ensures, to_z-of_z w128 line.dist (search rules), line.is) (context_by_records c.args.self.now (LabelsNode line.id line.dist line.pred) refl)
 
 pub returns-in-LabelsProblem-clause-of_records : goal.returns-in-LabelsProblem-clause-of_records
 returns-in-LabelsProblem-clause-of_records c = λ rs h. rw (h, c.plain_context.ensures, c.in-LabelsProblem.is) (context_by_records c.args.self.now (LabelsProblem c.in-LabelsProblem.nodes c.in-LabelsProblem.blocks) refl)
