@@ -7,6 +7,5 @@ pub returns-else-is_first-clause-first : goal.returns-else-is_first-clause-first
 returns-else-is_first-clause-first c = λ arcs index.
     let outs = c.args.self.now.outs.items in
     let same = c.deref.ensures.value in
-    let bound = c.partition_point.ensures.bound in
-    first_parted outs c.args.tail c.args.head c.partition_point.result (rw same at bound)
+    first_parted outs c.args.tail c.args.head c.partition_point.result (rw same at c.partition_point.ensures.bound)
     (rw same at (IsPartitionPoint-from_clause (is_before_ends c.args.tail c.args.head) _ _ c.partition_point.ensures.partitioned (rw same (are_parted arcs outs index.order index.ends c.args.tail c.args.head)) (λ a r f k. search rules)))

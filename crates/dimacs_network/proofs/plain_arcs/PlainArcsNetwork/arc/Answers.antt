@@ -13,8 +13,7 @@ index-requires g c =
 
 pub at-requires : goal.at-requires
 at-requires g c =
-    let ends = c.self.inside.ends.items in
-    let long = kept_long g.A.StoredArc.arc_of ends c.self.inside.numbers c.self.invariant.1 in
+    let long = kept_long g.A.StoredArc.arc_of c.self.inside.ends.items c.self.inside.numbers c.self.invariant.1 in
     let inside = rw (← c.self.view_is) at c.requires in
     omega (arith, inside, long, c.self.invariant.1)
 
