@@ -103,44 +103,46 @@ read_end kind all count new left stands_for end h =
     let all_is : all ≡ h.before = h.all_is ∙ (ap (λ ls. h.before ++ ls) (end.none h.rest h.left_is) ∙ append-nil h.before) in
     record { by_line = h.by_line; counted = h.counted ∙ ap length (sym all_is); clean = subst (λ ls. IsClean kind ls h.by_line) (sym all_is) h.clean; stands = h.stands }
 
--- the given line comes after those that were read
-pub comes_after : (kind : TextKind) (all : List (List ℕ)) (old new : State) (left later : Option (List ℕ)) (number : ℕ) (stands_for : List LineRecord → Type 0) → GivesLine old new left later number
-    → (h : IsReadSoFar kind all old.given left stands_for) → ComesAfter kind h.before h.by_line number new.line
-comes_after kind all old new left later number stands_for given h = record { clean = h.clean; next = given.next ∙ ap (λ n. n + 1) h.counted; few = given.few; short = given.short }
-
 abbrev pub at_number : ℕ → Result Unit TakeError → Result (Option ℕ) ReadError
 at_number number (Ok done) = Ok (Some number)
 at_number number (Err error) = Err (read_error number error)
 
--- the given line is taken, or the text has its fault there
-pub read_one : (kind : TextKind) (all : List (List ℕ)) (old new : State) (left later : Option (List ℕ)) (number : ℕ) (before_stands stands_for : List LineRecord → Type 0) (result : Result Unit TakeError)
-    → GivesLine old new left later number → (h : IsReadSoFar kind all old.given left before_stands) → TakesLine kind h.before h.by_line new.line stands_for result → ReadsNext kind all old.given later stands_for (at_number number result)
-read_one kind all old new left later number before_stands stands_for (Ok done) given h takes =
-    let more = given.first h.rest h.left_is in
-    record {
-      before = h.before ++ new.line ∷ [];
-      by_line = takes.0;
-      rest = more.0;
-      left_is = more.1;
-      all_is = h.all_is ∙ (ap (λ ls. h.before ++ ls) more.2 ∙ sym (append_assoc h.before (new.line ∷ []) (lines more.0)));
-      counted = omega (arith, given.next, h.counted, length-append h.before (new.line ∷ []));
-      clean = takes.1;
-      stands = takes.2;
-    }
-read_one kind all old new left later number before_stands stands_for (Err (take_errors.Refused fault)) given h takes =
-    let more = given.first h.rest h.left_is in
-    let next : number ≡ length h.before + 1 = given.next ∙ ap (λ n. n + 1) h.counted in
-    record {
-      before = h.before;
-      line = new.line;
-      after = lines more.0;
-      by_line = h.by_line;
-      lines_are = h.all_is ∙ ap (λ ls. h.before ++ ls) more.2;
-      number = next;
-      clean = h.clean;
-      first = rw next takes;
-    }
-read_one kind all old new left later number before_stands stands_for (Err take_errors.Memory) given h takes = tt
+-- the given line, which comes after those that were read, is taken, or the text has its fault there
+pub read_one : (kind : TextKind) (all : List (List ℕ)) (old new : State) (left later : Option (List ℕ)) (number : ℕ) (line : List ℕ) (before_stands stands_for : List LineRecord → Type 0) (result : Result Unit TakeError)
+    → line ≡ new.line → GivesLine old new left later number → IsReadSoFar kind all old.given left before_stands
+    → ((before : List (List ℕ)) (by_line : List (Option Record)) → ComesAfter kind before by_line number line → before_stands (numbered 1 by_line) → TakesLine kind before by_line line stands_for result)
+    → ReadsNext kind all old.given later stands_for (at_number number result)
+read_one kind all old new left later number line before_stands stands_for result is given h takes =
+    let there : ComesAfter kind h.before h.by_line number line = rw is (record { clean = h.clean; next = given.next ∙ ap (λ n. n + 1) h.counted; few = given.few; short = given.short }) in
+    taken result (subst (λ l. TakesLine kind h.before h.by_line l stands_for result) is (takes h.before h.by_line there h.stands))
+  where
+    taken : (r : Result Unit TakeError) → TakesLine kind h.before h.by_line new.line stands_for r → ReadsNext kind all old.given later stands_for (at_number number r)
+    taken (Ok done) takes =
+        let more = given.first h.rest h.left_is in
+        record {
+          before = h.before ++ new.line ∷ [];
+          by_line = takes.0;
+          rest = more.0;
+          left_is = more.1;
+          all_is = h.all_is ∙ (ap (λ ls. h.before ++ ls) more.2 ∙ sym (append_assoc h.before (new.line ∷ []) (lines more.0)));
+          counted = omega (arith, given.next, h.counted, length-append h.before (new.line ∷ []));
+          clean = takes.1;
+          stands = takes.2;
+        }
+    taken (Err (take_errors.Refused fault)) takes =
+        let more = given.first h.rest h.left_is in
+        let next : number ≡ length h.before + 1 = given.next ∙ ap (λ n. n + 1) h.counted in
+        record {
+          before = h.before;
+          line = new.line;
+          after = lines more.0;
+          by_line = h.by_line;
+          lines_are = h.all_is ∙ ap (λ ls. h.before ++ ls) more.2;
+          number = next;
+          clean = h.clean;
+          first = rw next takes;
+        }
+    taken (Err take_errors.Memory) takes = tt
 
 abbrev some_line : List (List ℕ) → Type 0
 some_line ls = (line : List ℕ) × (rest : List (List ℕ)) × (ls ≡ line ∷ rest)

@@ -8,7 +8,7 @@ use Rattle.dimacs_records.specs.{declared.faults.TakeError.{TakeError}, declared
 use Rattle.dimacs_records.specs.{declared.records.Record.{Record}, inside.Driver.{IsReadSoFar, ReadsNext}}
 use Rattle.dimacs_records.specs.inside.Plain.{SpellsFirst}
 use Rattle.dimacs_records.specs.Readings.{LineRecord, on_line, records_of, AreBefore, IsAllowed, RefusesRecord}
-use Rattle.dimacs_records.proofs.DriverLemmas.{at_number, comes_after, read_one, take_record}
+use Rattle.dimacs_records.proofs.DriverLemmas.{at_number, read_one, take_record}
 
 -- a line reader's state before and after one of the lines that it holds
 abbrev state : List ℕ → ℕ → List ℕ → State
@@ -46,13 +46,8 @@ pub plain_step : (kind : TextKind) (all : List (List ℕ)) (bytes : List ℕ) (g
     → IfErr result (λ error. (rs : List LineRecord) → old rs → RefusesRecord (records_of rs) r error)
     → ReadsNext kind all given (before_piece (drop size bytes) coming) new (at_number (given + 1) result)
 plain_step kind all bytes given size coming r old new result spells few so_far allowed taken refused =
-    let left = before_piece bytes coming in
-    let later = before_piece (drop size bytes) coming in
-    let before = state bytes given [] in
-    let after = state (drop size bytes) (given + 1) spells.line in
-    let line = given_line kind bytes r size given coming spells few in
-    let there = comes_after kind all before after left later (given + 1) old line so_far in
-    read_one kind all before after left later (given + 1) old new result line so_far (take_record kind so_far.before so_far.by_line (given + 1) spells.line r old new result there so_far.stands spells.reads.0 spells.reads.1 allowed taken refused)
+    read_one kind all (state bytes given []) (state (drop size bytes) (given + 1) spells.line) (before_piece bytes coming) _ (given + 1) spells.line old new result refl (given_line kind bytes r size given coming spells few) so_far
+    (λ before by_line there stands. take_record kind before by_line (given + 1) spells.line r old new result there stands spells.reads.0 spells.reads.1 allowed taken refused)
 
 -- whole lines and the first line after them are one more whole line
 pub one_more_whole : (kind : TextKind) (held : List ℕ) (bytes count size : ℕ) (r : Record) → AreWholeLines (take bytes held) count → SpellsFirst kind (drop bytes held) r size → AreWholeLines (take (bytes + size) held) (count + 1)
