@@ -10,8 +10,7 @@ returns-then-excludes g c =
 
 pub returns-else-excludes : goal.returns-else-excludes
 returns-else-excludes g c =
-    let fits : SFits w128 c.supply_in-supply.result = search rules in
-    let allowed = rw (to_z-of_z w128 c.supply_in-supply.result fits, c.supply_in-supply.ensures, c.bounds_across-crossing.ensures.most, c.bounds_across-crossing.ensures.least, c.network.ensures.arcs) at c.if-excludes.ensures.1 in
+    let allowed = rw (to_z-of_z w128 c.supply_in-supply.result (search rules), c.supply_in-supply.ensures, c.bounds_across-crossing.ensures.most, c.bounds_across-crossing.ensures.least, c.network.ensures.arcs) at c.if-excludes.ensures.1 in
     record {
       number = 0;
       fails = (refl, refl, refl, λ violated. let f : IsTrue false = allowed violated in cc);

@@ -23,10 +23,9 @@ loop-v-preserved g c =
       low = omega (arith, next.onward);
       demanded = record { onward = next.within; within = later.within; blank = λ v from below. later.blank v (omega (arith, next.onward, from)) below };
       clear = λ x are.
-          let fits : SFits w128 c.of.result = search rules in
           let is_net : c.of.result ≡ net (g.N.Network.list c.args.network.now) x c.loop-v.v = c.of.ensures ∙ are c.loop-v.v in
           balances_skipped _ _ _ x _ _ _ (λ v from below. later.blank v from (omega (arith, below, next.within))) (Skips-weaker _ _ _ _ _ (λ v none. sym (are v) ∙ none) next)
-          (node_clear_more _ _ c.loop-v.v (c.loop-v.invariant.clear x are) (rw (to_z-of_z w128 c.of.result fits, c.demand_at.ensures, is_net) at c.in_default.ensures));
+          (node_clear_more _ _ c.loop-v.v (c.loop-v.invariant.clear x are) (rw (to_z-of_z w128 c.of.result (search rules), c.demand_at.ensures, is_net) at c.in_default.ensures));
     }
 
 pub returns-in-Some : goal.returns-in-Some

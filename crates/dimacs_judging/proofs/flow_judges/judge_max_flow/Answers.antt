@@ -1,4 +1,4 @@
-use Rattle.std.proofs.{Common.{◌∙◌, ap, rules, SFits}, lemmas.Int.{to_z-of_z}}
+use Rattle.std.proofs.{Common.{◌∙◌, ap, rules}, lemmas.Int.{to_z-of_z}}
 use Rattle.std.specs.Int.{w128}
 use Rattle.dimacs_judging.specs.{declared.verdict.Verdict.TheVariants.{Max}, Cuts.{members}}
 use Rattle.dimacs_judging.proofs.FlowJudges.{max_infeasible, max_passed, max_shown, max_untight}
@@ -8,8 +8,7 @@ pub returns-in-Some : goal.returns-in-Some
 returns-in-Some g c =
     let shown = c.in-Some.ensures in
     let passed = max_shown c.args.instance.now c.network-network.ensures.lawful c.args.flow.now (members c.args.cut.now) shown.1 in
-    let fits : SFits w128 c.in-Some.value = search rules in
-    (passed.0, passed.1, ap Max (to_z-of_z w128 c.in-Some.value fits ∙ shown.0))
+    (passed.0, passed.1, ap Max (to_z-of_z w128 c.in-Some.value (search rules) ∙ shown.0))
 
 pub returns-in_err-value : goal.returns-in_err-value
 returns-in_err-value g c =
@@ -25,5 +24,4 @@ pub returns : goal.returns
 returns g c =
     let total = rw (c.network-network.ensures.nodes, c.network-network.ensures.arcs, c.source.ensures) at c.in_ok-value.ensures in
     let passed = max_passed c.args.instance.now c.network-network.ensures.lawful c.args.flow.now (members c.args.cut.now) c.requires total.1 c.in_ok-cut_tests.ensures in
-    let fits : SFits w128 c.in_ok-value.value = search rules in
-    (passed.0, passed.1, ap Max (to_z-of_z w128 c.in_ok-value.value fits ∙ total.0))
+    (passed.0, passed.1, ap Max (to_z-of_z w128 c.in_ok-value.value (search rules) ∙ total.0))

@@ -1,4 +1,4 @@
-use Rattle.std.proofs.{Common.{◌∙◌, ap, rules, SFits}, lemmas.Int.{to_z-of_z}}
+use Rattle.std.proofs.{Common.{◌∙◌, ap, rules}, lemmas.Int.{to_z-of_z}}
 use Rattle.std.specs.Int.{w128}
 use Rattle.dimacs_claims.specs.Potentials.{potential_of}
 use Rattle.dimacs_judging.specs.declared.verdict.Verdict.TheVariants.{Min}
@@ -9,8 +9,7 @@ pub returns-in-Some : goal.returns-in-Some
 returns-in-Some g c =
     let shown = c.in-Some.ensures in
     let passed = min_shown c.args.instance.now c.args.flow.now (potential_of c.args.potentials.now) c.network-network.ensures.lawful shown.1 in
-    let fits : SFits w128 c.in-Some.cost = search rules in
-    (passed.0, passed.1, ap Min (to_z-of_z w128 c.in-Some.cost fits ∙ shown.0))
+    (passed.0, passed.1, ap Min (to_z-of_z w128 c.in-Some.cost (search rules) ∙ shown.0))
 
 pub returns-in_err-cost : goal.returns-in_err-cost
 returns-in_err-cost g c =
@@ -26,5 +25,4 @@ pub returns : goal.returns
 returns g c =
     let total = rw (c.network-network.ensures.nodes, c.network-network.ensures.arcs) at c.in_ok-cost.ensures in
     let passed = min_passed c.args.instance.now c.args.flow.now (potential_of c.args.potentials.now) c.requires total.1 c.network-network.ensures.lawful c.in_ok-slack_tests.ensures in
-    let fits : SFits w128 c.in_ok-cost.cost = search rules in
-    (passed.0, passed.1, ap Min (to_z-of_z w128 c.in_ok-cost.cost fits ∙ total.0))
+    (passed.0, passed.1, ap Min (to_z-of_z w128 c.in_ok-cost.cost (search rules) ∙ total.0))

@@ -22,5 +22,4 @@ loop-i-preserved g c =
 pub returns : goal.returns
 returns g c =
     let block = block_at c.args.labels.now.blocks c.args.block in
-    let labels_are = c.labels_in-list.ensures in
-    support_clear_end (g.N.Network.list c.args.network.now) block c.loop-i.i (rw (c.len-i-end.ensures, labels_are) at c.loop-i-test.false) c.loop-i.invariant
+    support_clear_end (g.N.Network.list c.args.network.now) block c.loop-i.i (rw (c.len-i-end.ensures, c.labels_in-list.ensures) at c.loop-i-test.false) c.loop-i.invariant

@@ -31,11 +31,10 @@ returns-clause-tight c =
 
 pub returns-clause-relaxes : goal.returns-clause-relaxes
 returns-clause-relaxes c =
-    let a = c.args.arc in
     let value = below none_from in
     let head = c.at-head.ensures in
     let set = c.set.ensures.set in
-    relaxes_put a (entries_at c.args.table.now) (entries_at c.set.new.self) _ (λ v off. ap (entry_of value) (c.set.ensures.others v off))
+    relaxes_put c.args.arc (entries_at c.args.table.now) (entries_at c.set.new.self) _ (λ v off. ap (entry_of value) (c.set.ensures.others v off))
     (ap (λ m. value m.dist) set ∙ (ap value c.supported_if.ensures.dist ∙ ap (λ m. value m.dist) head))
     (rw (ap (λ m. m.pred) head) at (ap (λ m. m.pred) set ∙ c.supported_if.ensures.pred))
     (returns-clause-tight c)

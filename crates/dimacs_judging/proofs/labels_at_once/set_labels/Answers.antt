@@ -22,9 +22,8 @@ loop-i-init c =
 
 pub of-requires : goal.of-requires
 of-requires c =
-    let b = c.args.block.now in
     let labels = c.labels-labels.ensures in
-    let inside : c.loop-i.i < length b.labels = rw (c.len-i-end.ensures, labels) at c.loop-i-test.true in
+    let inside : c.loop-i.i < length c.args.block.now.labels = rw (c.len-i-end.ensures, labels) at c.loop-i-test.true in
     rw (c.at-label.ensures, labels) (c.requires.fits c.loop-i.i no_label inside)
 
 pub loop-i-preserved : goal.loop-i-preserved

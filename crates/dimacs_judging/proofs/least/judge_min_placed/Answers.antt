@@ -1,4 +1,4 @@
-use Rattle.std.proofs.{Common.{rules, refl, SFits}, lemmas.Int.{to_z-of_z}, lemmas.Slice.Zip.{AllZip-long}}
+use Rattle.std.proofs.{Common.{rules, refl}, lemmas.Int.{to_z-of_z}, lemmas.Slice.Zip.{AllZip-long}}
 use Rattle.std.specs.Int.{w128}
 use Rattle.dimacs_judging.specs.MinJudge.{min_claim_rows}
 use Rattle.dimacs_judging.proofs.MinJudge.{min_judged, claim_refused, nodes_refused, slack_refused, min_passed}
@@ -14,9 +14,8 @@ returns-in_err-flow g c = λ s is.
 pub returns-in_err-nodes_agree : goal.returns-in_err-nodes_agree
 returns-in_err-nodes_agree g c = λ s is.
     let i = c.args.instance.now in
-    let x = c.in_ok-flow.flow.now in
     let outcome = rw (c.nodes.ensures, c.network-network.ensures.nodes, c.nodes-2.ensures.nodes) at c.in_err-nodes_agree.ensures in
-    min_judged i s c.args.potentials.now _ (nodes_refused i s c.args.potentials.now x (c.in_ok-flow.ensures.claim s is) _ _ outcome) _ c.from_residual-in_err-nodes_agree.ensures.1
+    min_judged i s c.args.potentials.now _ (nodes_refused i s c.args.potentials.now c.in_ok-flow.flow.now (c.in_ok-flow.ensures.claim s is) _ _ outcome) _ c.from_residual-in_err-nodes_agree.ensures.1
 
 pub slack_tests-requires : goal.slack_tests-requires
 slack_tests-requires g c = AllZip-long _ c.args.instance.now.arcs c.in_ok-flow.flow.now c.in_ok-flow.ensures.feasible.within
@@ -24,15 +23,11 @@ slack_tests-requires g c = AllZip-long _ c.args.instance.now.arcs c.in_ok-flow.f
 pub returns-in_err-slack_tests : goal.returns-in_err-slack_tests
 returns-in_err-slack_tests g c = λ s is.
     let i = c.args.instance.now in
-    let x = c.in_ok-flow.flow.now in
     let same_nodes = rw (c.nodes.ensures, c.network-network.ensures.nodes, c.nodes-2.ensures.nodes) at c.in_ok-nodes_agree.ensures in
-    min_judged i s c.args.potentials.now _ (slack_refused i s c.args.potentials.now x (c.in_ok-flow.ensures.claim s is) same_nodes _ _ c.in_err-slack_tests.ensures.0) _ c.from_residual-in_err-slack_tests.ensures.1
+    min_judged i s c.args.potentials.now _ (slack_refused i s c.args.potentials.now c.in_ok-flow.flow.now (c.in_ok-flow.ensures.claim s is) same_nodes _ _ c.in_err-slack_tests.ensures.0) _ c.from_residual-in_err-slack_tests.ensures.1
 
 pub returns : goal.returns
 returns g c = λ s is.
-    let i = c.args.instance.now in
-    let x = c.in_ok-flow.flow.now in
     let same_nodes = rw (c.nodes.ensures, c.network-network.ensures.nodes, c.nodes-2.ensures.nodes) at c.in_ok-nodes_agree.ensures in
-    let passed = min_passed i s c.args.potentials.now x (c.in_ok-flow.ensures.claim s is) same_nodes c.network-network.ensures.lawful c.in_ok-slack_tests.ensures in
-    let fits : SFits w128 c.args.placed.now.value = search rules in
-    (passed.0, passed.1, rw (to_z-of_z w128 c.args.placed.now.value fits, is.value_is) refl)
+    let passed = min_passed c.args.instance.now s c.args.potentials.now c.in_ok-flow.flow.now (c.in_ok-flow.ensures.claim s is) same_nodes c.network-network.ensures.lawful c.in_ok-slack_tests.ensures in
+    (passed.0, passed.1, rw (to_z-of_z w128 c.args.placed.now.value (search rules), is.value_is) refl)

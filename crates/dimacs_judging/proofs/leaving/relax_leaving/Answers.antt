@@ -1,4 +1,4 @@
-use Rattle.std.proofs.Common.{◌≡◌, ◌<◌, Some, SFits, length, get_or, refl, ap, ◌∙◌, rules, arith}
+use Rattle.std.proofs.Common.{◌≡◌, ◌<◌, Some, length, get_or, refl, ap, ◌∙◌, rules, arith}
 use Rattle.std.proofs.{lemmas.Int.{to_z-of_z}, lemmas.List.Elements.{Contains-get_or}}
 use Rattle.std.specs.Int.{w128}
 use Rattle.dimacs_claims.specs.{declared.block.Label.{Label}, Labels.{label, no_label}}
@@ -18,9 +18,8 @@ relax_node-requires-in-loop-i-clause-label g c =
     let l = c.at-label.result in
     let is : l ≡ get_or b.labels n no_label = rw labels at c.at-label.ensures in
     let inside : n < length b.labels = rw (c.len-i-end.ensures, labels) at c.loop-i-test.true in
-    let fits : SFits w128 l.dist = search rules in
     let named : label b (get_or b.labels n no_label).id ≡ Some (get_or b.labels n no_label).dist = c.loop-i.invariant.relaxed.entries.named (get_or b.labels n no_label) (Contains-get_or b.labels n no_label inside) in
-    rw (to_z-of_z w128 l.dist fits, is) named
+    rw (to_z-of_z w128 l.dist (search rules), is) named
 
 pub relax_node-requires-in-loop-i-clause-labelled : goal.relax_node-requires-in-loop-i-clause-labelled
 relax_node-requires-in-loop-i-clause-labelled g c = record { defaults = c.loop-i.invariant.defaults; entries = c.loop-i.invariant.relaxed.entries }

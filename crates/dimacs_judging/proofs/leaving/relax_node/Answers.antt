@@ -1,4 +1,4 @@
-use Rattle.std.proofs.Common.{◌≡◌, ◌+◌, ◌-◌, ◌<◌, IfSome, Option, ℤ, ◌+ℤ◌, SFits, length, slice_index, ap, arith, rules, subst, sym, ◌∙◌}
+use Rattle.std.proofs.Common.{◌≡◌, ◌+◌, ◌-◌, ◌<◌, IfSome, Option, ℤ, ◌+ℤ◌, length, slice_index, ap, arith, rules, subst, sym, ◌∙◌}
 use Rattle.std.proofs.{lemmas.Int.{to_z-of_z}, lemmas.Option.{get_or_from_slice_get}}
 use Rattle.std.specs.Int.{w64, w128}
 use Rattle.dimacs_records.specs.Ranges.{IsWide}
@@ -43,8 +43,7 @@ returns-then-leads_past-clause-relaxed g c = λ yes.
     let next_is : c.loop-next.next ≡ place + 1 = omega (arith, c.loop-next-test.true) in
     let same : arc_at (arcs_in arcs order) place ≡ a = at_place arcs order place inside ∙ (ap (arc_at arcs) (sym c.arc_at.ensures) ∙ get_or_from_slice_get arcs c.arc_at.result a no_arc c.arc-arc.ensures) in
     let fall : WeightsFall (arcs_in arcs order) = c.requires.lightest.fall (sym c.weights_fall.ensures ∙ c.if-weights_fall.true) in
-    let cost : SFits w64 a.cost = search rules in
-    let far : ¬ IsWithinRadius c.radius-radius.result (c.args.from +ℤ a.cost) = rw (to_z-of_z w128 c.args.from c.ranges.from, to_z-of_z w64 a.cost cost) at (c.leads_past.ensures c.if-leads_past.true) in
+    let far : ¬ IsWithinRadius c.radius-radius.result (c.args.from +ℤ a.cost) = rw (to_z-of_z w128 c.args.from c.ranges.from, to_z-of_z w64 a.cost (search rules)) at (c.leads_past.ensures c.if-leads_past.true) in
     let beyond : ¬ IsWithinRadius b.radius (c.args.from +ℤ (arc_at (arcs_in arcs order) place).cost) =
     subst (λ (z : ℤ). ¬ IsWithinRadius b.radius (c.args.from +ℤ z)) (ap (λ (c : ArcView). c.cost) (sym same)) (subst (λ (radius : Option ℤ). ¬ IsWithinRadius radius (c.args.from +ℤ a.cost)) c.radius-radius.ensures far) in
     let on : AreRelaxedOn arcs order b at node (place + 1) = subst (AreRelaxedOn arcs order b at node) next_is is.relaxed in

@@ -1,4 +1,4 @@
-use Rattle.std.proofs.{Common.{◌≡◌, inl, length, ap, ◌∙◌, rules, SFits}, lemmas.Int.{to_z-of_z}}
+use Rattle.std.proofs.{Common.{◌≡◌, inl, length, ap, ◌∙◌, rules}, lemmas.Int.{to_z-of_z}}
 use Rattle.std.proofs.lemmas.Result.{err_from_is_err_and}
 use Rattle.std.specs.Int.{w128}
 use Rattle.dimacs_judging.specs.{MaxJudge.{max_claim_rows}, declared.verdict.JudgeError.TheVariants.{Refused}}
@@ -31,19 +31,15 @@ returns-in_err-value_agrees-clause-refuted g c =
     let x = c.in_ok-flow.flow.now in
     let carries = rw c.requires.network at (c.in_ok-flow.ensures.carried s.entries is.entries) in
     let total = rw (c.network-network.ensures.nodes, c.network-network.ensures.arcs, c.source.ensures) at c.in_ok-value.ensures in
-    let fits : SFits w128 c.in_ok-value.value = search rules in
-    let outcome = rw (to_z-of_z w128 c.in_ok-value.value fits, total.0, is.value_is, is.line_is) at c.in_err-value_agrees.ensures in
+    let outcome = rw (to_z-of_z w128 c.in_ok-value.value (search rules), total.0, is.value_is, is.line_is) at c.in_err-value_agrees.ensures in
     refusal_refutes _ (max_claim_rows i s) (claim_one_way i s) (claim_clear i s c.network-network.ensures.lawful) (Refused c.in_err-value_agrees.field-0.0.0 c.in_err-value_agrees.field-0.0.1) (value_refused i s x carries total.1 _ _ outcome))
 
 pub returns-clause-claim : goal.returns-clause-claim
 returns-clause-claim g c = λ s is.
-    let i = c.args.instance.now in
-    let x = c.in_ok-flow.flow.now in
     let carries = rw c.requires.network at (c.in_ok-flow.ensures.carried s.entries is.entries) in
     let total = rw (c.network-network.ensures.nodes, c.network-network.ensures.arcs, c.source.ensures) at c.in_ok-value.ensures in
-    let fits : SFits w128 c.in_ok-value.value = search rules in
-    let agrees = rw (to_z-of_z w128 c.in_ok-value.value fits, total.0, is.value_is, is.line_is) at c.in_ok-value_agrees.ensures in
-    claim_holds i s x carries total.1 c.network-network.ensures.lawful agrees
+    let agrees = rw (to_z-of_z w128 c.in_ok-value.value (search rules), total.0, is.value_is, is.line_is) at c.in_ok-value_agrees.ensures in
+    claim_holds c.args.instance.now s c.in_ok-flow.flow.now carries total.1 c.network-network.ensures.lawful agrees
 
 pub returns-clause-feasible : goal.returns-clause-feasible
 returns-clause-feasible g c =

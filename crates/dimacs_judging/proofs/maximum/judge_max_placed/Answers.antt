@@ -1,4 +1,4 @@
-use Rattle.std.proofs.{Common.{rules, refl, SFits}, lemmas.Int.{to_z-of_z}, lemmas.Slice.Zip.{AllZip-long}}
+use Rattle.std.proofs.{Common.{rules, refl}, lemmas.Int.{to_z-of_z}, lemmas.Slice.Zip.{AllZip-long}}
 use Rattle.std.specs.Int.{w128}
 use Rattle.dimacs_judging.specs.MaxJudge.{max_claim_rows}
 use Rattle.dimacs_judging.proofs.MaxJudge.{max_judged, claim_refused, nodes_refused, cut_refused, max_passed}
@@ -15,9 +15,8 @@ pub returns-in_err-nodes_agree : goal.returns-in_err-nodes_agree
 returns-in_err-nodes_agree g c = λ s is.
     let i = c.args.instance.now in
     let law = c.network-network.ensures.lawful in
-    let x = c.in_ok-flow.flow.now in
     let outcome = rw (c.nodes.ensures, c.network-network.ensures.nodes, c.nodes-2.ensures) at c.in_err-nodes_agree.ensures in
-    max_judged i s c.args.cut.now law _ (nodes_refused i s c.args.cut.now law x (c.in_ok-flow.ensures.claim s is) _ _ outcome) _ c.from_residual-in_err-nodes_agree.ensures.1
+    max_judged i s c.args.cut.now law _ (nodes_refused i s c.args.cut.now law c.in_ok-flow.flow.now (c.in_ok-flow.ensures.claim s is) _ _ outcome) _ c.from_residual-in_err-nodes_agree.ensures.1
 
 pub cut_tests-requires : goal.cut_tests-requires
 cut_tests-requires g c = AllZip-long _ c.args.instance.now.arcs c.in_ok-flow.flow.now c.in_ok-flow.ensures.feasible.within
@@ -26,15 +25,11 @@ pub returns-in_err-cut_tests : goal.returns-in_err-cut_tests
 returns-in_err-cut_tests g c = λ s is.
     let i = c.args.instance.now in
     let law = c.network-network.ensures.lawful in
-    let x = c.in_ok-flow.flow.now in
     let same_nodes = rw (c.nodes.ensures, c.network-network.ensures.nodes, c.nodes-2.ensures) at c.in_ok-nodes_agree.ensures in
-    max_judged i s c.args.cut.now law _ (cut_refused i s c.args.cut.now law x (c.in_ok-flow.ensures.claim s is) same_nodes _ _ c.in_err-cut_tests.ensures.0) _ c.from_residual-in_err-cut_tests.ensures.1
+    max_judged i s c.args.cut.now law _ (cut_refused i s c.args.cut.now law c.in_ok-flow.flow.now (c.in_ok-flow.ensures.claim s is) same_nodes _ _ c.in_err-cut_tests.ensures.0) _ c.from_residual-in_err-cut_tests.ensures.1
 
 pub returns : goal.returns
 returns g c = λ s is.
-    let i = c.args.instance.now in
-    let x = c.in_ok-flow.flow.now in
     let same_nodes = rw (c.nodes.ensures, c.network-network.ensures.nodes, c.nodes-2.ensures) at c.in_ok-nodes_agree.ensures in
-    let passed = max_passed i s c.args.cut.now c.network-network.ensures.lawful x (c.in_ok-flow.ensures.claim s is) same_nodes c.in_ok-cut_tests.ensures in
-    let fits : SFits w128 c.args.placed.now.value = search rules in
-    (passed.0, passed.1, rw (to_z-of_z w128 c.args.placed.now.value fits, is.value_is) refl)
+    let passed = max_passed c.args.instance.now s c.args.cut.now c.network-network.ensures.lawful c.in_ok-flow.flow.now (c.in_ok-flow.ensures.claim s is) same_nodes c.in_ok-cut_tests.ensures in
+    (passed.0, passed.1, rw (to_z-of_z w128 c.args.placed.now.value (search rules), is.value_is) refl)

@@ -1,4 +1,4 @@
-use Rattle.std.proofs.{Common.{rules, ◌≡◌, inl, length, ap, ◌∙◌, SFits}, lemmas.Int.{to_z-of_z}}
+use Rattle.std.proofs.{Common.{rules, ◌≡◌, inl, length, ap, ◌∙◌}, lemmas.Int.{to_z-of_z}}
 use Rattle.std.proofs.lemmas.Result.{err_from_is_err_and}
 use Rattle.std.specs.Int.{w128}
 use Rattle.dimacs_judging.specs.{MinJudge.{min_claim_rows}, declared.verdict.JudgeError.TheVariants.{Refused}}
@@ -31,19 +31,15 @@ returns-in_err-value_agrees-clause-refuted g c =
     let x = c.in_ok-flow.flow.now in
     let carries = rw c.requires.network at (c.in_ok-flow.ensures.carried s.entries is.entries) in
     let total = rw (c.network-network.ensures.nodes, c.network-network.ensures.arcs) at c.in_ok-cost.ensures in
-    let fits : SFits w128 c.in_ok-cost.cost = search rules in
-    let outcome = rw (to_z-of_z w128 c.in_ok-cost.cost fits, total.0, is.value_is, is.line_is) at c.in_err-value_agrees.ensures in
+    let outcome = rw (to_z-of_z w128 c.in_ok-cost.cost (search rules), total.0, is.value_is, is.line_is) at c.in_err-value_agrees.ensures in
     refusal_refutes _ (min_claim_rows i s) (claim_one_way i s) (claim_clear i s) (Refused c.in_err-value_agrees.field-0.0.0 c.in_err-value_agrees.field-0.0.1) (value_refused i s x carries (total.1.0, (total.1.1.0, tt)) total.1.1.1.0 _ _ outcome))
 
 pub returns-clause-claim : goal.returns-clause-claim
 returns-clause-claim g c = λ s is.
-    let i = c.args.instance.now in
-    let x = c.in_ok-flow.flow.now in
     let carries = rw c.requires.network at (c.in_ok-flow.ensures.carried s.entries is.entries) in
     let total = rw (c.network-network.ensures.nodes, c.network-network.ensures.arcs) at c.in_ok-cost.ensures in
-    let fits : SFits w128 c.in_ok-cost.cost = search rules in
-    let agrees = rw (to_z-of_z w128 c.in_ok-cost.cost fits, total.0, is.value_is, is.line_is) at c.in_ok-value_agrees.ensures in
-    claim_holds i s x carries (total.1.0, (total.1.1.0, tt)) total.1.1.1.0 agrees
+    let agrees = rw (to_z-of_z w128 c.in_ok-cost.cost (search rules), total.0, is.value_is, is.line_is) at c.in_ok-value_agrees.ensures in
+    claim_holds c.args.instance.now s c.in_ok-flow.flow.now carries (total.1.0, (total.1.1.0, tt)) total.1.1.1.0 agrees
 
 pub returns-clause-feasible : goal.returns-clause-feasible
 returns-clause-feasible g c =

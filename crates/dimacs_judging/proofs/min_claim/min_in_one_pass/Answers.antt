@@ -1,4 +1,4 @@
-use Rattle.std.proofs.{Common.{rules, ◌∙◌, ap, length, refl, sym, SFits}, lemmas.Int.{to_z-of_z}}
+use Rattle.std.proofs.{Common.{rules, ◌∙◌, ap, length, refl, sym}, lemmas.Int.{to_z-of_z}}
 use Rattle.std.specs.Int.{w128}
 use Rattle.dimacs_judging.specs.{Flows.{cost}, MinJudge.{IsMinClaim}}
 use Rattle.dimacs_judging.proofs.{MinJudge.{min_passed}, Passing.{value_is}}
@@ -10,14 +10,11 @@ cost_if_shown-requires g c = c.in-Ok.ensures.one_each ∙ ap length c.requires.n
 pub returns-in-Ok-value_agrees : goal.returns-in-Ok-value_agrees
 returns-in-Ok-value_agrees g c = λ s is.
     let i = c.args.instance.now in
-    let p = c.args.potentials.now in
     let x = c.in-Ok.flow.now in
     let carries = rw c.requires.network at (c.in-Ok.ensures.carried s.entries is.entries) in
     let shown = c.in_ok-cost.ensures in
     let same_nodes = rw (c.nodes.ensures, c.network-network.ensures.nodes, c.nodes-2.ensures.nodes) at c.in-Ok-nodes_agree.ensures in
-    let fits : SFits w128 c.in_ok-cost.cost = search rules in
-    let agrees = rw (to_z-of_z w128 c.in_ok-cost.cost fits, shown.0, is.value_is, is.line_is) at c.in-Ok-value_agrees.ensures in
+    let agrees = rw (to_z-of_z w128 c.in_ok-cost.cost (search rules), shown.0, is.value_is, is.line_is) at c.in-Ok-value_agrees.ensures in
     let claim : IsMinClaim i s x = record { carries = carries; feasible = shown.1.feasible; costs_wide = shown.1.costs_wide; cost_is = sym (value_is (cost i.arcs x) s.value s.value_line agrees) } in
-    let passed = min_passed i s p x claim same_nodes c.network-network.ensures.lawful shown.1.slack in
-    let wide : SFits w128 c.args.placed.now.value = search rules in
-    (passed.0, passed.1, rw (to_z-of_z w128 c.args.placed.now.value wide, is.value_is) refl)
+    let passed = min_passed i s c.args.potentials.now x claim same_nodes c.network-network.ensures.lawful shown.1.slack in
+    (passed.0, passed.1, rw (to_z-of_z w128 c.args.placed.now.value (search rules), is.value_is) refl)

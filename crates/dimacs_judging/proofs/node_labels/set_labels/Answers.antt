@@ -17,9 +17,8 @@ loop-i-init g c =
 
 pub of-requires : goal.of-requires
 of-requires g c =
-    let b = c.args.block.now in
     let labels = c.labels-labels.ensures in
-    let inside : c.loop-i.i < length b.labels = rw (c.len-i-end.ensures, labels) at c.loop-i-test.true in
+    let inside : c.loop-i.i < length c.args.block.now.labels = rw (c.len-i-end.ensures, labels) at c.loop-i-test.true in
     rw (c.at-label.ensures, labels) (c.requires.fits c.loop-i.i no_label inside)
 
 pub loop-i-preserved : goal.loop-i-preserved
@@ -28,8 +27,7 @@ loop-i-preserved g c =
     let e = c.in_ok-set-2.ensures in
     let b = c.args.block.now in
     let labels = c.labels-labels.ensures in
-    let l = c.at-label.result in
-    let is : l ≡ get_or b.labels c.loop-i.i no_label = rw labels at c.at-label.ensures in
+    let is : c.at-label.result ≡ get_or b.labels c.loop-i.i no_label = rw labels at c.at-label.ensures in
     let inside : c.loop-i.i < length b.labels = rw (c.len-i-end.ensures, labels) at c.loop-i-test.true in
     let here = rw is at e.set in
     let lawful = c.requires.lawful in

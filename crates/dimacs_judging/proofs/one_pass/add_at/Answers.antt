@@ -11,12 +11,9 @@ returns-clause-adds g c =
     let same : read ≡ was = c.state_at-balance.ensures in
     let old : SFits w32 read.balance = search rules in
     let from_is : c.from.result ≡ read.balance = c.from.ensures ∙ to_z-of_z w32 read.balance old in
-    let amount : SFits w64 x = search rules in
-    let wide : SFits w64 c.from.result = search rules in
     let sum : SFits w64 (c.from.result +ℤ x) = omega (arith, ints, from_is, old, c.requires) in
-    let is = rw (to_z-of_z w64 c.from.result wide, to_z-of_z w64 x amount, to_z-of_z w64 (c.from.result +ℤ x) sum) at c.in_ok-balance.ensures in
-    let number : SFits w32 c.in_ok-balance.balance = search rules in
+    let is = rw (to_z-of_z w64 c.from.result (search rules), to_z-of_z w64 x (search rules), to_z-of_z w64 (c.from.result +ℤ x) sum) at c.in_ok-balance.ensures in
     let potential : SFits w32 read.potential = search rules in
     let more : c.in_ok-balance.balance ≡ was.balance +ℤ x = omega (arith, ints, is, from_is, ap (λ (s : NodeState). s.balance) same) in
     adds_at c.args.node x (was.balance +ℤ x) (record { balance = c.in_ok-balance.balance; potential = read.potential }) (g.T.NodeStates.state c.args.states.now) (g.T.NodeStates.state c.set_state.new.self)
-    (ap (λ (s : NodeState). s.potential) same) more refl (rw (to_z-of_z w32 c.in_ok-balance.balance number, to_z-of_z w32 read.potential potential) at c.in_ok-set_state.ensures)
+    (ap (λ (s : NodeState). s.potential) same) more refl (rw (to_z-of_z w32 c.in_ok-balance.balance (search rules), to_z-of_z w32 read.potential potential) at c.in_ok-set_state.ensures)

@@ -22,10 +22,8 @@ returns-in-Ok g c =
     let x = c.args.flow.now in
     let all : length arcs ≤ c.loop-i.i = omega (arith, c.loop-i-test.false, c.arcs-i-end.ensures) in
     let balances = balances_added _ arcs _ _ x c.loop-i.i _ _ all c.requires.one_each c.loop-i.invariant in
-    let balance : SFits w128 c.of.result = search rules in
-    let total : SFits w128 c.loop-i.sums.cost = search rules in
     record {
       clear = passed _ arcs _ _ x c.loop-i.i _ _ all c.requires.one_each c.loop-i.invariant _ (c.in-Ok.ensures x balances);
-      balance_is = to_z-of_z w128 c.of.result balance ∙ (c.of.ensures ∙ balances c.args.node);
-      cost_is = to_z-of_z w128 c.loop-i.sums.cost total ∙ cost_added _ arcs _ _ x c.loop-i.i _ _ all c.requires.one_each c.loop-i.invariant;
+      balance_is = to_z-of_z w128 c.of.result (search rules) ∙ (c.of.ensures ∙ balances c.args.node);
+      cost_is = to_z-of_z w128 c.loop-i.sums.cost (search rules) ∙ cost_added _ arcs _ _ x c.loop-i.i _ _ all c.requires.one_each c.loop-i.invariant;
     }

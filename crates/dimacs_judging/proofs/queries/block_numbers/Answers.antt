@@ -8,6 +8,4 @@ loop-i-init c = λ source. rw c.new-numbers.ensures (get-empty source)
 
 pub loop-i-preserved : goal.loop-i-preserved
 loop-i-preserved c =
-    let blocks = c.args.labels.now.blocks in
-    let b = c.block-item.result in
-    rw (c.in_ok-set.ensures.set, c.source.ensures) (numbers_more blocks c.loop-i.numbers c.loop-i.i b (search rules) (search rules) c.blocks-block-items.ensures.lawful.sources c.loop-i.invariant)
+    rw (c.in_ok-set.ensures.set, c.source.ensures) (numbers_more c.args.labels.now.blocks c.loop-i.numbers c.loop-i.i c.block-item.result (search rules) (search rules) c.blocks-block-items.ensures.lawful.sources c.loop-i.invariant)

@@ -1,4 +1,4 @@
-use Rattle.std.proofs.{Common.{◌∙◌, ◌∷◌, [], inl, rules, SFits}, lemmas.Int.{to_z-of_z}}
+use Rattle.std.proofs.{Common.{◌∙◌, ◌∷◌, [], inl, rules}, lemmas.Int.{to_z-of_z}}
 use Rattle.std.proofs.lemmas.Result.{err_from_is_err_and}
 use Rattle.std.specs.Int.{w128}
 use Rattle.dimacs_judging.specs.FlowTests.{cost_row, feasible_rows}
@@ -8,8 +8,7 @@ use Rattle.dimacs_judging.proofs.totals.cost_if_feasible.Goals as goal
 pub returns-in-Some : goal.returns-in-Some
 returns-in-Some g c =
     let passed = c.in-Some.ensures in
-    let fits : SFits w128 c.in-Some.totals.cost = search rules in
-    (to_z-of_z w128 c.in-Some.totals.cost fits ∙ passed.cost_is, (passed.clear.0, (passed.clear.1.0, (passed.clear.1.1.0, tt))))
+    (to_z-of_z w128 c.in-Some.totals.cost (search rules) ∙ passed.cost_is, (passed.clear.0, (passed.clear.1.0, (passed.clear.1.1.0, tt))))
 
 pub returns-in_err-balances_if_feasible : goal.returns-in_err-balances_if_feasible
 returns-in_err-balances_if_feasible g c =
@@ -28,5 +27,4 @@ returns-in_err-cost g c =
 pub returns : goal.returns
 returns g c =
     let feasible = c.in_ok-balances_if_feasible.ensures.1 in
-    let fits : SFits w128 c.in_ok-cost.cost = search rules in
-    (to_z-of_z w128 c.in_ok-cost.cost fits ∙ c.in_ok-cost.ensures.0, (feasible.0, (feasible.1.0, (c.in_ok-cost.ensures.1, tt))))
+    (to_z-of_z w128 c.in_ok-cost.cost (search rules) ∙ c.in_ok-cost.ensures.0, (feasible.0, (feasible.1.0, (c.in_ok-cost.ensures.1, tt))))

@@ -1,12 +1,11 @@
-use Rattle.std.proofs.{Common.{◌∙◌, rules, SFits}, lemmas.Int.{to_z-of_z}, lemmas.Result.{err_from_is_err_and}}
+use Rattle.std.proofs.{Common.{◌∙◌, rules}, lemmas.Int.{to_z-of_z}, lemmas.Result.{err_from_is_err_and}}
 use Rattle.std.specs.Int.{w128}
 use Rattle.dimacs_judging.proofs.totals.value_if_feasible.Goals as goal
 
 pub returns-in-Some : goal.returns-in-Some
 returns-in-Some g c =
     let passed = c.in-Some.ensures in
-    let fits : SFits w128 c.in-Some.totals.balance = search rules in
-    (to_z-of_z w128 c.in-Some.totals.balance fits ∙ passed.balance_is, (passed.clear.0, (passed.clear.1.0, tt)))
+    (to_z-of_z w128 c.in-Some.totals.balance (search rules) ∙ passed.balance_is, (passed.clear.0, (passed.clear.1.0, tt)))
 
 pub returns-in_err-balances : goal.returns-in_err-balances
 returns-in_err-balances g c =
@@ -15,5 +14,4 @@ returns-in_err-balances g c =
 
 pub returns : goal.returns
 returns g c =
-    let fits : SFits w128 c.of.result = search rules in
-    (to_z-of_z w128 c.of.result fits ∙ (c.of.ensures ∙ c.in_ok-balances.ensures.0 c.args.source), c.in_ok-balances.ensures.1)
+    (to_z-of_z w128 c.of.result (search rules) ∙ (c.of.ensures ∙ c.in_ok-balances.ensures.0 c.args.source), c.in_ok-balances.ensures.1)

@@ -9,17 +9,14 @@ pub overflow_sub-reduced : goal.overflow_sub-reduced
 overflow_sub-reduced g c =
     let a = c.args.arc in
     let small : IsSmall a.cost c.args.amount = search rules in
-    let cost : SFits w64 a.cost = search rules in
     let narrow : SFits w32 c.in_ok-tail.tail = search rules in
     let is : c.from.result ≡ c.in_ok-tail.tail = c.from.ensures ∙ to_z-of_z w32 c.in_ok-tail.tail narrow in
-    let wide : SFits w64 c.from.result = search rules in
-    rw (to_z-of_z w64 a.cost cost, to_z-of_z w64 c.from.result wide) (omega (arith, ints, small.0, is, narrow))
+    rw (to_z-of_z w64 a.cost (search rules), to_z-of_z w64 c.from.result (search rules)) (omega (arith, ints, small.0, is, narrow))
 
 pub overflow_add-reduced : goal.overflow_add-reduced
 overflow_add-reduced g c =
     let a = c.args.arc in
     let small : IsSmall a.cost c.args.amount = search rules in
-    let cost : SFits w64 a.cost = search rules in
     let tail_narrow : SFits w32 c.in_ok-tail.tail = search rules in
     let head_narrow : SFits w32 c.in_ok-head.head = search rules in
     let tail_is : c.from.result ≡ c.in_ok-tail.tail = c.from.ensures ∙ to_z-of_z w32 c.in_ok-tail.tail tail_narrow in
@@ -27,13 +24,11 @@ overflow_add-reduced g c =
     let tail : SFits w64 c.from.result = search rules in
     let head : SFits w64 c.from-2.result = search rules in
     let less : SFits w64 (a.cost -ℤ c.from.result) = omega (arith, ints, small.0, tail_is, tail_narrow) in
-    rw (to_z-of_z w64 a.cost cost, to_z-of_z w64 c.from.result tail, to_z-of_z w64 c.from-2.result head, to_z-of_z w64 (a.cost -ℤ c.from.result) less) (omega (arith, ints, small.0, tail_is, head_is, tail_narrow, head_narrow))
+    rw (to_z-of_z w64 a.cost (search rules), to_z-of_z w64 c.from.result tail, to_z-of_z w64 c.from-2.result head, to_z-of_z w64 (a.cost -ℤ c.from.result) less) (omega (arith, ints, small.0, tail_is, head_is, tail_narrow, head_narrow))
 
 pub overflow_add-self : goal.overflow_add-self
 overflow_add-self g c =
-    let before : SFits w128 c.args.self.now.cost = search rules in
-    let more : SFits w128 c.product.result = search rules in
-    rw (to_z-of_z w128 c.args.self.now.cost before, to_z-of_z w128 c.product.result more) (omega (arith, ints, c.requires, c.product.ensures.size))
+    rw (to_z-of_z w128 c.args.self.now.cost (search rules), to_z-of_z w128 c.product.result (search rules)) (omega (arith, ints, c.requires, c.product.ensures.size))
 
 pub returns : goal.returns
 returns g c =
@@ -56,8 +51,6 @@ returns g c =
     let reduced : SFits w64 ((a.cost -ℤ c.from.result) +ℤ c.from-2.result) = omega (arith, ints, small.0, tail_is, head_is, tail_narrow, head_narrow) in
     let tail_potential = tail_is ∙ c.in_ok-tail.ensures.potential in
     let head_potential = head_is ∙ (c.in_ok-head.ensures.potential ∙ c.in_ok-tail.ensures.adds.potentials a.head) in
-    let before : SFits w128 old.cost = search rules in
-    let more : SFits w128 c.product.result = search rules in
     let sum : SFits w128 (old.cost +ℤ c.product.result) = omega (arith, ints, c.requires, c.product.ensures.size) in
     let product = rw (to_z-of_z w64 a.cost unit, to_z-of_z w64 x fits) at c.product.ensures.value in
     record {
@@ -65,5 +58,5 @@ returns g c =
       passes = rw (to_z-of_z w64 x fits, to_z-of_z w64 a.cost unit, to_z-of_z w64 c.from.result tail, to_z-of_z w64 c.from-2.result head, to_z-of_z w64 (a.cost -ℤ c.from.result) less, to_z-of_z w64 ((a.cost -ℤ c.from.result) +ℤ c.from-2.result) reduced, tail_potential, head_potential) at (c.if-not-passes.ensures refl);
       balances = λ v. omega (arith, ints, out v, into v, when_back (a.head == v) x);
       potentials = λ v. c.in_ok-head.ensures.adds.potentials v ∙ c.in_ok-tail.ensures.adds.potentials v;
-      cost_is = rw (to_z-of_z w128 old.cost before, to_z-of_z w128 c.product.result more, to_z-of_z w128 (old.cost +ℤ c.product.result) sum, product) refl;
+      cost_is = rw (to_z-of_z w128 old.cost (search rules), to_z-of_z w128 c.product.result (search rules), to_z-of_z w128 (old.cost +ℤ c.product.result) sum, product) refl;
     }
