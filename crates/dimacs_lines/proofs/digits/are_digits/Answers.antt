@@ -12,7 +12,6 @@ overflow_add-result c =
 
 pub returns : goal.returns
 returns c =
-    let word = c.args.word in
-    let whole = ap (carries 8) (word_of-to_le_bytes word (omega arith)) in
-    let is = carries-none (to_le_bytes w64 word) c.requires in
+    let whole = ap (carries 8) (word_of-to_le_bytes _ (omega arith)) in
+    let is = carries-none (to_le_bytes w64 _) c.requires in
     (λ yes. is.0 (whole ∙ eqb-true _ _ yes), λ all. eq-eqb _ _ (sym whole ∙ is.1 all))

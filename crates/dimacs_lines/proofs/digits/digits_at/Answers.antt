@@ -1,4 +1,4 @@
-use Rattle.std.proofs.Common.{◌≡◌, ℕ, ◌-◌, ◌<◌, ◌≤◌, List, ◌++◌, min, length, take, drop, replicate, w64, sym, ap, subst, ◌∙◌, arith, take-take, length-take}
+use Rattle.std.proofs.Common.{rules, ◌≡◌, ℕ, ◌-◌, ◌<◌, ◌≤◌, List, ◌++◌, min, length, take, drop, replicate, w64, sym, ap, subst, ◌∙◌, arith, take-take, length-take}
 use Rattle.std.proofs.{lemmas.List.{take-append-le}, lemmas.List.Elements.{All-take}}
 use Rattle.std.proofs.lemmas.List.Sums.{prefix_len-le-length}
 use Rattle.std.specs.{Char.{is_ascii_digit}, Int.{to_le_bytes}, Int.Digits.{AllBelowBase, number_from_digits}}
@@ -21,21 +21,8 @@ are_digits-requires c =
     let small = All-take (λ b. b < 256) count bytes (AllBytes-to_le_bytes c.word_at-word.result) in
     subst (All (λ b. b < 240)) (sym c.values_on_top-values.ensures) (All-turned (8 - count) (take count bytes) small (AllPass-take has_sixteen count bytes c.count_to_end-count.ensures.count))
 
-pub eight_digits-requires : goal.eight_digits-requires
-eight_digits-requires c = c.are_digits.ensures.0 c.if-not-are_digits.false
-
-pub returns-clause-count : goal.returns-clause-count
-returns-clause-count c =
-    let count = c.count_to_end-count.result in
-    let bytes = to_le_bytes w64 c.word_at-word.result in
-    let rest = drop c.args.at c.args.line.now in
-    let small = All-take (λ b. b < 256) count bytes (AllBytes-to_le_bytes c.word_at-word.result) in
-    let below = subst (AllBelowBase 10) c.values_on_top-values.ensures (c.are_digits.ensures.0 c.if-not-are_digits.false) in
-    let digits = AllPass-turned (8 - count) (take count bytes) small below in
-    prefix_len-digits count bytes c.count_to_end-count.ensures.count digits ∙ ap (prefix_len is_ascii_digit) c.word_at-word.ensures ∙ prefix_len-padded 8 8 rest
-
-pub returns-clause-value : goal.returns-clause-value
-returns-clause-value c =
+pub returns : goal.returns
+returns c =
     let count = c.count_to_end-count.result in
     let bytes = to_le_bytes w64 c.word_at-word.result in
     let rest = drop c.args.at c.args.line.now in
@@ -43,6 +30,9 @@ returns-clause-value c =
     let below = subst (AllBelowBase 10) c.values_on_top-values.ensures (c.are_digits.ensures.0 c.if-not-are_digits.false) in
     let digits = AllPass-turned (8 - count) (take count bytes) small below in
     let counted = prefix_len-digits count bytes c.count_to_end-count.ensures.count digits ∙ ap (prefix_len is_ascii_digit) c.word_at-word.ensures ∙ prefix_len-padded 8 8 rest in
-    let within = ap (take count) c.word_at-word.ensures ∙ take-padded count rest counted in
-    c.eight_digits.ensures ∙ ap (number_from_digits 10) c.values_on_top-values.ensures
-    ∙ number_from_digits-zeros (8 - count) (take count bytes) digits ∙ ap place_sum within
+    record {
+      positive = search rules;
+      count = counted;
+      value = c.eight_digits.ensures ∙ ap (number_from_digits 10) c.values_on_top-values.ensures
+          ∙ number_from_digits-zeros (8 - count) (take count bytes) digits ∙ ap place_sum (ap (take count) c.word_at-word.ensures ∙ take-padded count rest counted);
+    }

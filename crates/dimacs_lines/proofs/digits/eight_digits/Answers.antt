@@ -30,5 +30,4 @@ eight-word_of a b c d e f g h digits =
 
 pub returns : goal.returns
 returns c =
-    let word = c.args.word in
-    ap (λ n. eight (fours (twos n))) (sym (word_of-to_le_bytes word (omega arith))) ∙ eight-word_of _ _ _ _ _ _ _ _ c.requires
+    ap (λ n. eight (fours (twos n))) (sym (word_of-to_le_bytes c.args.word (omega arith))) ∙ eight-word_of _ _ _ _ _ _ _ _ c.requires

@@ -21,12 +21,11 @@ to_le_bytes-shl j k ds whole enough bytes =
 
 pub returns : goal.returns
 returns c =
-    let word = c.args.word in
     let count = c.args.count in
-    let bytes = to_le_bytes w64 word in
-    let whole = word_of-to_le_bytes word (omega arith) in
-    let turned = ap (λ n. bit_xor n 0x3030303030303030) (sym whole) ∙ word_of-map bytes (AllBytes-to_le_bytes word) in
-    let small = All-map (λ b. b < 256) (λ b. bit_xor b 48) bytes (λ k d h. xor_lt 8 (get_or bytes k d) 48 (AllBytes-to_le_bytes word k d h) (lit< tt)) in
+    let bytes = to_le_bytes w64 _ in
+    let whole = word_of-to_le_bytes _ (omega arith) in
+    let turned = ap (λ n. bit_xor n 0x3030303030303030) (sym whole) ∙ word_of-map bytes (AllBytes-to_le_bytes _) in
+    let small = All-map (λ b. b < 256) (λ b. bit_xor b 48) bytes (λ k d h. xor_lt 8 (get_or bytes k d) 48 (AllBytes-to_le_bytes _ k d h) (lit< tt)) in
     let power : 64 - 8 * count ≡ 8 * (8 - count) = omega arith in
     ap₂ (λ n e. to_le_bytes w64 (n * 2 ^ e % 2 ^ 64)) turned power
     ∙ to_le_bytes-shl (8 - count) count (map (λ b. bit_xor b 48) bytes) (omega arith) c.requires.at_most_eight small

@@ -46,6 +46,5 @@ overflow_cast-result c =
 
 pub returns : goal.returns
 returns c =
-    let bytes = c.args.bytes.now in
-    let small = All-take (λ b. b < 256) 32 bytes (All-from_get_or (λ b. b < 256) bytes 0 (λ k h. omega (arith, c.type_inv.bytes k))) in
-    bits_are (take 32 bytes) (long_enough bytes c.requires) small
+    let small = All-take (λ b. b < 256) 32 _ (All-from_get_or (λ b. b < 256) _ 0 (λ k h. omega (arith, c.type_inv.bytes k))) in
+    bits_are (take 32 _) (long_enough _ c.requires) small

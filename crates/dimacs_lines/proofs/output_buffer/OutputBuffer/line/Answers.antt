@@ -4,6 +4,5 @@ use Rattle.dimacs_lines.proofs.output_buffer.OutputBuffer.line.Goals as goal
 
 pub returns : goal.returns
 returns g c = λ start text h.
-    let roomy = c.make_room.new.self in
     rw (c.append_line.ensures.appended, c.append_line.ensures.failed)
-    (IsWritten-kept roomy.failed start (g.S.Sink.seen c.make_room.new.sink) text roomy.kept (numbers_line c.args.letter c.args.numbers.now) (c.make_room.ensures.written start text h))
+    (IsWritten-kept c.make_room.new.self.failed start (g.S.Sink.seen c.make_room.new.sink) text c.make_room.new.self.kept (numbers_line c.args.letter c.args.numbers.now) (c.make_room.ensures.written start text h))

@@ -4,6 +4,5 @@ use Rattle.dimacs_lines.proofs.output_buffer.OutputBuffer.line_of_three.Goals as
 
 pub returns : goal.returns
 returns g c = λ start text h.
-    let roomy = c.make_room.new.self in
     rw (c.append_line_of_three.ensures.appended, c.append_line_of_three.ensures.failed, to_z-of_z w64 c.args.first c.ranges.first, to_z-of_z w64 c.args.second c.ranges.second, to_z-of_z w64 c.args.third c.ranges.third)
-    (IsWritten-kept roomy.failed start (g.S.Sink.seen c.make_room.new.sink) text roomy.kept _ (c.make_room.ensures.written start text h))
+    (IsWritten-kept c.make_room.new.self.failed start (g.S.Sink.seen c.make_room.new.sink) text c.make_room.new.self.kept _ (c.make_room.ensures.written start text h))

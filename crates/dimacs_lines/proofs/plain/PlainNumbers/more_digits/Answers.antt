@@ -7,11 +7,10 @@ use Rattle.dimacs_lines.proofs.plain.PlainNumbers.more_digits.Goals as goal
 
 pub digits_value-high-requires-clause-digits : goal.digits_value-high-requires-clause-digits
 digits_value-high-requires-clause-digits c =
-    let found = c.in_ok-count.ensures in
     let count = c.in_ok-count.count in
     let left = c.digits.new.self in
-    let same : c.self.inside.bytes.now ≡ left.bytes = ap (λ (l : NumbersLeft). l.bytes) c.self.view_is ∙ found.bytes in
-    rw (same, c.at-at.ensures) (subst (All IsAsciiDigit) (take-take (count - 8) count (drop left.at left.bytes) (omega arith)) (All-take IsAsciiDigit (count - 8) (take count (drop left.at left.bytes)) found.run.each))
+    let same : c.self.inside.bytes.now ≡ left.bytes = ap (λ (l : NumbersLeft). l.bytes) c.self.view_is ∙ c.in_ok-count.ensures.bytes in
+    rw (same, c.at-at.ensures) (subst (All IsAsciiDigit) (take-take (count - 8) count (drop left.at left.bytes) (omega arith)) (All-take IsAsciiDigit (count - 8) (take count (drop left.at left.bytes)) c.in_ok-count.ensures.run.each))
 
 pub digits_value-low-requires-clause-digits : goal.digits_value-low-requires-clause-digits
 digits_value-low-requires-clause-digits c =

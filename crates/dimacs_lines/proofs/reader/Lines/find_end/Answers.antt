@@ -38,8 +38,7 @@ returns-then-count-eq0-clause-left g c =
 
 pub returns-then-count-eq0-clause-enough : goal.returns-then-count-eq0-clause-enough
 returns-then-count-eq0-clause-enough g c =
-    let more = c.in_ok-count.ensures.more in
-    inr (inl (nothing_after _ _ more.piece more.given (c.in_ok-count.ensures.end (ap (λ n. Ok n) c.if-count-eq0.true))))
+    inr (inl (nothing_after _ _ c.in_ok-count.ensures.more.piece c.in_ok-count.ensures.more.given (c.in_ok-count.ensures.end (ap (λ n. Ok n) c.if-count-eq0.true))))
 
 pub last_length-length-requires-in-loop-length : goal.last_length-length-requires-in-loop-length
 last_length-length-requires-in-loop-length g c =

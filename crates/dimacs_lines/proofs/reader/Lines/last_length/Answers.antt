@@ -10,7 +10,6 @@ returns-clause-length c =
     let start = c.self.inside.next in
     let end = c.self.inside.end in
     let few : c.args.count ≤ length (slice_range bytes start end) = rw (← c.self.view_is) at c.requires in
-    let laid = c.self.invariant in
     rw (← c.self.view_is) (c.line_length.ensures.length
     ∙ ap (λ xs. position_or_len is_end (slice_range xs (end - c.args.count) end)) c.deref.ensures.value
-    ∙ ap (position_or_len is_end) (last_of_slice bytes start end c.args.count laid.held_ordered laid.held_within few))
+    ∙ ap (position_or_len is_end) (last_of_slice bytes start end c.args.count c.self.invariant.held_ordered c.self.invariant.held_within few))

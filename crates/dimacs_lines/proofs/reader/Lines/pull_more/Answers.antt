@@ -21,34 +21,30 @@ front_within xs n most bounded = rw between_from_start (omega (arith, length-tak
 
 pub invariant_of-self-in-Ok : goal.invariant_of-self-in-Ok
 invariant_of-self-in-Ok g c =
-    let pulled = c.pull_after.new.buffer in
-    rw (with_items_is c.grow.new.buffer pulled (c.pull_after.auto.buffer ∙ c.deref_mut.ensures.len))
-    (at_front _ _ _ c.in-Ok.ensures.within c.self.invariant.few (no_longer pulled _ _ _ c.pull_after.auto.buffer c.deref_mut.ensures.value c.grow.ensures.bounded))
+    rw (with_items_is c.grow.new.buffer _ (c.pull_after.auto.buffer ∙ c.deref_mut.ensures.len))
+    (at_front _ _ _ c.in-Ok.ensures.within c.self.invariant.few (no_longer _ _ _ _ c.pull_after.auto.buffer c.deref_mut.ensures.value c.grow.ensures.bounded))
 
 pub invariant_of-self-in-Err : goal.invariant_of-self-in-Err
 invariant_of-self-in-Err g c =
-    let pulled = c.pull_after.new.buffer in
     let pulls = c.pull_after.auto.buffer ∙ ap length c.deref_mut.ensures.value in
-    let fits = held_fits c.self.inside.next c.self.inside.end c.self.inside.buffer.items c.move_to_front.new.buffer.items c.grow.new.buffer.items pulled c.self.invariant.held_within c.move_to_front.ensures.length c.grow.ensures.no_shorter pulls in
-    rw (with_items_is c.grow.new.buffer pulled (c.pull_after.auto.buffer ∙ c.deref_mut.ensures.len))
-    (at_front _ _ _ fits c.self.invariant.few (no_longer pulled _ _ _ c.pull_after.auto.buffer c.deref_mut.ensures.value c.grow.ensures.bounded))
+    let fits = held_fits c.self.inside.next c.self.inside.end c.self.inside.buffer.items c.move_to_front.new.buffer.items c.grow.new.buffer.items _ c.self.invariant.held_within c.move_to_front.ensures.length c.grow.ensures.no_shorter pulls in
+    rw (with_items_is c.grow.new.buffer _ (c.pull_after.auto.buffer ∙ c.deref_mut.ensures.len))
+    (at_front _ _ _ fits c.self.invariant.few (no_longer _ _ _ _ c.pull_after.auto.buffer c.deref_mut.ensures.value c.grow.ensures.bounded))
 
 pub returns-in-Ok-clause-bounded : goal.returns-in-Ok-clause-bounded
 returns-in-Ok-clause-bounded g c =
-    let pulled = c.pull_after.new.buffer in
-    rw (with_items_is c.grow.new.buffer pulled (c.pull_after.auto.buffer ∙ c.deref_mut.ensures.len))
-    (front_within pulled _ _ (no_longer pulled _ _ _ c.pull_after.auto.buffer c.deref_mut.ensures.value c.grow.ensures.bounded))
+    rw (with_items_is c.grow.new.buffer _ (c.pull_after.auto.buffer ∙ c.deref_mut.ensures.len))
+    (front_within _ _ _ (no_longer _ _ _ _ c.pull_after.auto.buffer c.deref_mut.ensures.value c.grow.ensures.bounded))
 
 pub returns-in-Ok-clause-more : goal.returns-in-Ok-clause-more
 returns-in-Ok-clause-more g c =
     let start = c.self.inside.next in
     let end = c.self.inside.end in
     let count = c.in-Ok.count in
-    let pulled = c.pull_after.new.buffer in
     rw (← c.self.view_is) (record {
-      piece = take count (drop (end - start) pulled);
-      size = length-piece pulled (end - start) count c.in-Ok.ensures.within;
-      held = ap (λ xs. slice_range xs 0 (end - start + count)) (with_items_is c.grow.new.buffer pulled (omega (arith, c.pull_after.auto.buffer, c.deref_mut.ensures.len))) ∙ held_and_piece c.self.inside.buffer.items c.move_to_front.new.buffer.items c.grow.new.buffer.items pulled start end count
+      piece = take count (drop (end - start) _);
+      size = length-piece _ (end - start) count c.in-Ok.ensures.within;
+      held = ap (λ xs. slice_range xs 0 (end - start + count)) (with_items_is c.grow.new.buffer _ (omega (arith, c.pull_after.auto.buffer, c.deref_mut.ensures.len))) ∙ held_and_piece c.self.inside.buffer.items c.move_to_front.new.buffer.items c.grow.new.buffer.items _ start end count
           c.move_to_front.ensures.moved c.grow.ensures.held_unchanged (c.in-Ok.ensures.held_unchanged ∙ ap (take (end - start)) c.deref_mut.ensures.value);
       given = c.in-Ok.ensures.given;
     })

@@ -16,8 +16,7 @@ nothing_left (b ∷ bs) most room none = absurd (omega (arith, room, none))
 
 pub returns-clause-given : goal.returns-clause-given
 returns-clause-given c =
-    let text = c.self.inside.rest.now in
-    ap (λ xs. Some xs) (sym c.self.view_is ∙ copied_and_left text _ _ c.copy_from_slice.new.self c.args.into.now c.min-count.result c.copy_from_slice.ensures.after c.split_at.ensures.front c.split_at.ensures.back (omega (arith, c.min-count.ensures)))
+    ap (λ xs. Some xs) (sym c.self.view_is ∙ copied_and_left _ _ _ c.copy_from_slice.new.self c.args.into.now c.min-count.result c.copy_from_slice.ensures.after c.split_at.ensures.front c.split_at.ensures.back (omega (arith, c.min-count.ensures)))
 
 pub returns-clause-end : goal.returns-clause-end
 returns-clause-end c = λ room e.
