@@ -5,7 +5,6 @@ use Rattle.dimacs_network.proofs.arc_index.ArcIndex.first.Goals as goal
 
 pub returns-else-is_first-clause-first : goal.returns-else-is_first-clause-first
 returns-else-is_first-clause-first c = λ arcs index.
-    let outs = c.args.self.now.outs.items in
     let same = c.deref.ensures.value in
-    first_parted outs c.args.tail c.args.head c.partition_point.result (rw same at c.partition_point.ensures.bound)
-    (rw same at (IsPartitionPoint-from_clause (is_before_ends c.args.tail c.args.head) _ _ c.partition_point.ensures.partitioned (rw same (are_parted arcs outs index.order index.ends c.args.tail c.args.head)) (λ a r f k. search rules)))
+    first_parted _ c.args.tail c.args.head c.partition_point.result (rw same at c.partition_point.ensures.bound)
+    (rw same at (IsPartitionPoint-from_clause (is_before_ends c.args.tail c.args.head) _ _ c.partition_point.ensures.partitioned (rw same (are_parted arcs _ index.order index.ends c.args.tail c.args.head)) (λ a r f k. search rules)))

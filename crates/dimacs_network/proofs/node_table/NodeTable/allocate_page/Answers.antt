@@ -15,36 +15,26 @@ returns-in_err-resize-clause-same g c =
     let table = c.args.self.now in
     rw c.in_err-resize.ensures.items (slot_value-same table.blank table.directory.items c.extend_directory.new.directory.items table.slots.items c.in_ok-extend_directory.ensures.same)
 
-pub returns-clause-same : goal.returns-clause-same
-returns-clause-same g c =
+pub returns : goal.returns
+returns g c =
     let table = c.args.self.now in
-    let old = table.directory.items in
     let new = c.extend_directory.new.directory.items in
     let values = table.slots.items in
     let same = c.in_ok-extend_directory.ensures.same in
     let len : vec_len table.slots ≡ length values = search rules in
     let number : c.len-number.result ≡ length values = c.len-number.ensures ∙ len in
-    let is = same_directory old new (length values) same (c.in_ok-extend_directory.ensures.short table.numbered.short) table.numbered in
+    let is = same_directory _ new (length values) same (c.in_ok-extend_directory.ensures.short table.numbered.short) table.numbered in
     let whole : length values ≡ 64 * (length values / 64) = omega (arith, is.whole) in
     let added = (length values / 64 + 1) * 64 - vec_len table.slots in
     let more : c.resize.new.self.items ≡ values ++ replicate added table.blank =
     rw number at c.in_ok-resize.ensures.items ∙ ap (λ vs. vs ++ replicate added table.blank) (take_all ((length values / 64 + 1) * 64) values (omega (arith, whole))) in
-    let free : length values ≤ place_of new c.args.id = omega (arith, place_of-same old new same c.args.id, c.requires) in
-    let room : length values / 64 < NO_PAGE = omega (arith, number, c.if-number.false) in
-    rw (more, number) (λ id. page_values new (length values) c.args.id is free room c.in_ok-extend_directory.ensures.reached table.blank values (replicate added table.blank) refl (replicate_blank table.blank added) id ∙ slot_value-same table.blank old new values same id)
-
-pub returns-clause-place : goal.returns-clause-place
-returns-clause-place g c =
-    let table = c.args.self.now in
-    let old = table.directory.items in
-    let new = c.extend_directory.new.directory.items in
-    let values = table.slots.items in
-    let same = c.in_ok-extend_directory.ensures.same in
-    let len : vec_len table.slots ≡ length values = search rules in
-    let number : c.len-number.result ≡ length values = c.len-number.ensures ∙ len in
-    let is = same_directory old new (length values) same (c.in_ok-extend_directory.ensures.short table.numbered.short) table.numbered in
     let longer_by : length c.resize.new.self.items ≡ (c.len-number.result / 64 + 1) * 64 = search rules in
     let longer : length c.resize.new.self.items ≡ length values + 64 = omega (arith, longer_by, number, is.whole) in
-    let free : length values ≤ place_of new c.args.id = omega (arith, place_of-same old new same c.args.id, c.requires) in
+    let free : length values ≤ place_of new c.args.id = omega (arith, place_of-same _ new same c.args.id, c.requires) in
     let room : length values / 64 < NO_PAGE = omega (arith, number, c.if-number.false) in
-    (rw c.deref.ensures.value at c.slot_index.ensures, rw (number, longer) (page_place new (length values) c.args.id is free room c.in_ok-extend_directory.ensures.reached))
+    record {
+      same = rw (more, number) (λ id. page_values new (length values) c.args.id is free room c.in_ok-extend_directory.ensures.reached table.blank values (replicate added table.blank) refl (replicate_blank table.blank added) id ∙ slot_value-same table.blank _ new values same id);
+      place = (rw c.deref.ensures.value at c.slot_index.ensures, rw (number, longer) (page_place new (length values) c.args.id is free room c.in_ok-extend_directory.ensures.reached));
+      same_blank = search rules;
+      memory = search rules;
+    }

@@ -16,5 +16,4 @@ invariant_of-self-2 g c =
 
 pub returns-clause-pushed : goal.returns-clause-pushed
 returns-clause-pushed g c =
-    let numbers = c.self.inside.numbers in
-    rw (← c.self.view_is, c.in_ok-push.ensures.pushed, c.push_reserved.ensures.items, c.in_ok-reserve.ensures.items, kept_push g.A.StoredArc.arc_of c.self.inside.ends.items numbers c.self.invariant.1 _ _, c.into_parts-numbers.ensures) refl
+    rw (← c.self.view_is, c.in_ok-push.ensures.pushed, c.push_reserved.ensures.items, c.in_ok-reserve.ensures.items, kept_push g.A.StoredArc.arc_of c.self.inside.ends.items _ c.self.invariant.1 _ _, c.into_parts-numbers.ensures) refl

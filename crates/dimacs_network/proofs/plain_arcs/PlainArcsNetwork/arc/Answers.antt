@@ -20,8 +20,7 @@ at-requires g c =
 pub returns : goal.returns
 returns g c =
     let ends = c.self.inside.ends.items in
-    let numbers = c.self.inside.numbers in
-    let long = kept_long g.A.StoredArc.arc_of ends numbers c.self.invariant.1 in
+    let long = kept_long g.A.StoredArc.arc_of ends _ c.self.invariant.1 in
     let inside = rw (← c.self.view_is) at c.requires in
     let within : c.args.i < length ends = omega (arith, inside, long) in
-    rw (← c.self.view_is, c.from_parts.ensures, c.index.ensures, c.at.ensures) (kept_get g.A.StoredArc.arc_of ends numbers c.self.invariant.1 c.args.i c.index.result.now _ within)
+    rw (← c.self.view_is, c.from_parts.ensures, c.index.ensures, c.at.ensures) (kept_get g.A.StoredArc.arc_of ends _ c.self.invariant.1 c.args.i c.index.result.now _ within)
