@@ -32,7 +32,6 @@ invariant_of-self-in-MinNode g c =
 pub returns-in_ok-set-in-MinNode-clause-added : goal.returns-in_ok-set-in-MinNode-clause-added
 returns-in_ok-set-in-MinNode-clause-added g c = λ rs h.
     let line = c.in-MinNode in
-    let fits : SFits w64 line.supply = search rules in
     let least : 1 ≤ line.id = search rules in
     let passes = rw (line.is, ← c.self.view_is) at c.requires.passes in
-    rw (line.is, c.in_ok-set-in-MinNode.ensures.set, to_z-of_z w64 line.supply fits) (names_one _ _ _ least passes rs (rw (← c.self.view_is) at h))
+    rw (line.is, c.in_ok-set-in-MinNode.ensures.set, to_z-of_z w64 line.supply (search rules)) (names_one _ _ _ least passes rs (rw (← c.self.view_is) at h))
