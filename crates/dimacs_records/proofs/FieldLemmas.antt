@@ -1,6 +1,6 @@
 -- The content of a field, and why it is refused.
 use Rattle.std.proofs.Common.{◌≡◌, ℕ, ◌∷◌, [], List, Bool, true, false, Option, Some, None, Err, length, refl, arith, inl, inr, SFits, w64, ◌^◌, ◌-◌}
-use Rattle.std.proofs.lemmas.Bool.{ltb-true, lt-ltb, and_from, and_right, or_from, eq-eqb, and_parts}
+use Rattle.std.proofs.lemmas.Bool.{false_from_ne_true, ltb-true, lt-ltb, and_from, and_right, or_from, eq-eqb, and_parts}
 use Rattle.std.proofs.{lemmas.Bool.Decides.{nat_tests}, lemmas.List.Sums.{AllPass-from_list_all, list_all-from_AllPass}}
 use Rattle.std.proofs.{lemmas.List.Elements.{All-weaker}, lemmas.Int.{ints}}
 use Rattle.std.specs.{Prelude.{ℤ, pos, neg_ℤ, ◌≤ℤ◌, int_lt, ◌||◌, not, nat_lt}, List.{list_all}, Str.{bytes_eq}}
@@ -26,18 +26,10 @@ number_to text h = and_from (nat_lt 0 (length (digits_of text))) (list_all is_as
     (list_all-from_AllPass is_ascii_digit (digits_of text) (All-weaker IsAsciiDigit (λ b. is_ascii_digit b ≡ true) digit_to (digits_of text) h.1))
 
 no_number : (text : List ℕ) → ¬ IsNumber text → is_number text ≡ false
-no_number text h = by_test (is_number text) refl
-  where
-    by_test : (t : Bool) → is_number text ≡ t → t ≡ false
-    by_test true e = absurd (h (number_from text e))
-    by_test false e = refl
+no_number text h = false_from_ne_true (is_number text) (λ e. h (number_from text e))
 
 not_below : (a b : ℤ) → a ≤ℤ b → int_lt b a ≡ false
-not_below a b h = by_test (int_lt b a) refl
-  where
-    by_test : (t : Bool) → int_lt b a ≡ t → t ≡ false
-    by_test true e = absurd (omega (arith, ints, h))
-    by_test false e = refl
+not_below a b h = false_from_ne_true (int_lt b a) (λ below. omega (arith, ints, h, below))
 
 inside : (low high n : ℤ) → IsWithin low high n → (int_lt n low || int_lt high n) ≡ false
 inside low high n h = or_from (int_lt n low) (int_lt high n) (not_below low n h.0) (not_below n high h.1)

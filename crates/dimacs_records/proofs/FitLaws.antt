@@ -1,10 +1,10 @@
 -- The fields of a spelled record have their types.
-use Rattle.std.proofs.Common.{◌≡◌, ℕ, suc, ◌∷◌, [], List, Some, length, ap, refl}
+use Rattle.std.proofs.Common.{◌≡◌, ℕ, ◌∷◌, [], List, Some, length}
 use Rattle.dimacs_records.specs.{declared.kinds.TextKind.{TextKind}, declared.records.Record.{Record}}
 use Rattle.dimacs_records.specs.{Forms.{FieldType, Word, Either, Number, forms}, Shapes.{types_in}, Readings.{IsOfKind}}
 use Rattle.dimacs_records.specs.Spelling.{Part, Text, Amount, SpellsField, SpellFields, letter_of, parts_of}
 use Rattle.dimacs_records.specs.Canonical.{CanBeSpelled, Fits, FitAll}
-use Rattle.dimacs_records.proofs.SpellLaws.{as_many, form_types}
+use Rattle.dimacs_records.proofs.{PlainForms.{length-parts}, SpellLaws.{as_many, form_types}}
 
 fits_said : (type : FieldType) (text : List ℕ) (part : Part) → SpellsField type text part → Fits type part
 fits_said (Word w) text (Text word) h = h.1
@@ -25,14 +25,9 @@ fits_of kind r types h found =
     let same : types ≡ s.form.types = cc in
     rw same (fit_all_said s.form.types s.after (parts_of r) s.spells)
 
-as_many_fit : (types : List FieldType) (parts : List Part) → FitAll types parts → length parts ≡ length types
-as_many_fit [] [] h = refl
-as_many_fit (type ∷ types) (part ∷ parts) h = ap suc (as_many_fit types parts h.1)
-as_many_fit types parts h = absurd h
-
 -- the same for a record that can be spelled
 pub fits_spelled : (kind : TextKind) (r : Record) (types : List FieldType) → CanBeSpelled kind r → types_in (forms kind) (letter_of r) (length (parts_of r)) ≡ Some types → FitAll types (parts_of r)
 fits_spelled kind r types can found =
-    let known : types_in (forms kind) (letter_of r) (length (parts_of r)) ≡ Some can.form.types = rw (can.letter, as_many_fit can.form.types (parts_of r) can.fit) (form_types kind can.form can.of_kind) in
+    let known : types_in (forms kind) (letter_of r) (length (parts_of r)) ≡ Some can.form.types = rw (can.letter, length-parts can.form.types (parts_of r) can.fit) (form_types kind can.form can.of_kind) in
     let same : types ≡ can.form.types = cc in
     rw same can.fit

@@ -15,9 +15,8 @@ returns-in-Ok-2 c =
     let n = c.in-Ok.n in
     let low = c.args.low in
     let high = c.args.high in
-    let n_fits : SFits w64 n = search rules in
-    let not_below : int_lt n low ≡ false = rw (to_z-of_z w64 n n_fits, to_z-of_z w64 low (search rules)) at c.if-n-low.false in
-    let above : int_lt high n ≡ true = rw (to_z-of_z w64 n n_fits, to_z-of_z w64 high (search rules)) at c.if-high-n.true in
+    let not_below : int_lt n low ≡ false = rw (to_z-of_z w64 n (search rules), to_z-of_z w64 low (search rules)) at c.if-n-low.false in
+    let above : int_lt high n ≡ true = rw (to_z-of_z w64 n (search rules), to_z-of_z w64 high (search rules)) at c.if-high-n.true in
     field_reason-high low high n c.args.token.now.field.text.now c.in-Ok.ensures.0 not_below above
 
 pub returns-in-Err : goal.returns-in-Err

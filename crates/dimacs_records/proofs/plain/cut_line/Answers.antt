@@ -7,5 +7,4 @@ use Rattle.dimacs_records.proofs.plain.cut_line.Goals as goal
 
 pub returns : goal.returns
 returns c =
-    let line = c.in_ok-size.field-0 in
-    plain_spells Cut (form (codes "u") (Id ∷ [])) c.args.bytes.now 117 line.size (CutNode line.id) (1, lit< tt, refl) refl refl refl refl c.in_ok-size.ensures
+    plain_spells Cut (form (codes "u") (Id ∷ [])) c.args.bytes.now 117 c.in_ok-size.field-0.size (CutNode c.in_ok-size.field-0.id) (1, lit< tt, refl) refl refl refl refl c.in_ok-size.ensures

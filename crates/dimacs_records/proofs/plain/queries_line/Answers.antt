@@ -7,5 +7,4 @@ use Rattle.dimacs_records.proofs.plain.queries_line.Goals as goal
 
 pub returns : goal.returns
 returns c =
-    let line = c.in_ok-size.field-0 in
-    plain_spells Queries (form (codes "s") (Id ∷ [])) c.args.bytes.now 115 line.size (SourceQuery line.id) (1, lit< tt, refl) refl refl refl refl c.in_ok-size.ensures
+    plain_spells Queries (form (codes "s") (Id ∷ [])) c.args.bytes.now 115 c.in_ok-size.field-0.size (SourceQuery c.in_ok-size.field-0.id) (1, lit< tt, refl) refl refl refl refl c.in_ok-size.ensures
