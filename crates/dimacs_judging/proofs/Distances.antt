@@ -103,14 +103,9 @@ own_label b = let same : (b.source == b.source) ≡ true = eq-eqb b.source b.sou
 -- a node named earlier in the block has a label
 labelled : (s : ℕ) (earlier : List Label) (v : ℕ) → (v ≡ s) ⊎ ((m : Label) × Contains earlier m × (m.id ≡ v)) → (d : ℤ) × (label (with_labels s earlier) v ≡ Some d)
 labelled s earlier v (inl e) = rw e (pos 0, own_label (with_labels s earlier))
-labelled s earlier v (inr (m, has, e)) = go (s == v)
-  where
-    listed : IsListed earlier m
-    listed = All-contains (IsListed earlier) earlier m (all_listed earlier) has
-
-    go : (b : Bool) → (d : ℤ) × (cond b (Some (pos 0)) (distance_in earlier v) ≡ Some d)
-    go true = (pos 0, refl)
-    go false = (listed.0, rw (← e) listed.1)
+labelled s earlier v (inr (m, has, e)) =
+    let listed : IsListed earlier m = All-contains (IsListed earlier) earlier m (all_listed earlier) has in
+    cond_both (s == v) _ _ (λ found. (d : ℤ) × (found ≡ Some d)) (λ _. (pos 0, refl)) (λ _. (listed.0, rw (← e) listed.1))
 
 abbrev Walks : List ArcView → ℕ → List Label → Type 0
 Walks g s labels = (v : ℕ) (d : ℤ) → label (with_labels s labels) v ≡ Some d → (walk : List ArcView) × IsWalk g s v walk × (weight walk ≡ d)

@@ -10,7 +10,7 @@ use Rattle.dimacs_claims.specs.Labels.{BlockValue, LabelsValue, AreLabels, IsBlo
 use Rattle.dimacs_judging.specs.{declared.verdict.Where.{Where}, Tests.{Clear, AllClear}, inside.Tests.{TestsRows}}
 use Rattle.dimacs_judging.specs.Labels.{HasArcOfWeight, HasTightArc, HasWeights, IsReached, IsRelaxed, LabelsOk, AreDistances, StaysNear}
 use Rattle.dimacs_judging.specs.CertificateTests.{support_row, RelaxFails, relax_row, label_rows, weight_row}
-use Rattle.dimacs_judging.proofs.Distances.{labels_are_distances}
+use Rattle.dimacs_judging.proofs.{Distances.{labels_are_distances}, NodeLabelLemmas.{the_only}}
 use Rattle.dimacs_records.specs.declared.reasons.Reason.TheVariants as reasons
 use Rattle.dimacs_judging.specs.declared.verdict.Where.TheVariants as places
 
@@ -26,10 +26,6 @@ same_or_not : (a b : ℤ) → (a ≡ b) ⊎ (a ≢ b)
 same_or_not a b = by_lt_z a b
     (λ l. inr (λ e. <ℤ_irrefl (subst (λ (z : ℤ). z <ℤ b) e l)))
     (λ m. by_lt_z b a (λ l. inr (λ e. <ℤ_irrefl (subst (λ (z : ℤ). b <ℤ z) e l))) (λ n. inl (omega (arith, ints, m, n))))
-
-the_only : {A : Type 0} (x y : A) → Contains (x ∷ []) y → x ≡ y
-the_only x y (zero, inside, is) = is
-the_only x y (suc k, inside, is) = absurd (omega (arith, inside))
 
 -- a property that is decidable for each item is decidable for some item
 some_or_none : {A : Type 0} (P : A → Type 0) → ((x : A) → P x ⊎ (¬ P x)) → (xs : List A) → ((x : A) × Contains xs x × P x) ⊎ (¬ ((x : A) × Contains xs x × P x))

@@ -30,10 +30,7 @@ pub unsupported_below : (k : NodeEntry) → k.pred < 2 ^ 31 → is_supported k �
 unsupported_below k below = grind (arith, nat_tests)
 
 pub label_source : (b : BlockValue) → label b b.source ≡ Some (pos 0)
-label_source b = elim (eqb_tells b.source b.source) [
-  | inl same ↦ rw same.0 refl
-  | inr off ↦ absurd (off.1 refl)
-]
+label_source b = let same : (b.source == b.source) ≡ true = eq-eqb b.source b.source refl in rw same refl
 
 apart_ids : (a b : ℕ) → a ≢ b → (b == a) ≡ false
 apart_ids a b off = elim (eqb_tells b a) [ inl same ↦ absurd (off (sym same.1)) | inr outcome ↦ outcome.0 ]
@@ -71,7 +68,7 @@ pub record AreLabelledFirst (b : BlockValue) (n : ℕ) (at : ℕ → NodeEntry) 
   pub unsupported : (l : Label) → Contains (take n b.labels) l → is_supported (at l.id) ≡ false
   pub source : is_supported (at b.source) ≡ true
 
-the_only : {A : Type 0} (x y : A) → Contains (x ∷ []) y → x ≡ y
+pub the_only : {A : Type 0} (x y : A) → Contains (x ∷ []) y → x ≡ y
 the_only x y (zero, inside, is) = is
 the_only x y (suc k, inside, is) = absurd (omega (arith, inside))
 
