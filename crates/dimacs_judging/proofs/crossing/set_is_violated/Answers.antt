@@ -1,11 +1,10 @@
-use Rattle.std.proofs.{Common.{rules, refl, IsTrue, false, arith, SFits}, lemmas.Int.{to_z-of_z}}
+use Rattle.std.proofs.{Common.{rules, refl, IsTrue, false, arith}, lemmas.Int.{to_z-of_z}}
 use Rattle.std.specs.Int.{w128}
 use Rattle.dimacs_judging.proofs.crossing.set_is_violated.Goals as goal
 
 pub returns-then-excludes : goal.returns-then-excludes
 returns-then-excludes g c =
-    let fits : SFits w128 c.supply_in-supply.result = search rules in
-    let violated = rw (to_z-of_z w128 c.supply_in-supply.result fits, c.supply_in-supply.ensures, c.bounds_across-crossing.ensures.most, c.bounds_across-crossing.ensures.least, c.network.ensures.arcs) at (c.if-excludes.ensures.0 refl) in
+    let violated = rw (to_z-of_z w128 c.supply_in-supply.result (search rules), c.supply_in-supply.ensures, c.bounds_across-crossing.ensures.most, c.bounds_across-crossing.ensures.least, c.network.ensures.arcs) at (c.if-excludes.ensures.0 refl) in
     λ k place reason f. f.3 violated
 
 pub returns-else-excludes : goal.returns-else-excludes

@@ -7,7 +7,6 @@ pub returns : goal.returns
 returns g c =
     let i = c.args.instance.now in
     let set = members c.args.cut.now in
-    let x = c.args.flow.now in
     let inside : set i.source ≡ true = rw c.source-source.ensures at (sym c.contains.ensures ∙ c.if-not-contains.false) in
     let outside : set i.sink ≡ false = rw c.sink-sink.ensures at (sym c.contains-2.ensures ∙ c.if-contains.false) in
-    decided _ (cut_rows i set x) (cut_is_tight i set x c.requires) (tight_cut_clear i set x) c.arcs_hold.result (cut_told i set x c.arcs_hold.result inside outside (rw c.network.ensures.arcs at c.arcs_hold.ensures))
+    decided _ (cut_rows i set _) (cut_is_tight i set _ c.requires) (tight_cut_clear i set _) c.arcs_hold.result (cut_told i set _ c.arcs_hold.result inside outside (rw c.network.ensures.arcs at c.arcs_hold.ensures))

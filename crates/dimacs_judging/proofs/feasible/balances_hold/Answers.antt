@@ -1,4 +1,4 @@
-use Rattle.std.proofs.{Common.{rules, ◌≡◌, ◌∙◌, sym, arith, SFits}, lemmas.Int.{to_z-of_z}}
+use Rattle.std.proofs.{Common.{rules, ◌≡◌, ◌∙◌, sym, arith}, lemmas.Int.{to_z-of_z}}
 use Rattle.std.specs.Int.{w128}
 use Rattle.dimacs_network.proofs.SkipLemmas.{Skips-weaker}
 use Rattle.dimacs_judging.specs.Flows.{net}
@@ -30,9 +30,8 @@ loop-v-preserved g c =
 
 pub returns-in-Some : goal.returns-in-Some
 returns-in-Some g c = λ x are.
-    let fits : SFits w128 c.of.result = search rules in
     let is_net : c.of.result ≡ net (g.N.Network.list c.args.network.now) x c.loop-v.v = c.of.ensures ∙ are c.loop-v.v in
-    node_first _ _ c.loop-v.v _ c.loop-v.invariant.low (omega (arith, c.loop-v-test.true, c.nodes-end.ensures)) (c.loop-v.invariant.clear x are) (rw (to_z-of_z w128 c.of.result fits, c.demand_at.ensures, is_net) at c.in-Some.ensures)
+    node_first _ _ c.loop-v.v _ c.loop-v.invariant.low (omega (arith, c.loop-v-test.true, c.nodes-end.ensures)) (c.loop-v.invariant.clear x are) (rw (to_z-of_z w128 c.of.result (search rules), c.demand_at.ensures, is_net) at c.in-Some.ensures)
 
 pub returns : goal.returns
 returns g c = λ x are. node_clear_end _ _ c.loop-v.v (omega (arith, c.loop-v-test.false, c.nodes-end.ensures)) (c.loop-v.invariant.clear x are)

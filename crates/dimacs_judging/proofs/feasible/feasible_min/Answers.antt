@@ -6,9 +6,8 @@ use Rattle.dimacs_judging.proofs.feasible.feasible_min.Goals as goal
 pub returns-in_err-balances_if_feasible : goal.returns-in_err-balances_if_feasible
 returns-in_err-balances_if_feasible g c =
     let i = c.args.instance.now in
-    let x = c.args.flow.now in
     let outcome = rw (c.network.ensures.nodes, c.network.ensures.arcs) at c.in_err-balances_if_feasible.ensures in
-    error_settles _ (feasible_min_rows i x) (bound_one_way i.arcs x, (balance_one_way i.nodes i.arcs (min_demand i) x, tt)) (λ done holds. feasible_min_clear i x holds) c.in_err-balances_if_feasible.field-0.0 outcome _ c.from_residual.ensures.1
+    error_settles _ (feasible_min_rows i _) (bound_one_way i.arcs _, (balance_one_way i.nodes i.arcs (min_demand i) _, tt)) (λ done holds. feasible_min_clear i _ holds) c.in_err-balances_if_feasible.field-0.0 outcome _ c.from_residual.ensures.1
 
 pub returns : goal.returns
 returns g c =

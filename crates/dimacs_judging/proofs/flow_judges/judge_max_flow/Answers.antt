@@ -6,9 +6,8 @@ use Rattle.dimacs_judging.proofs.flow_judges.judge_max_flow.Goals as goal
 
 pub returns-in-Some : goal.returns-in-Some
 returns-in-Some g c =
-    let shown = c.in-Some.ensures in
-    let passed = max_shown c.args.instance.now c.network-network.ensures.lawful c.args.flow.now (members c.args.cut.now) shown.1 in
-    (passed.0, passed.1, ap Max (to_z-of_z w128 c.in-Some.value (search rules) ∙ shown.0))
+    let passed = max_shown c.args.instance.now c.network-network.ensures.lawful c.args.flow.now (members c.args.cut.now) c.in-Some.ensures.1 in
+    (passed.0, passed.1, ap Max (to_z-of_z w128 c.in-Some.value (search rules) ∙ c.in-Some.ensures.0))
 
 pub returns-in_err-value : goal.returns-in_err-value
 returns-in_err-value g c =

@@ -7,9 +7,8 @@ use Rattle.dimacs_judging.proofs.flow_judges.judge_min_flow.Goals as goal
 
 pub returns-in-Some : goal.returns-in-Some
 returns-in-Some g c =
-    let shown = c.in-Some.ensures in
-    let passed = min_shown c.args.instance.now c.args.flow.now (potential_of c.args.potentials.now) c.network-network.ensures.lawful shown.1 in
-    (passed.0, passed.1, ap Min (to_z-of_z w128 c.in-Some.cost (search rules) ∙ shown.0))
+    let passed = min_shown c.args.instance.now c.args.flow.now (potential_of c.args.potentials.now) c.network-network.ensures.lawful c.in-Some.ensures.1 in
+    (passed.0, passed.1, ap Min (to_z-of_z w128 c.in-Some.cost (search rules) ∙ c.in-Some.ensures.0))
 
 pub returns-in_err-cost : goal.returns-in_err-cost
 returns-in_err-cost g c =

@@ -4,9 +4,7 @@ use Rattle.dimacs_judging.proofs.labels.label_tests.Goals as goal
 
 pub returns-clause-decides : goal.returns-clause-decides
 returns-clause-decides g c =
-    let arcs = c.args.graph.now.arcs in
-    let blocks = c.args.labels.now.blocks in
-    decided _ (label_rows arcs blocks) (labels_hold arcs blocks) (labels_clear arcs blocks) c.blocks_hold.result (rw c.network.ensures.arcs at c.blocks_hold.ensures.tests)
+    decided _ (label_rows _ _) (labels_hold _ _) (labels_clear _ _) c.blocks_hold.result (rw c.network.ensures.arcs at c.blocks_hold.ensures.tests)
 
 pub returns-clause-distances : goal.returns-clause-distances
 returns-clause-distances g c =

@@ -8,10 +8,9 @@ pub returns-then-not-is_supported : goal.returns-then-not-is_supported
 returns-then-not-is_supported g c =
     let block = block_at c.args.labels.now.blocks c.args.block in
     let labels_are = c.labels_in-list.ensures in
-    let label = c.at-label.ensures in
-    let off = rw (c.label.ensures.label, label_at-block _ _ _ c.requires, label, labels_are) at c.if-not-is_supported.ensures.1 in
+    let off = rw (c.label.ensures.label, label_at-block _ _ _ c.requires, c.at-label.ensures, labels_are) at c.if-not-is_supported.ensures.1 in
     let inside = rw (c.len-i-end.ensures, labels_are) at c.loop-i-test.true in
-    rw (label, labels_are) (support_first (g.N.Network.list c.args.network.now) block c.loop-i.i inside c.loop-i.invariant (λ has. let f : IsTrue false = off has in cc))
+    rw (c.at-label.ensures, labels_are) (support_first (g.N.Network.list c.args.network.now) block c.loop-i.i inside c.loop-i.invariant (λ has. let f : IsTrue false = off has in cc))
 
 pub loop-i-preserved : goal.loop-i-preserved
 loop-i-preserved g c =

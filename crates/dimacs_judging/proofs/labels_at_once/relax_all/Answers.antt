@@ -26,20 +26,18 @@ relax-requires-clause-ends g c =
 pub loop-i-preserved : goal.loop-i-preserved
 loop-i-preserved g c =
     let arcs = g.N.Network.list c.args.network.now in
-    let b = c.args.block.now in
     let is = c.loop-i.invariant in
     let a = c.arc.result in
-    let i = c.loop-i.i in
     let old = entries_at c.loop-i.table in
     let new = entries_at c.relax.new.table in
     let relaxes = rw c.in-Some.is at c.relax.ensures.relaxes in
     let passes = rw c.in-Some.is at c.relax.ensures.passes in
     let tight = rw c.in-Some.is at c.relax.ensures.tight in
     record {
-      labelled = entries_after a old new b relaxes arcs is.labelled i c.arc.ensures;
+      labelled = entries_after a old new _ relaxes arcs is.labelled _ c.arc.ensures;
       few = omega (arith, is.few, c.from-count.ensures, one_at_most c.in-Some.tight);
-      count = count_on a old new b relaxes arcs is.labelled c.in-Some.tight c.loop-i.count c.from-count.result tight.0 is.count c.from-count.ensures;
-      clear = clear_after a old new b relaxes arcs is.labelled i c.arc.ensures is.clear (no_improvement b.radius (old a.tail).dist (old a.head).dist a.cost passes);
+      count = count_on a old new _ relaxes arcs is.labelled c.in-Some.tight c.loop-i.count c.from-count.result tight.0 is.count c.from-count.ensures;
+      clear = clear_after a old new _ relaxes arcs is.labelled _ c.arc.ensures is.clear (no_improvement c.args.block.now.radius (old a.tail).dist (old a.head).dist a.cost passes);
       small = c.relax.ensures.small;
       nodes = omega (arith, c.loop-i.invariant.nodes, c.relax.ensures.nodes);
     }

@@ -22,19 +22,17 @@ loop-i-init c =
 
 pub of-requires : goal.of-requires
 of-requires c =
-    let labels = c.labels-labels.ensures in
-    let inside : c.loop-i.i < length c.args.block.now.labels = rw (c.len-i-end.ensures, labels) at c.loop-i-test.true in
-    rw (c.at-label.ensures, labels) (c.requires.fits c.loop-i.i no_label inside)
+    let inside : c.loop-i.i < length c.args.block.now.labels = rw (c.len-i-end.ensures, c.labels-labels.ensures) at c.loop-i-test.true in
+    rw (c.at-label.ensures, c.labels-labels.ensures) (c.requires.fits c.loop-i.i no_label inside)
 
 pub loop-i-preserved : goal.loop-i-preserved
 loop-i-preserved c =
     let value = below none_from in
     let e = c.set-in-loop-i.ensures in
     let b = c.args.block.now in
-    let labels = c.labels-labels.ensures in
     let l = c.at-label.result in
-    let is : l ≡ get_or b.labels c.loop-i.i no_label = rw labels at c.at-label.ensures in
-    let inside : c.loop-i.i < length b.labels = rw (c.len-i-end.ensures, labels) at c.loop-i-test.true in
+    let is : l ≡ get_or b.labels c.loop-i.i no_label = rw c.labels-labels.ensures at c.at-label.ensures in
+    let inside : c.loop-i.i < length b.labels = rw (c.len-i-end.ensures, c.labels-labels.ensures) at c.loop-i-test.true in
     let here = rw is at e.set in
     let others = rw is at e.others in
     let lawful = c.requires.lawful in
@@ -51,12 +49,3 @@ pub returns-clause-labelled : goal.returns-clause-labelled
 returns-clause-labelled c = λ yes arcs.
     let all : length c.args.block.now.labels ≤ c.loop-i.i = rw (c.len-i-end.ensures, c.labels-labels.ensures) at c.loop-i-test.false in
     all_labelled c.requires.lawful.0 arcs c.args.block.now c.loop-i.i (entries_at c.loop-i.table) c.requires.lawful.2 all c.loop-i.invariant.first
-
-pub returns-clause-small : goal.returns-clause-small
-returns-clause-small c = λ yes. c.loop-i.invariant.small
-
-pub returns-clause-nodes : goal.returns-clause-nodes
-returns-clause-nodes c = c.loop-i.invariant.nodes
-
-pub returns-then-not-has-2-clause-nodes : goal.returns-then-not-has-2-clause-nodes
-returns-then-not-has-2-clause-nodes c = c.loop-i.invariant.nodes

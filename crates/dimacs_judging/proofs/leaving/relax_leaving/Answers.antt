@@ -13,16 +13,12 @@ relax_node-requires-clause-label g c = ap (label c.args.block.now) c.source.ensu
 pub relax_node-requires-in-loop-i-clause-label : goal.relax_node-requires-in-loop-i-clause-label
 relax_node-requires-in-loop-i-clause-label g c =
     let b = c.args.block.now in
-    let labels = c.labels-labels.ensures in
     let n = c.loop-i.i in
     let l = c.at-label.result in
-    let is : l ≡ get_or b.labels n no_label = rw labels at c.at-label.ensures in
-    let inside : n < length b.labels = rw (c.len-i-end.ensures, labels) at c.loop-i-test.true in
+    let is : l ≡ get_or b.labels n no_label = rw c.labels-labels.ensures at c.at-label.ensures in
+    let inside : n < length b.labels = rw (c.len-i-end.ensures, c.labels-labels.ensures) at c.loop-i-test.true in
     let named : label b (get_or b.labels n no_label).id ≡ Some (get_or b.labels n no_label).dist = c.loop-i.invariant.relaxed.entries.named (get_or b.labels n no_label) (Contains-get_or b.labels n no_label inside) in
     rw (to_z-of_z w128 l.dist (search rules), is) named
-
-pub relax_node-requires-in-loop-i-clause-labelled : goal.relax_node-requires-in-loop-i-clause-labelled
-relax_node-requires-in-loop-i-clause-labelled g c = record { defaults = c.loop-i.invariant.defaults; entries = c.loop-i.invariant.relaxed.entries }
 
 pub loop-i-init : goal.loop-i-init
 loop-i-init g c =
@@ -43,7 +39,6 @@ loop-i-preserved g c =
     let labels = c.labels-labels.ensures in
     let n = c.loop-i.i in
     let id : c.at-label.result.id ≡ (get_or b.labels n no_label).id = ap (λ (l : Label). l.id) (rw labels at c.at-label.ensures) in
-    let is = c.loop-i.invariant.relaxed in
     let e = c.if-not-relax_node-2.ensures in
     let old = entries g.D.Distance.value c.loop-i.node_labels in
     let new = entries g.D.Distance.value c.relax_node-in-loop-i.new.node_labels in
@@ -52,13 +47,10 @@ loop-i-preserved g c =
       defaults = e.labelled.defaults;
       relaxed = record {
         entries = e.labelled.entries;
-        source = from_still arcs b old new b.source e.keeps_relaxed is.source;
-        labels = labels_more arcs b old new n e.keeps_relaxed is.labels this;
+        source = from_still arcs b old new b.source e.keeps_relaxed c.loop-i.invariant.relaxed.source;
+        labels = labels_more arcs b old new n e.keeps_relaxed c.loop-i.invariant.relaxed.labels this;
       };
     }
-
-pub returns-clause-labelled : goal.returns-clause-labelled
-returns-clause-labelled g c = record { defaults = c.loop-i.invariant.defaults; entries = c.loop-i.invariant.relaxed.entries }
 
 pub returns-clause-supported : goal.returns-clause-supported
 returns-clause-supported g c = λ yes. all_supported (g.N.Network.list c.args.network.now) c.args.block.now c.loop-i.i (entries g.D.Distance.value c.loop-i.node_labels) (rw (c.len-i-end.ensures, c.labels-labels.ensures) at c.loop-i-test.false) c.loop-i.invariant.relaxed

@@ -80,17 +80,16 @@ loop-next-preserved g c =
     let relaxes = c.relax.ensures.relaxes in
     let node = c.args.node in
     let place = c.loop-next.next - 1 in
-    let i = c.arc_at.result in
     let a = c.arc-arc.result in
     let inside : place < length order = omega (arith, c.loop-next-test.true, is.within) in
     let next_is : c.loop-next.next ≡ place + 1 = omega (arith, c.loop-next-test.true) in
-    let same : arc_at chosen place ≡ a = at_place arcs order place inside ∙ (ap (arc_at arcs) (sym c.arc_at.ensures) ∙ get_or_from_slice_get arcs i a no_arc c.arc-arc.ensures) in
+    let same : arc_at chosen place ≡ a = at_place arcs order place inside ∙ (ap (arc_at arcs) (sym c.arc_at.ensures) ∙ get_or_from_slice_get arcs _ a no_arc c.arc-arc.ensures) in
     let here : (arc_at chosen place).tail ≡ node = is.found c.loop-next-test.true in
     let last : IsLast Tail chosen place node c.before-next.result = subst (IsLast Tail chosen place node) (sym c.before-next.ensures) (subst (λ v. IsLast Tail chosen place v (slice_index c.args.lightest.now.before.items place)) here (c.requires.lightest.linked.last_before place inside)) in
-    let this = relaxed_this a old new b relaxes arcs i c.arc-arc.ensures is.labelled.entries (no_reason _ c.relax.result (sym c.is_err.ensures.value ∙ c.if-is_err.false) c.relax.ensures.outcome) in
+    let this = relaxed_this a old new b relaxes arcs _ c.arc-arc.ensures is.labelled.entries (no_reason _ c.relax.result (sym c.is_err.ensures.value ∙ c.if-is_err.false) c.relax.ensures.outcome) in
     let on : AreRelaxedOn arcs order b old node (place + 1) = subst (AreRelaxedOn arcs order b old node) next_is is.relaxed in
     record {
-      labelled = record { defaults = c.relax.ensures.defaults; entries = entries_after a old new b relaxes arcs is.labelled.entries i c.arc-arc.ensures };
+      labelled = record { defaults = c.relax.ensures.defaults; entries = entries_after a old new b relaxes arcs is.labelled.entries _ c.arc-arc.ensures };
       keeps_relaxed = λ d relaxed. relaxed_still a old new b relaxes d (is.keeps_relaxed d relaxed);
       within = omega (arith, last.within, inside);
       found = last.found;
@@ -100,8 +99,6 @@ loop-next-preserved g c =
 pub returns-clause-relaxed : goal.returns-clause-relaxed
 returns-clause-relaxed g c = λ yes.
     let arcs = g.N.Network.list c.args.network.now in
-    let order = c.args.lightest.now.order.items in
-    let is = c.loop-next.invariant in
     let none : c.loop-next.next ≡ 0 = omega (arith, c.loop-next-test.false) in
     let at = entries g.D.Distance.value c.loop-next.node_labels in
-    node_done arcs order c.args.block.now at c.args.node is.labelled.entries c.requires.lightest.covering (subst (AreRelaxedOn arcs order c.args.block.now at c.args.node) none is.relaxed)
+    node_done arcs _ c.args.block.now at c.args.node c.loop-next.invariant.labelled.entries c.requires.lightest.covering (subst (AreRelaxedOn arcs _ c.args.block.now at c.args.node) none c.loop-next.invariant.relaxed)

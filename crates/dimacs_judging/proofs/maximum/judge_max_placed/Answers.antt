@@ -13,20 +13,18 @@ returns-in_err-flow g c = λ s is.
 
 pub returns-in_err-nodes_agree : goal.returns-in_err-nodes_agree
 returns-in_err-nodes_agree g c = λ s is.
-    let i = c.args.instance.now in
     let law = c.network-network.ensures.lawful in
     let outcome = rw (c.nodes.ensures, c.network-network.ensures.nodes, c.nodes-2.ensures) at c.in_err-nodes_agree.ensures in
-    max_judged i s c.args.cut.now law _ (nodes_refused i s c.args.cut.now law c.in_ok-flow.flow.now (c.in_ok-flow.ensures.claim s is) _ _ outcome) _ c.from_residual-in_err-nodes_agree.ensures.1
+    max_judged _ s c.args.cut.now law _ (nodes_refused _ s c.args.cut.now law c.in_ok-flow.flow.now (c.in_ok-flow.ensures.claim s is) _ _ outcome) _ c.from_residual-in_err-nodes_agree.ensures.1
 
 pub cut_tests-requires : goal.cut_tests-requires
 cut_tests-requires g c = AllZip-long _ c.args.instance.now.arcs c.in_ok-flow.flow.now c.in_ok-flow.ensures.feasible.within
 
 pub returns-in_err-cut_tests : goal.returns-in_err-cut_tests
 returns-in_err-cut_tests g c = λ s is.
-    let i = c.args.instance.now in
     let law = c.network-network.ensures.lawful in
     let same_nodes = rw (c.nodes.ensures, c.network-network.ensures.nodes, c.nodes-2.ensures) at c.in_ok-nodes_agree.ensures in
-    max_judged i s c.args.cut.now law _ (cut_refused i s c.args.cut.now law c.in_ok-flow.flow.now (c.in_ok-flow.ensures.claim s is) same_nodes _ _ c.in_err-cut_tests.ensures.0) _ c.from_residual-in_err-cut_tests.ensures.1
+    max_judged _ s c.args.cut.now law _ (cut_refused _ s c.args.cut.now law c.in_ok-flow.flow.now (c.in_ok-flow.ensures.claim s is) same_nodes _ _ c.in_err-cut_tests.ensures.0) _ c.from_residual-in_err-cut_tests.ensures.1
 
 pub returns : goal.returns
 returns g c = λ s is.

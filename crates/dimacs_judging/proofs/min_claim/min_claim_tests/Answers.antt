@@ -10,9 +10,8 @@ pub returns-in_err-flow-clause-refuted : goal.returns-in_err-flow-clause-refuted
 returns-in_err-flow-clause-refuted g c =
     let p = err_from_is_err_and c.from_residual.result c.from_residual.ensures.1 in
     rw (p.1, p.2) (λ s is.
-    let i = c.args.instance.now in
     let first = rw c.requires.network at (c.in_err-flow.ensures.first s.entries is.entries) in
-    refusal_refutes _ (min_claim_rows i s) (claim_one_way i s) (claim_clear i s) (Refused c.in_err-flow.field-0.0.0 c.in_err-flow.field-0.0.1) (inl first))
+    refusal_refutes _ (min_claim_rows _ s) (claim_one_way _ s) (claim_clear _ s) (Refused c.in_err-flow.field-0.0.0 c.in_err-flow.field-0.0.1) (inl first))
 
 pub returns-in_err-cost-clause-refuted : goal.returns-in_err-cost-clause-refuted
 returns-in_err-cost-clause-refuted g c =
@@ -27,12 +26,10 @@ pub returns-in_err-value_agrees-clause-refuted : goal.returns-in_err-value_agree
 returns-in_err-value_agrees-clause-refuted g c =
     let p = err_from_is_err_and c.from_residual-in_err-value_agrees.result c.from_residual-in_err-value_agrees.ensures.1 in
     rw (p.1, p.2) (λ s is.
-    let i = c.args.instance.now in
-    let x = c.in_ok-flow.flow.now in
     let carries = rw c.requires.network at (c.in_ok-flow.ensures.carried s.entries is.entries) in
     let total = rw (c.network-network.ensures.nodes, c.network-network.ensures.arcs) at c.in_ok-cost.ensures in
     let outcome = rw (to_z-of_z w128 c.in_ok-cost.cost (search rules), total.0, is.value_is, is.line_is) at c.in_err-value_agrees.ensures in
-    refusal_refutes _ (min_claim_rows i s) (claim_one_way i s) (claim_clear i s) (Refused c.in_err-value_agrees.field-0.0.0 c.in_err-value_agrees.field-0.0.1) (value_refused i s x carries (total.1.0, (total.1.1.0, tt)) total.1.1.1.0 _ _ outcome))
+    refusal_refutes _ (min_claim_rows _ s) (claim_one_way _ s) (claim_clear _ s) (Refused c.in_err-value_agrees.field-0.0.0 c.in_err-value_agrees.field-0.0.1) (value_refused _ s _ carries (total.1.0, (total.1.1.0, tt)) total.1.1.1.0 _ _ outcome))
 
 pub returns-clause-claim : goal.returns-clause-claim
 returns-clause-claim g c = λ s is.

@@ -19,19 +19,15 @@ pub returns-clause-tight : goal.returns-clause-tight
 returns-clause-tight g c =
     let a = c.args.arc in
     let old = entries g.D.Distance.value c.args.node_labels.now in
-    let head = c.in-Some-get_slot.ensures.0 in
-    let leads : IsTrue c.is_tight.result ↔ IsTight (old a.tail).dist (old a.head).dist a.cost = rw (to_z-of_z w64 a.cost (search rules), c.in-Some.ensures.0, head) at c.is_tight.ensures in
-    let lacks : IsTrue c.lacks_arc_from.result ↔ (((old a.head).pred ≡ a.tail) × (is_supported (old a.head) ≡ false)) = rw head at c.lacks_arc_from.ensures in
+    let leads : IsTrue c.is_tight.result ↔ IsTight (old a.tail).dist (old a.head).dist a.cost = rw (to_z-of_z w64 a.cost (search rules), c.in-Some.ensures.0, c.in-Some-get_slot.ensures.0) at c.is_tight.ensures in
+    let lacks : IsTrue c.lacks_arc_from.result ↔ (((old a.head).pred ≡ a.tail) × (is_supported (old a.head) ≡ false)) = rw c.in-Some-get_slot.ensures.0 at c.lacks_arc_from.ensures in
     tight_where a old c.is_tight.result c.lacks_arc_from.result leads lacks
 
 pub returns-clause-relaxes : goal.returns-clause-relaxes
 returns-clause-relaxes g c =
-    let a = c.args.arc in
     let value = g.D.Distance.value in
-    let head = c.in-Some-get_slot.ensures.0 in
-    let there = c.in-Some-get_slot.ensures.1 in
-    let put = c.put.ensures.set a.head there in
-    relaxes_put a (entries value c.args.node_labels.now) (entries value c.put.new.self) _ (λ v off. ap (entry_of value) (c.put.ensures.others a.head v there off))
-    (ap (λ m. value m.dist) put ∙ (ap value c.supported_if.ensures.dist ∙ ap (λ m. value m.dist) head))
-    (rw (ap (λ m. m.pred) head) at (ap (λ m. m.pred) put ∙ c.supported_if.ensures.pred))
+    let put = c.put.ensures.set c.args.arc.head c.in-Some-get_slot.ensures.1 in
+    relaxes_put _ (entries value c.args.node_labels.now) (entries value c.put.new.self) _ (λ v off. ap (entry_of value) (c.put.ensures.others c.args.arc.head v c.in-Some-get_slot.ensures.1 off))
+    (ap (λ m. value m.dist) put ∙ (ap value c.supported_if.ensures.dist ∙ ap (λ m. value m.dist) c.in-Some-get_slot.ensures.0))
+    (rw (ap (λ m. m.pred) c.in-Some-get_slot.ensures.0) at (ap (λ m. m.pred) put ∙ c.supported_if.ensures.pred))
     (returns-clause-tight g c)

@@ -4,17 +4,6 @@ use Rattle.dimacs_judging.proofs.NodeLabelLemmas.{all_counted, both_tests, label
 use Rattle.dimacs_judging.proofs.RowLemmas.{arc_clear_end}
 use Rattle.dimacs_judging.proofs.node_labels.relax_all.Goals as goal
 
-pub loop-i-init : goal.loop-i-init
-loop-i-init g c = record {
-  labelled = c.requires.labelled;
-  supported = λ k below. absurd (omega (arith, below));
-  count = omega arith;
-  clear = λ k below. absurd (omega (arith, below));
-}
-
-pub relax-requires-clause-defaults : goal.relax-requires-clause-defaults
-relax-requires-clause-defaults g c = c.loop-i.invariant.labelled.defaults
-
 pub relax-requires-clause-in_range : goal.relax-requires-clause-in_range
 relax-requires-clause-in_range g c = entries_wide c.requires.lawful.0 (g.N.Network.list c.args.network.now) c.args.block.now (entries g.D.Distance.value c.loop-i.node_labels) c.requires.lawful.1 c.loop-i.invariant.labelled.entries
 
@@ -70,12 +59,6 @@ returns-then-count-len-clause-tests g c =
     let all : length arcs ≤ c.loop-i.i = omega (arith, c.loop-i-test.false, c.arcs-i-end.ensures) in
     let supported = supported_all arcs b (entries g.D.Distance.value c.loop-i.node_labels) is.labelled.entries.sound (λ k inside. is.supported k (omega (arith, inside, all))) in
     labels_tests arcs b c.labels_supported-then-count-len.result (c.labels_supported-then-count-len.ensures arcs b (sym c.labels-labels.ensures) supported) (arc_clear_end arcs _ c.loop-i.i all is.clear)
-
-pub returns-then-count-len-clause-labelled : goal.returns-then-count-len-clause-labelled
-returns-then-count-len-clause-labelled g c = c.loop-i.invariant.labelled
-
-pub returns-clause-labelled : goal.returns-clause-labelled
-returns-clause-labelled g c = c.loop-i.invariant.labelled
 
 pub returns-clause-tests : goal.returns-clause-tests
 returns-clause-tests g c =

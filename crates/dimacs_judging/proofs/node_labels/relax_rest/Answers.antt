@@ -3,12 +3,6 @@ use Rattle.dimacs_judging.specs.inside.NodeLabels.{entries}
 use Rattle.dimacs_judging.proofs.NodeLabelLemmas.{entries_after, entries_wide, supported_after, supported_all}
 use Rattle.dimacs_judging.proofs.node_labels.relax_rest.Goals as goal
 
-pub loop-i-init : goal.loop-i-init
-loop-i-init g c = record { labelled = c.requires.labelled; supported = c.requires.supported }
-
-pub relax-outcome-requires-clause-defaults : goal.relax-outcome-requires-clause-defaults
-relax-outcome-requires-clause-defaults g c = c.loop-i.invariant.labelled.defaults
-
 pub relax-outcome-requires-clause-in_range : goal.relax-outcome-requires-clause-in_range
 relax-outcome-requires-clause-in_range g c = entries_wide c.requires.lawful.0 (g.N.Network.list c.args.network.now) c.args.block.now (entries g.D.Distance.value c.loop-i.node_labels) c.requires.lawful.1 c.loop-i.invariant.labelled.entries
 
@@ -27,12 +21,8 @@ loop-i-preserved g c =
       supported = supported_after a old new b relaxes arcs is.labelled.entries c.loop-i.i c.arc.ensures is.supported;
     }
 
-pub returns-clause-labelled : goal.returns-clause-labelled
-returns-clause-labelled g c = c.loop-i.invariant.labelled
-
 pub returns-clause-supported : goal.returns-clause-supported
 returns-clause-supported g c =
     let arcs = g.N.Network.list c.args.network.now in
     let all : length arcs ≤ c.loop-i.i = omega (arith, c.loop-i-test.false, c.arcs-i-end.ensures) in
-    let is = c.loop-i.invariant in
-    supported_all arcs c.args.block.now (entries g.D.Distance.value c.loop-i.node_labels) is.labelled.entries.sound (λ k inside. is.supported k (omega (arith, inside, all)))
+    supported_all arcs c.args.block.now (entries g.D.Distance.value c.loop-i.node_labels) c.loop-i.invariant.labelled.entries.sound (λ k inside. c.loop-i.invariant.supported k (omega (arith, inside, all)))

@@ -8,27 +8,24 @@ pub loop-i-init : goal.loop-i-init
 loop-i-init g c =
     let value = g.D.Distance.value in
     let e = c.in_ok-set.ensures in
-    let b = c.args.block.now in
     let here = rw c.source.ensures at e.set in
     record {
       defaults = defaults_still value c.args.node_labels.now c.set.new.self e.same_blank c.requires.unlabelled.defaults;
-      first = labelled_source b (entries value c.args.node_labels.now) (entries value c.set.new.self) c.requires.unlabelled.all (λ v off. ap (entry_of value) (rw c.source.ensures at e.others v off)) (ap (λ m. value m.dist) here ∙ c.of_source.ensures.dist) (ap (λ m. is_supported (entry_of value m)) here ∙ c.of_source.ensures.supported);
+      first = labelled_source _ (entries value c.args.node_labels.now) (entries value c.set.new.self) c.requires.unlabelled.all (λ v off. ap (entry_of value) (rw c.source.ensures at e.others v off)) (ap (λ m. value m.dist) here ∙ c.of_source.ensures.dist) (ap (λ m. is_supported (entry_of value m)) here ∙ c.of_source.ensures.supported);
     }
 
 pub of-requires : goal.of-requires
 of-requires g c =
-    let labels = c.labels-labels.ensures in
-    let inside : c.loop-i.i < length c.args.block.now.labels = rw (c.len-i-end.ensures, labels) at c.loop-i-test.true in
-    rw (c.at-label.ensures, labels) (c.requires.fits c.loop-i.i no_label inside)
+    let inside : c.loop-i.i < length c.args.block.now.labels = rw (c.len-i-end.ensures, c.labels-labels.ensures) at c.loop-i-test.true in
+    rw (c.at-label.ensures, c.labels-labels.ensures) (c.requires.fits c.loop-i.i no_label inside)
 
 pub loop-i-preserved : goal.loop-i-preserved
 loop-i-preserved g c =
     let value = g.D.Distance.value in
     let e = c.in_ok-set-2.ensures in
     let b = c.args.block.now in
-    let labels = c.labels-labels.ensures in
-    let is : c.at-label.result ≡ get_or b.labels c.loop-i.i no_label = rw labels at c.at-label.ensures in
-    let inside : c.loop-i.i < length b.labels = rw (c.len-i-end.ensures, labels) at c.loop-i-test.true in
+    let is : c.at-label.result ≡ get_or b.labels c.loop-i.i no_label = rw c.labels-labels.ensures at c.at-label.ensures in
+    let inside : c.loop-i.i < length b.labels = rw (c.len-i-end.ensures, c.labels-labels.ensures) at c.loop-i-test.true in
     let here = rw is at e.set in
     let lawful = c.requires.lawful in
     let dist = ap (λ m. value m.dist) here ∙ (c.of.ensures.dist ∙ ap (λ (x : Label). Some x.dist) is) in

@@ -34,6 +34,5 @@ returns g c =
     let labels = c.args.labels.now in
     let nodes = rw (c.nodes.ensures, c.nodes-nodes.ensures, c.network-network.ensures.nodes) at c.in_ok-nodes_agree.ensures in
     let named = rw (c.nodes-nodes.ensures, c.network-network.ensures.nodes) at c.in_ok-query_nodes_hold.ensures.tests in
-    let outcome = c.in_ok-labelled_blocks_hold.ensures in
-    let clear : AllClear (paths_rows graph (asked c.args.queries.now) labels) = (nodes, (named, (c.in_ok-numbers.ensures.1, rw c.network-network.ensures.arcs at outcome.tests))) in
-    (clear, paths_shown graph (asked c.args.queries.now) labels outcome.lawful clear, c.in_ok-answers.ensures)
+    let clear : AllClear (paths_rows graph (asked c.args.queries.now) labels) = (nodes, (named, (c.in_ok-numbers.ensures.1, rw c.network-network.ensures.arcs at c.in_ok-labelled_blocks_hold.ensures.tests))) in
+    (clear, paths_shown graph (asked c.args.queries.now) labels c.in_ok-labelled_blocks_hold.ensures.lawful clear, c.in_ok-answers.ensures)

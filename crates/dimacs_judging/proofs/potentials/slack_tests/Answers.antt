@@ -6,7 +6,5 @@ use Rattle.dimacs_judging.proofs.potentials.slack_tests.Goals as goal
 
 pub returns : goal.returns
 returns g c =
-    let arcs = c.args.instance.now.arcs in
     let p = potential_of c.args.potentials.now in
-    let x = c.args.flow.now in
-    decided _ (slack_row arcs p x ∷ []) (λ clear. potentials_slack arcs p x c.requires clear.0) (λ slack. (slack_clear arcs p x slack, tt)) c.arcs_hold.result (last_row _ _ (rw c.network.ensures.arcs at c.arcs_hold.ensures))
+    decided _ (slack_row _ p _ ∷ []) (λ clear. potentials_slack _ p _ c.requires clear.0) (λ slack. (slack_clear _ p _ slack, tt)) c.arcs_hold.result (last_row _ _ (rw c.network.ensures.arcs at c.arcs_hold.ensures))

@@ -26,5 +26,4 @@ returns-in_err-cost g c =
 
 pub returns : goal.returns
 returns g c =
-    let feasible = c.in_ok-balances_if_feasible.ensures.1 in
-    (to_z-of_z w128 c.in_ok-cost.cost (search rules) ∙ c.in_ok-cost.ensures.0, (feasible.0, (feasible.1.0, (c.in_ok-cost.ensures.1, tt))))
+    (to_z-of_z w128 c.in_ok-cost.cost (search rules) ∙ c.in_ok-cost.ensures.0, (c.in_ok-balances_if_feasible.ensures.1.0, (c.in_ok-balances_if_feasible.ensures.1.1.0, (c.in_ok-cost.ensures.1, tt))))

@@ -6,14 +6,12 @@ use Rattle.dimacs_judging.proofs.totals.cost_if_shown.Goals as goal
 
 pub returns : goal.returns
 returns g c =
-    let i = c.args.instance.now in
-    let x = c.args.flow.now in
     let passed = rw (c.network.ensures.nodes, c.network.ensures.arcs) at c.in_ok-totals.ensures in
     let fits : SFits w128 c.in_ok-totals.totals.cost = search rules in (
       to_z-of_z w128 c.in_ok-totals.totals.cost fits ∙ passed.cost_is,
       record {
-        feasible = feasible_min_holds i x c.requires (passed.clear.0, (passed.clear.1.0, tt));
-        costs_wide = costs_wide i.arcs x passed.clear.1.1.0;
-        slack = potentials_slack i.arcs (potential_of c.args.potentials.now) x c.requires passed.clear.1.1.1.0;
+        feasible = feasible_min_holds _ _ c.requires (passed.clear.0, (passed.clear.1.0, tt));
+        costs_wide = costs_wide c.args.instance.now.arcs _ passed.clear.1.1.0;
+        slack = potentials_slack c.args.instance.now.arcs (potential_of c.args.potentials.now) _ c.requires passed.clear.1.1.1.0;
       },
     )

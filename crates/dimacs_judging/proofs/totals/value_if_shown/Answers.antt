@@ -9,7 +9,6 @@ returns g c =
     let i = c.args.instance.now in
     let x = c.args.flow.now in
     let set = members c.args.cut.now in
-    let law = c.network.ensures.lawful in
     let passed = rw (c.network.ensures.nodes, c.network.ensures.arcs) at c.in_ok-totals.ensures in
     let inside : set i.source ≡ true = rw c.source-source.ensures at (sym c.contains.ensures ∙ c.if-not-contains.false) in
     let outside : set i.sink ≡ false = rw c.sink.ensures at (sym c.contains-2.ensures ∙ c.if-contains.false) in
@@ -18,7 +17,7 @@ returns g c =
     let slack = potentials_slack i.arcs (indicator set) x c.requires passed.clear.1.1.1.0 in (
       to_z-of_z w128 total (search rules) ∙ is_value,
       record {
-        feasible = feasible_max_holds i x law c.requires (passed.clear.0, (passed.clear.1.0, tt));
-        tight = record { source_inside = inside; sink_outside = outside; tight = tight_if_slack set i.arcs x law.capacities slack };
+        feasible = feasible_max_holds i x c.network.ensures.lawful c.requires (passed.clear.0, (passed.clear.1.0, tt));
+        tight = record { source_inside = inside; sink_outside = outside; tight = tight_if_slack set i.arcs x c.network.ensures.lawful.capacities slack };
       },
     )

@@ -11,13 +11,12 @@ pub loop-init : goal.loop-init
 loop-init g c =
     let arcs = g.N.Network.list c.args.network.now in
     let p = c.args.self.now in
-    let e = c.args.entry in
     let arc = c.args.arc in
     let n = c.index-before.result.now in
     let inside : arc < length arcs = omega (arith, c.requires.arc, c.requires.chained.within) in
     let read : slice_index p.before.items arc ≡ n = sym (get_or_read p.before.items arc n c.requires.arc c.index-before.ensures 0) in
     let last : IsLast Tail (by_chain p arcs) arc (end_at Tail (by_chain p arcs) arc) n = subst (IsLast Tail (by_chain p arcs) arc (end_at Tail (by_chain p arcs) arc)) read (c.requires.chained.linked.last_before arc c.requires.arc) in
-    record { within = last.within; found = last.found; none = none_from p.step (length p.last.items) arcs e.tail e.head arc inside c.requires.joins n last }
+    record { within = last.within; found = last.found; none = none_from p.step (length p.last.items) arcs c.args.entry.tail c.args.entry.head arc inside c.requires.joins n last }
 
 pub returns-then-before-eq0 : goal.returns-then-before-eq0
 returns-then-before-eq0 g c = λ yes.
