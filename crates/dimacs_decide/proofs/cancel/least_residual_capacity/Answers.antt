@@ -1,4 +1,4 @@
-use Rattle.std.proofs.{Common.{rules, arith, w64, SFits}, lemmas.Int.{ints, to_z-of_z}}
+use Rattle.std.proofs.{Common.{rules, arith, w64}, lemmas.Int.{ints, to_z-of_z}}
 use Rattle.dimacs_decide.proofs.CancelLemmas.{inside, residual_capacity_more, residual_capacity_none}
 use Rattle.dimacs_decide.proofs.cancel.least_residual_capacity.Goals as goal
 
@@ -11,9 +11,6 @@ loop-j-init g c = residual_capacity_none (g.N.Network.list c.args.network.now) c
 pub loop-j-preserved : goal.loop-j-preserved
 loop-j-preserved g c =
     let arcs = g.N.Network.list c.args.network.now in
-    let here = c.residual_capacity_from-residual_capacity.ensures in
-    let fits : SFits w64 c.residual_capacity_from-residual_capacity.result = search rules in
-    let fits_least : SFits w64 c.lesser-least.result = search rules in
-    let second = rw (to_z-of_z w64 c.residual_capacity_from-residual_capacity.result fits, here) at c.lesser-least.ensures.second in
-    let some = rw (to_z-of_z w64 c.residual_capacity_from-residual_capacity.result fits, here) at c.lesser-least.ensures.positive in
-    rw (to_z-of_z w64 c.lesser-least.result fits_least) (residual_capacity_more arcs c.args.flow.now c.args.cycle.now c.requires.cycle c.loop-j.j c.loop-j-test.true _ c.lesser-least.result c.loop-j.invariant c.lesser-least.ensures.first second some)
+    let second = rw (to_z-of_z w64 c.residual_capacity_from-residual_capacity.result (search rules), c.residual_capacity_from-residual_capacity.ensures) at c.lesser-least.ensures.second in
+    let some = rw (to_z-of_z w64 c.residual_capacity_from-residual_capacity.result (search rules), c.residual_capacity_from-residual_capacity.ensures) at c.lesser-least.ensures.positive in
+    rw (to_z-of_z w64 c.lesser-least.result (search rules)) (residual_capacity_more arcs c.args.flow.now c.args.cycle.now c.requires.cycle c.loop-j.j c.loop-j-test.true _ c.lesser-least.result c.loop-j.invariant c.lesser-least.ensures.first second some)

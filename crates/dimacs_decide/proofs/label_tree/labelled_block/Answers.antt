@@ -6,21 +6,15 @@ use Rattle.dimacs_decide.specs.{Predecessors.{pred_by_node}, inside.LabelTrees.{
 use Rattle.dimacs_decide.proofs.{LabelTreeLemmas.{all_agree}, PathBackLemmas.{labelled_so}}
 use Rattle.dimacs_decide.proofs.label_tree.labelled_block.Goals as goal
 
-pub label_from-requires-clause-proposed : goal.label_from-requires-clause-proposed
-label_from-requires-clause-proposed g c =
-    let so_far = c.loop-v.invariant in
-    rw (so_far.same_claim, so_far.same_pred) (record { small = c.requires.node_limit; within = c.requires.within; preds = c.requires.preds })
-
-pub label_from-requires-clause-tree : goal.label_from-requires-clause-tree
-label_from-requires-clause-tree g c =
+pub label_from-requires : goal.label_from-requires
+label_from-requires g c =
     let so_far = c.loop-v.invariant in
     let claim = g.C.DistanceClaim.claimed c.args.claim.now in
-    rw (so_far.same_claim, so_far.same_pred) (subst (λ s. IsLabelTree c.args.nodes s claim (pred_by_node c.args.predecessors.now) c.loop-v.tree.block (value_of c.loop-v.tree.labelled)) (sym so_far.tree.source) so_far.tree)
-
-pub label_from-requires-clause-earlier : goal.label_from-requires-clause-earlier
-label_from-requires-clause-earlier g c =
-    let so_far = c.loop-v.invariant in
-    rw so_far.same_claim so_far.labelled
+    rw (so_far.same_claim, so_far.same_pred) (record {
+      proposed = record { small = c.requires.node_limit; within = c.requires.within; preds = c.requires.preds };
+      tree = subst (λ s. IsLabelTree c.args.nodes s claim (pred_by_node c.args.predecessors.now) c.loop-v.tree.block (value_of c.loop-v.tree.labelled)) (sym so_far.tree.source) so_far.tree;
+      earlier = so_far.labelled;
+    })
 
 pub returns-then-not-branch-clause-first : goal.returns-then-not-branch-clause-first
 returns-then-not-branch-clause-first g c =
@@ -33,15 +27,14 @@ pub loop-v-preserved : goal.loop-v-preserved
 loop-v-preserved g c =
     let so_far = c.loop-v.invariant in
     let claim = g.C.DistanceClaim.claimed c.args.claim.now in
-    let v = c.loop-v.v in
     let after = value_of c.label_from.new.self.labelled in
     let labelled = rw (c.if-not-branch.false, so_far.same_claim) at c.in_ok-label_from.ensures.labelled in
     record {
       same_claim = c.label_from.ensures.claim ∙ so_far.same_claim;
       same_pred = c.label_from.ensures.predecessors ∙ so_far.same_pred;
       tree = rw (so_far.same_claim, so_far.same_pred, so_far.tree.source) at c.in_ok-label_from.ensures.tree;
-      labelled = λ u less some. elim (cases_order u v) [
-        | inl same ↦ ap after same ∙ labelled_so claim after v labelled (subst (λ w. IsSome (claim w)) same some)
+      labelled = λ u less some. elim (cases_order u _) [
+        | inl same ↦ ap after same ∙ labelled_so claim after _ labelled (subst (λ w. IsSome (claim w)) same some)
         | inr other ↦ elim other [
           | inl before ↦ c.in_ok-label_from.ensures.keeps u (so_far.labelled u before some)
           | inr past ↦ absurd (omega (arith, past, less))
@@ -51,7 +44,6 @@ loop-v-preserved g c =
 
 pub returns-clause-agrees : goal.returns-clause-agrees
 returns-clause-agrees g c =
-    let so_far = c.loop-v.invariant in
     let claim = g.C.DistanceClaim.claimed c.args.claim.now in
-    all_agree c.args.nodes c.args.source claim (pred_by_node c.args.predecessors.now) c.loop-v.tree.block (value_of c.loop-v.tree.labelled) so_far.tree
-    (λ v some. so_far.labelled v (omega (arith, (c.requires.within v some).1, c.loop-v-test.false)) some)
+    all_agree c.args.nodes c.args.source claim (pred_by_node c.args.predecessors.now) c.loop-v.tree.block (value_of c.loop-v.tree.labelled) c.loop-v.invariant.tree
+    (λ v some. c.loop-v.invariant.labelled v (omega (arith, (c.requires.within v some).1, c.loop-v-test.false)) some)

@@ -1,4 +1,4 @@
-use Rattle.std.proofs.{Common.{rules, ◌≡◌, pos, arith, ap, w64, SFits}, lemmas.Int.{ints, to_z-of_z}}
+use Rattle.std.proofs.{Common.{rules, ◌≡◌, pos, arith, ap, w64}, lemmas.Int.{ints, to_z-of_z}}
 use Rattle.std.proofs.{lemmas.Option.{get_or_from_slice_get}, lemmas.Slice.Zip.{AllZip-long}}
 use Rattle.dimacs_network.specs.{declared.network.ArcView.{ArcView}, Arcs.{arc_at, no_arc}}
 use Rattle.dimacs_judging.specs.Rows.{amount_at}
@@ -9,37 +9,21 @@ use Rattle.dimacs_decide.proofs.residual_capacity.residual_capacity_from.Goals a
 pub amount-requires : goal.amount-requires
 amount-requires g c = omega (arith, c.requires.arc_index, AllZip-long _ _ _ c.requires.within)
 
-pub capacity_left-requires-clause-not_negative : goal.capacity_left-requires-clause-not_negative
-capacity_left-requires-clause-not_negative g c =
-    let arcs = g.N.Network.list c.args.network.now in
-    let k = c.args.arc_index in
-    let is : arc_at arcs k ≡ c.arc.result = get_or_from_slice_get arcs k c.arc.result no_arc c.arc.ensures in
-    let low = ap (λ (a : ArcView). a.low) is in
-    omega (arith, ints, low, (arc_bounds arcs k c.requires.bounds c.requires.arc_index).0)
-
-pub capacity_left-requires-clause-low : goal.capacity_left-requires-clause-low
-capacity_left-requires-clause-low g c =
+pub capacity_left-requires : goal.capacity_left-requires
+capacity_left-requires g c =
     let arcs = g.N.Network.list c.args.network.now in
     let x = c.args.flow.now in
     let k = c.args.arc_index in
     let is : arc_at arcs k ≡ c.arc.result = get_or_from_slice_get arcs k c.arc.result no_arc c.arc.ensures in
     let low = ap (λ (a : ArcView). a.low) is in
-    let carries : amount_at x k ≡ c.amount.result = get_or_from_slice_get x k c.amount.result (pos 0) c.amount.ensures in
-    let fits : SFits w64 c.amount.result = search rules in
-    let bounds = pair_at _ arcs x k no_arc (pos 0) c.requires.within c.requires.arc_index in
-    rw (to_z-of_z w64 c.amount.result fits) (omega (arith, ints, bounds.0, carries, low))
-
-pub capacity_left-requires-clause-high : goal.capacity_left-requires-clause-high
-capacity_left-requires-clause-high g c =
-    let arcs = g.N.Network.list c.args.network.now in
-    let x = c.args.flow.now in
-    let k = c.args.arc_index in
-    let is : arc_at arcs k ≡ c.arc.result = get_or_from_slice_get arcs k c.arc.result no_arc c.arc.ensures in
     let cap = ap (λ (a : ArcView). a.cap) is in
     let carries : amount_at x k ≡ c.amount.result = get_or_from_slice_get x k c.amount.result (pos 0) c.amount.ensures in
-    let fits : SFits w64 c.amount.result = search rules in
     let bounds = pair_at _ arcs x k no_arc (pos 0) c.requires.within c.requires.arc_index in
-    rw (to_z-of_z w64 c.amount.result fits) (omega (arith, ints, bounds.1, carries, cap))
+    rw (to_z-of_z w64 c.amount.result (search rules)) (record {
+      not_negative = omega (arith, ints, low, (arc_bounds arcs k c.requires.bounds c.requires.arc_index).0);
+      low = omega (arith, ints, bounds.0, carries, low);
+      high = omega (arith, ints, bounds.1, carries, cap);
+    })
 
 pub returns : goal.returns
 returns g c =
@@ -47,6 +31,4 @@ returns g c =
     let k = c.args.arc_index in
     let is : arc_at arcs k ≡ c.arc.result = get_or_from_slice_get arcs k c.arc.result no_arc c.arc.ensures in
     let carries : amount_at c.args.flow.now k ≡ c.amount.result = get_or_from_slice_get c.args.flow.now k c.amount.result (pos 0) c.amount.ensures in
-    let fits : SFits w64 c.amount.result = search rules in
-    let held : SFits w64 c.capacity_left.result = search rules in
-    rw (is, carries, to_z-of_z w64 c.capacity_left.result held) (rw (to_z-of_z w64 c.amount.result fits) at c.capacity_left.ensures)
+    rw (is, carries, to_z-of_z w64 c.capacity_left.result (search rules)) (rw (to_z-of_z w64 c.amount.result (search rules)) at c.capacity_left.ensures)

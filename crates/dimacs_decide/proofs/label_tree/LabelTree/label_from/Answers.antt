@@ -15,9 +15,8 @@ returns-then-not-get-clause-labelled g c =
     let b = old.block in
     let source = source_labelled c.args.nodes b.source claim pred b labelled c.requires.tree in
     let not_labelled : labelled c.in_ok-end.end ≡ false = rw c.climb.ensures.labelled at (sym c.if-not-get.ensures.value) in
-    let within = c.requires.proposed.within in
     let off = never_back claim pred c.args.nodes b.source labelled c.args.from c.climb.new.self.path.items c.in_ok-end.end c.in_ok-end.ensures.path c.in_ok-end.ensures.off source.0 source.1
-    within (none_within c.args.nodes claim pred within c.requires.proposed.preds) not_labelled c.in_ok-end.ensures.ends in
+    c.requires.proposed.within (none_within c.args.nodes claim pred c.requires.proposed.within c.requires.proposed.preds) not_labelled c.in_ok-end.ensures.ends in
     let distance : claim c.args.from ≡ c.of.result = sym (rw c.climb.ensures.claim at c.of.ensures.claimed) in
     rw c.climb.ensures.labelled (outcome claim pred b.source labelled c.args.from off c.of.result distance c.is_none.result c.is_none.ensures)
 
@@ -47,28 +46,8 @@ loop-node-init g c =
       not_labelled = rw same (start_off claim pred labelled c.args.from path end c.in_ok-end.ensures.path c.in_ok-end.ensures.off);
     }
 
-pub add_label-requires-clause-proposed : goal.add_label-requires-clause-proposed
-add_label-requires-clause-proposed g c =
-    let so_far = c.loop-node.invariant in
-    rw (so_far.same_claim, so_far.same_pred) c.requires.proposed
-
-pub add_label-requires-clause-tree : goal.add_label-requires-clause-tree
-add_label-requires-clause-tree g c =
-    let so_far = c.loop-node.invariant in
-    let old = c.args.self.now in
-    rw (so_far.same_claim, so_far.same_pred) (subst (λ s. IsLabelTree c.args.nodes s (g.C.DistanceClaim.claimed old.claim.now) (pred_by_node old.predecessors.now) c.loop-node.self.block (value_of c.loop-node.self.labelled)) (sym so_far.tree.source) so_far.tree)
-
-pub add_label-requires-clause-distance : goal.add_label-requires-clause-distance
-add_label-requires-clause-distance g c =
-    let so_far = c.loop-node.invariant in
-    let old = c.args.self.now in
-    let claim = g.C.DistanceClaim.claimed old.claim.now in
-    let pred = pred_by_node old.predecessors.now in
-    rw so_far.same_claim (taken claim pred (value_of c.loop-node.self.labelled) c.args.from c.loop-node.self.path.items c.pop.new.self.items c.in-Some.node c.in-Some.ensures.items so_far.path so_far.once so_far.not_labelled).1
-
-pub add_label-requires-clause-next : goal.add_label-requires-clause-next
-add_label-requires-clause-next g c =
-    let nodes = c.args.nodes in
+pub add_label-requires : goal.add_label-requires
+add_label-requires g c =
     let first = c.args.self.now in
     let claim = g.C.DistanceClaim.claimed first.claim.now in
     let pred = pred_by_node first.predecessors.now in
@@ -81,14 +60,14 @@ add_label-requires-clause-next g c =
     let goes = taken claim pred labelled c.args.from old front node c.in-Some.ensures.items so_far.path so_far.once so_far.not_labelled in
     let some = root_some claim pred labelled c.args.from old front node c.in-Some.ensures.items so_far.path so_far.once so_far.not_labelled in
     let not_labelled = root_not_labelled claim pred labelled c.args.from old front node c.in-Some.ensures.items so_far.path so_far.once so_far.not_labelled in
-    λ l same. rw (so_far.same_claim, so_far.same_pred, so_far.tree.source) (next_label nodes c.args.self.now.block.source claim pred b labelled so_far.tree c.args.from l (λ v less has. so_far.keeps v (c.requires.earlier v less has)) some not_labelled
-    (subst (λ u. LeadsBack pred u c.args.from) (sym same) (path_leads claim pred c.args.from front node goes.0)))
-
-pub add_label-requires-clause-labelled : goal.add_label-requires-clause-labelled
-add_label-requires-clause-labelled g c =
-    let so_far = c.loop-node.invariant in
-    let old = c.args.self.now in
-    rw so_far.same_pred (taken (g.C.DistanceClaim.claimed old.claim.now) (pred_by_node old.predecessors.now) (value_of c.loop-node.self.labelled) c.args.from c.loop-node.self.path.items c.pop.new.self.items c.in-Some.node c.in-Some.ensures.items so_far.path so_far.once so_far.not_labelled).2
+    rw (so_far.same_claim, so_far.same_pred) (record {
+      proposed = c.requires.proposed;
+      tree = subst (λ s. IsLabelTree c.args.nodes s claim pred b labelled) (sym so_far.tree.source) so_far.tree;
+      distance = goes.1;
+      next = λ l same. rw so_far.tree.source (next_label c.args.nodes first.block.source claim pred b labelled so_far.tree c.args.from l (λ v less has. so_far.keeps v (c.requires.earlier v less has)) some not_labelled
+          (subst (λ u. LeadsBack pred u c.args.from) (sym same) (path_leads claim pred c.args.from front node goes.0)));
+      labelled = goes.2;
+    })
 
 pub loop-node-smaller : goal.loop-node-smaller
 loop-node-smaller g c =
@@ -96,23 +75,20 @@ loop-node-smaller g c =
 
 pub loop-node-preserved : goal.loop-node-preserved
 loop-node-preserved g c =
-    let first = c.args.self.now in
-    let claim = g.C.DistanceClaim.claimed first.claim.now in
-    let pred = pred_by_node first.predecessors.now in
+    let claim = g.C.DistanceClaim.claimed c.args.self.now.claim.now in
+    let pred = pred_by_node c.args.self.now.predecessors.now in
     let labelled = value_of c.loop-node.self.labelled in
     let after = value_of c.add_label.new.self.labelled in
     let so_far = c.loop-node.invariant in
-    let old = c.loop-node.self.path.items in
-    let front = c.pop.new.self.items in
     let node = c.in-Some.node in
     let placed = c.in_ok-add_label.ensures.placed in
-    let goes = taken claim pred labelled c.args.from old front node c.in-Some.ensures.items so_far.path so_far.once so_far.not_labelled in
+    let goes = taken claim pred labelled c.args.from _ _ node c.in-Some.ensures.items so_far.path so_far.once so_far.not_labelled in
     record {
       same_claim = c.add_label.ensures.claim ∙ so_far.same_claim;
       same_pred = c.add_label.ensures.predecessors ∙ so_far.same_pred;
       tree = rw (so_far.same_claim, so_far.same_pred, so_far.tree.source) at c.in_ok-add_label.ensures.tree;
       keeps = λ v h. placed_keeps labelled after node placed v (so_far.keeps v h);
       path = rw c.add_label.ensures.path (node, goes.0, placed.0);
-      once = rw c.add_label.ensures.path (root_apart claim pred labelled c.args.from old front node c.in-Some.ensures.items so_far.path so_far.once so_far.not_labelled).0;
-      not_labelled = rw c.add_label.ensures.path (still_not_labelled claim pred labelled c.args.from old front node c.in-Some.ensures.items so_far.path so_far.once so_far.not_labelled after placed);
+      once = rw c.add_label.ensures.path (root_apart claim pred labelled c.args.from _ _ node c.in-Some.ensures.items so_far.path so_far.once so_far.not_labelled).0;
+      not_labelled = rw c.add_label.ensures.path (still_not_labelled claim pred labelled c.args.from _ _ node c.in-Some.ensures.items so_far.path so_far.once so_far.not_labelled after placed);
     }

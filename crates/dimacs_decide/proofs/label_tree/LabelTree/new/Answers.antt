@@ -6,7 +6,6 @@ use Rattle.dimacs_decide.proofs.label_tree.LabelTree.new.Goals as goal
 
 pub returns-clause-tree : goal.returns-clause-tree
 returns-clause-tree g c =
-    let set = c.in_ok-set.ensures in
     let lawful = rw c.new-block.ensures.empty at (c.new-block.ensures.lawful c.args.nodes c.requires.source) in
     rw c.new-block.ensures.empty (begun c.args.nodes (g.C.DistanceClaim.claimed c.args.claim.now) (pred_by_node c.args.predecessors.now) c.args.source (value_of c.set.new.self) c.requires.source c.requires.distance lawful
-    set.set (λ v apart. set.others v apart ∙ c.new-labelled.ensures.values v))
+    c.in_ok-set.ensures.set (λ v apart. c.in_ok-set.ensures.others v apart ∙ c.new-labelled.ensures.values v))
