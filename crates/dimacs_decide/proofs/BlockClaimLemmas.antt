@@ -10,7 +10,7 @@ use Rattle.dimacs_claims.specs.Labels.{BlockValue, IsBlock, IsLabel, distance_in
 use Rattle.dimacs_claims.proofs.{BlockLemmas.{label_at_wide}, ByIdLemmas.{distance_in-from, distance_in-past}}
 use Rattle.dimacs_judging.specs.Distances.{below}
 use Rattle.dimacs_decide.specs.inside.TightTrees.{node_at}
-use Rattle.dimacs_decide.proofs.{ClaimLemmas.{some_value}, TightLemmas.{placed}}
+use Rattle.dimacs_decide.proofs.{MarkedLemmas.{some_of}, TightLemmas.{placed}}
 
 -- a distance below the end is the distance in its number
 pub below_end : (d end : ℤ) → d <ℤ end → below end d ≡ Some d
@@ -36,7 +36,7 @@ with_source b old new here others all v = elim (eqb_tells b.source v) [
   | inr apart ↦ rw apart.0 (others v (λ e. apart.1 (sym e)) ∙ all v)
 ]
 
-each_wide : (o : Option ℤ) → IfSome o IsWide → ForSome o IsWide
+pub each_wide : (o : Option ℤ) → IfSome o IsWide → ForSome o IsWide
 each_wide o wide d is = rw is at wide
 
 pub labels_wide : (nodes : ℕ) (b : BlockValue) (distances : ℕ → Option ℤ) → IsBlock nodes b → ((v : ℕ) → distances v ≡ label b v) → (v : ℕ) → ForSome (distances v) IsWide
@@ -44,7 +44,7 @@ labels_wide nodes b distances is same v = each_wide (distances v) (rw (same v) (
 
 -- only nodes have labels
 pub label_within : (nodes : ℕ) (b : BlockValue) → IsBlock nodes b → (v : ℕ) → IsSome (label b v) → IsNode nodes v
-label_within nodes b is v some = let (d, at) = some_value (label b v) some in from (placed b v d at)
+label_within nodes b is v some = let (d, at) = some_of (label b v) some in from (placed b v d at)
   where
     from : ((j : ℕ) × (j ≤ length b.labels) × (node_at b j ≡ v)) → IsNode nodes v
     from (zero, inside, same) = subst (IsNode nodes) same is.source_within

@@ -19,6 +19,7 @@ use Rattle.dimacs_judging.proofs.Firsts.{AllOneWay, arc_one_way, node_one_way, o
 use Rattle.dimacs_decide.specs.Distances.{AreDistancesFrom, AreLabelsOf, DecidesDistances, IsTight, IsTightlyReached, claim_row, claim_rows, reach_row, source_row}
 use Rattle.dimacs_decide.specs.{inside.DistanceBlocks.{DecidesBlock, IsBlockOf}, TightTails.{IsRelaxedBy}}
 use Rattle.dimacs_decide.specs.inside.TightTrees.{IsTightTree, IsWholeTightTree, ReachesAll}
+use Rattle.dimacs_decide.proofs.MarkedLemmas.{some_of}
 
 -- ---- walks joined end to end
 walk_append : (g p q : List ArcView) (s u t : ℕ) → IsWalk g s u p → IsWalk g u t q → IsWalk g s t (p ++ q)
@@ -84,14 +85,10 @@ module _ (g : List ArcView) (claim : ℕ → Option ℤ) (relaxed : All (IsRelax
       let rest : e ≡ f +ℤ weight walk = omega (arith, ints, exact, heavy) in
       All-cons (IsTight claim) a walk (d, tail, head ∙ ap Some exact) (tight_along walk a.head v f e w.2 head end rest)
 
-pub some_value : (o : Option ℤ) → IsSome o → (e : ℤ) × (o ≡ Some e)
-some_value None some = absurd (let f : false ≡ true = some in cc)
-some_value (Some e) some = (e, refl)
-
 -- a walk of tight arcs leads to each node with a distance
 true_reaches : (g : List ArcView) (s : ℕ) (claim : ℕ → Option ℤ) → Clear (claim_row g claim) → claim s ≡ Some (pos 0) → (v : ℕ) → IsSome (claim v) → IsDistance g s v (claim v) None → IsTightlyReached g s claim v
 true_reaches g s claim clear at v some is =
-    let (e, named) = some_value (claim v) some in
+    let (e, named) = some_of (claim v) some in
     let dist : Dist g s v e = rw named at is in
     (dist.walk, dist.leads, tight_along g claim (all_relaxed g claim clear) dist.walk s v (pos 0) e dist.leads at named (omega (arith, ints, dist.weighs)))
 

@@ -1,17 +1,17 @@
 -- Blocks that label few nodes.
 use Rattle.std.proofs.Common.{◌≡◌, ◌≢◌, inl, inr, true, false, ℕ, zero, suc, ◌+◌, ◌-◌, ◌<◌, ◌≤◌, Bool, List, [], ◌∷◌, length, get_or, Option, Some, None, is_some, ℤ, refl, sym, ap, subst, ◌∙◌, arith}
-use Rattle.std.proofs.{lemmas.Bool.{cases_eq, cases_lt, cases_order}, lemmas.Bool.Decides.{eqb_tells}}
+use Rattle.std.proofs.{lemmas.Bool.{cases_eq, cases_lt, cases_order, false_from_ne_true}, lemmas.Bool.Decides.{eqb_tells}}
 use Rattle.std.proofs.lemmas.List.Elements.{All-cons, All-nil}
-use Rattle.std.specs.{Prelude.{IfSome}, Option.{ForSome}}
+use Rattle.std.specs.{Option.{ForSome}}
 use Rattle.dimacs_records.specs.{Ranges.{IsWide}, declared.reasons.Reason.{Reason}}
 use Rattle.dimacs_network.specs.{declared.network.ArcView.{ArcView}, declared.adjacency_lists.Side.TheVariants.{Tail}}
 use Rattle.dimacs_network.specs.{AdjacencyLists.{IsLast}, Arcs.{arc_at}}
 use Rattle.dimacs_claims.specs.Labels.{BlockValue, IsBlock, distance_in, label, no_label}
-use Rattle.dimacs_claims.proofs.{BlockLemmas.{label_at_wide}, ByIdLemmas.{distance_in-at, fresh_apart}}
+use Rattle.dimacs_claims.proofs.{BlockLemmas.{label_at_wide}, BuilderLemmas.{unlabelled}, ByIdLemmas.{distance_in-at, fresh_apart}}
 use Rattle.dimacs_judging.specs.{CertificateTests.{RelaxFails}, Tests.{Clear}}
 use Rattle.dimacs_decide.specs.{Distances.{claim_row}, inside.TightTrees.{ReachesAll, node_at}}
 use Rattle.dimacs_decide.specs.inside.FewLabels.{AreNamed, ArcsHoldFrom, ArePlaced, IsUnreached}
-use Rattle.dimacs_decide.proofs.{ClaimLemmas.{some_value}, MarkedLemmas.{none_of}, TightLemmas.{placed}}
+use Rattle.dimacs_decide.proofs.{BlockClaimLemmas.{each_wide}, MarkedLemmas.{some_of}, TightLemmas.{placed}}
 
 abbrev pub id_at : BlockValue → ℕ → ℕ
 id_at b k = (get_or b.labels k no_label).id
@@ -29,9 +29,6 @@ placed_more nodes b n v old new is inside same are here others j below = elim (c
 pub all_named : (nodes : ℕ) (b : BlockValue) → IsBlock nodes b → AreNamed b
 all_named nodes b is k inside = distance_in-at b.labels (fresh_apart b.source b.labels is.fresh) k inside
 
-each_wide : (o : Option ℤ) → IfSome o IsWide → ForSome o IsWide
-each_wide o wide d is = rw is at wide
-
 pub all_wide : (nodes : ℕ) (b : BlockValue) → IsBlock nodes b → (v : ℕ) → ForSome (label b v) IsWide
 all_wide nodes b is v = each_wide (label b v) (label_at_wide nodes (b ∷ []) 0 v (All-cons (IsBlock nodes) b [] is (All-nil (IsBlock nodes))))
 
@@ -44,7 +41,7 @@ label_here b k v are inside same apart = elim (eqb_tells b.source v) [
 
 -- where the label at its place is of another node, or there is none
 pub label_none : (b : BlockValue) (v : ℕ) (places : ℕ → ℕ) → ArePlaced b places → b.source ≢ v → (places v < length b.labels → id_at b (places v) ≢ v) → label b v ≡ None
-label_none b v places are apart off = none_of (label b v) (go (label b v) refl)
+label_none b v places are apart off = unlabelled (label b v) (go (label b v) refl)
   where
     go : (o : Option ℤ) → label b v ≡ o → is_some o ≡ false
     go None is = refl
@@ -108,7 +105,7 @@ reached_more b reached n v same this are k below = elim (cases_lt k n) [
 ]
 
 pub all_reached : (nodes : ℕ) (b : BlockValue) (reached : ℕ → Bool) (n : ℕ) → reached b.source ≡ true → length b.labels ≤ n → AreReachedFirst b reached n → ReachesAll nodes (label b) reached
-all_reached nodes b reached n source all are v node some = at (placed b v (some_value (label b v) some).0 (some_value (label b v) some).1)
+all_reached nodes b reached n source all are v node some = at (placed b v (some_of (label b v) some).0 (some_of (label b v) some).1)
   where
     at : ((j : ℕ) × (j ≤ length b.labels) × (node_at b j ≡ v)) → reached v ≡ true
     at (zero, inside, same) = ap reached (sym same) ∙ source
@@ -118,10 +115,6 @@ all_reached nodes b reached n source all are v node some = at (placed b v (some_
 -- a node that is still reached has a label from the n-th on
 abbrev pub AreLeft : BlockValue → ℕ → (ℕ → Bool) → Type 0
 AreLeft b n reached = (v : ℕ) → reached v ≡ true → (v ≢ b.source) × (is_some (label b v) ≡ true) × ((k : ℕ) → k < n → id_at b k ≢ v)
-
-off_or_on : (t : Bool) → (t ≡ true → ⊥) → t ≡ false
-off_or_on true off = absurd (off refl)
-off_or_on false off = refl
 
 pub left_source : (b : BlockValue) (old new : ℕ → Bool) (s : ℕ) → s ≡ b.source → ((v : ℕ) → old v ≡ is_some (label b v)) → new s ≡ false → ((v : ℕ) → v ≢ s → new v ≡ old v) → AreLeft b 0 new
 left_source b old new s same marked here others v on = elim (cases_eq v s) [
@@ -144,10 +137,10 @@ left_more b old new n u same left here others v on = elim (cases_eq v u) [
 ]
 
 pub none_left : (b : BlockValue) (reached : ℕ → Bool) (n : ℕ) → length b.labels ≤ n → AreLeft b n reached → IsUnreached reached
-none_left b reached n all left v = off_or_on (reached v) (λ on. gone (left v on))
+none_left b reached n all left v = false_from_ne_true (reached v) (λ on. gone (left v on))
   where
     gone : ((v ≢ b.source) × (is_some (label b v) ≡ true) × ((k : ℕ) → k < n → id_at b k ≢ v)) → ⊥
-    gone (source, some, before) = at (placed b v (some_value (label b v) some).0 (some_value (label b v) some).1)
+    gone (source, some, before) = at (placed b v (some_of (label b v) some).0 (some_of (label b v) some).1)
       where
         at : ((j : ℕ) × (j ≤ length b.labels) × (node_at b j ≡ v)) → ⊥
         at (zero, inside, same) = source (sym same)

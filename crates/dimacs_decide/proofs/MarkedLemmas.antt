@@ -4,6 +4,7 @@ use Rattle.std.proofs.{lemmas.Bool.Decides.{eqb_tells}, lemmas.List.{length-appe
 use Rattle.dimacs_lines.specs.Limits.{most_count, most_nodes, IsNode}
 use Rattle.dimacs_claims.specs.{declared.block.Label.{Label}, Labels.{BlockValue, IsBlock, label, with_label}}
 use Rattle.dimacs_decide.specs.inside.MarkedBlocks.{IsMarkedBlock, absent}
+use Rattle.dimacs_claims.proofs.BuilderLemmas.{unlabelled}
 use Rattle.dimacs_decide.proofs.CountLemmas.{count_all, one_fewer}
 
 one_marked : (marked after : ℕ → Bool) (at : ℕ) → ((v : ℕ) → v ≢ at → after v ≡ marked v) → (n : ℕ) → at < n → marked at ≡ false → after at ≡ true → absent after n + 1 ≡ absent marked n
@@ -31,16 +32,12 @@ pub some_of : (o : Option ℤ) → is_some o ≡ true → (d : ℤ) × (o ≡ So
 some_of None some = absurd (cc)
 some_of (Some d) some = (d, refl)
 
-pub none_of : (o : Option ℤ) → is_some o ≡ false → o ≡ None
-none_of None none = refl
-none_of (Some d) none = absurd (cc)
-
 module _ (nodes : ℕ) (claim : ℕ → Option ℤ) (b : BlockValue) (marked : ℕ → Bool) (is : IsMarkedBlock nodes claim b marked) where
   pub label_if_marked : (v : ℕ) → marked v ≡ true → is_some (label b v) ≡ true
   label_if_marked v on = sym (is.marks v) ∙ on
 
   pub none_if_unmarked : (v : ℕ) → marked v ≡ false → label b v ≡ None
-  none_if_unmarked v off = none_of (label b v) (sym (is.marks v) ∙ off)
+  none_if_unmarked v off = unlabelled (label b v) (sym (is.marks v) ∙ off)
 
   pub few : (u : ℕ) → marked u ≡ false → nodes ≤ most_nodes → IsNode nodes u → length b.labels < most_count
   few u new small node =

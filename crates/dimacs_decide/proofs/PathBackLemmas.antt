@@ -5,7 +5,8 @@ use Rattle.std.proofs.{lemmas.List.{length-append}, lemmas.List.Elements.{All-co
 use Rattle.dimacs_lines.specs.Limits.{IsNode}
 use Rattle.dimacs_decide.specs.{Predecessors.{LeadsBack, back}, inside.MarkedBlocks.{absent}}
 use Rattle.dimacs_decide.specs.inside.LabelTrees.{AreOff, ComesFirst, EndsPath, IsPathBack, Leads, Places}
-use Rattle.dimacs_decide.proofs.{CountLemmas.{count_all, count_some, one_fewer}, MarkedLemmas.{none_of}}
+use Rattle.dimacs_claims.proofs.BuilderLemmas.{unlabelled}
+use Rattle.dimacs_decide.proofs.CountLemmas.{count_all, count_some, one_fewer}
 
 -- ---- steps
 back_next : (pred : ℕ → ℕ) (n v : ℕ) → back pred (suc n) v ≡ pred (back pred n v)
@@ -158,7 +159,7 @@ module _ (claim : ℕ → Option ℤ) (pred : ℕ → ℕ) where
 pub none_within : (nodes : ℕ) (claim : ℕ → Option ℤ) (pred : ℕ → ℕ) → ((v : ℕ) → IsSome (claim v) → IsNode nodes v) → ((v : ℕ) → claim v ≡ None → pred v ≡ 0) → (u : ℕ) → claim u ≡ None → claim (pred u) ≡ None
 none_within nodes claim pred within preds u none = ap claim (preds u none) ∙ elim (cases_Bool (is_some (claim 0))) [
   | inl some ↦ absurd (omega (arith, (within 0 some).0))
-  | inr off ↦ none_of (claim 0) off
+  | inr off ↦ unlabelled (claim 0) off
 ]
 
 all_but_last : {X : Type 0} (P : X → Type 0) (xs : List X) (x : X) → All P (xs ++ x ∷ []) → All P xs × P x
