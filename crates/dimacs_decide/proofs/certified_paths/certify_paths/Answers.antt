@@ -20,12 +20,11 @@ returns-in_err-block g c =
 
 pub push-requires-clause-source : goal.push-requires-clause-source
 push-requires-clause-source g c =
-    let value = c.args.graph.now in
     let blocks = c.args.distances.now.blocks in
     let inside : c.loop-i.i < length blocks = rw c.blocks-blocks.ensures.blocks at c.loop-i-test.true in
     let b : c.index-blocks-i.result ≡ block_at blocks c.loop-i.i = same_block blocks c.loop-i.i c.index-blocks-i.result inside (rw c.blocks-blocks.ensures.blocks at c.index-blocks-i.is) in
-    let outcome = decided_here value c.index-blocks-i.result (block_at blocks c.loop-i.i) c.index-blocks-i.result.source (label c.index-blocks-i.result) (Ok c.in_ok-block.block) b refl (λ v. refl) c.in_ok-block.ensures.decides in
-    next_source value blocks c.loop-i.labels.blocks c.loop-i.i inside c.loop-i.invariant.made c.blocks-blocks.ensures.lawful.0.sources c.in_ok-block.block outcome.1.source
+    let outcome = decided_here _ c.index-blocks-i.result (block_at blocks c.loop-i.i) c.index-blocks-i.result.source (label c.index-blocks-i.result) (Ok c.in_ok-block.block) b refl (λ v. refl) c.in_ok-block.ensures.decides in
+    next_source _ blocks c.loop-i.labels.blocks c.loop-i.i inside c.loop-i.invariant.made c.blocks-blocks.ensures.lawful.0.sources c.in_ok-block.block outcome.1.source
 
 pub push-requires-clause-few : goal.push-requires-clause-few
 push-requires-clause-few g c =

@@ -21,9 +21,8 @@ overflow_add-saved g c =
     let has = arc_bounds arcs r.arc c.requires.bounds leads.within in
     let least = gain_least r.side (arc_at arcs r.arc) has in
     let most = gain_most r.side (arc_at arcs r.arc) has in
-    let fits : SFits w128 c.gain-saved.result = search rules in
     let size = gain_size arcs x cycle j c.requires.bounds c.loop-j.invariant.walked in
-    rw (to_z-of_z w128 c.gain-saved.result fits) (omega (arith, ints, size.0, size.1, c.loop-j.invariant.saved, gains, least, most, c.loop-j-test.true, c.if-count-nodes.false, c.requires.node_limit, c.nodes.ensures))
+    rw (to_z-of_z w128 c.gain-saved.result (search rules)) (omega (arith, ints, size.0, size.1, c.loop-j.invariant.saved, gains, least, most, c.loop-j-test.true, c.if-count-nodes.false, c.requires.node_limit, c.nodes.ensures))
 
 pub loop-j-preserved : goal.loop-j-preserved
 loop-j-preserved g c =

@@ -33,6 +33,5 @@ returns g c =
     let arcs : Clear (claim_row value.arcs claim) = rw c.network-network.ensures.arcs at c.in_ok-arcs_hold.ensures in
     let nodes : Clear (reach_row value c.args.source claim) = rw (c.network-network.ensures.nodes, c.network-network.ensures.arcs, c.in_ok-tree.ensures.source) at c.in_ok-nodes_hold.ensures in
     let whole : IsWholeTightTree value.nodes value.arcs claim tree.block (value_of tree.reached) = rw (c.network-network.ensures.nodes, c.network-network.ensures.arcs) at c.in_ok-tree.ensures.tree in
-    let source = c.in_ok-tree.ensures.source in
-    let all = reaches_all value c.args.source claim tree.block (value_of tree.reached) nodes source whole in
-    rw c.into_block.ensures (certified value c.args.source claim tree.block (value_of tree.reached) c.network-network.ensures.lawful.joined source whole.tree all arcs)
+    let all = reaches_all value c.args.source claim tree.block (value_of tree.reached) nodes c.in_ok-tree.ensures.source whole in
+    rw c.into_block.ensures (certified value c.args.source claim tree.block (value_of tree.reached) c.network-network.ensures.lawful.joined c.in_ok-tree.ensures.source whole.tree all arcs)

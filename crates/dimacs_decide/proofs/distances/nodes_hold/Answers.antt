@@ -14,14 +14,13 @@ loop-v-preserved g c =
     let nodes = g.N.Network.node_count c.args.network.now in
     let row = reach_row (record { nodes = nodes; arcs = g.N.Network.list c.args.network.now }) c.args.tree.now.block.source (g.C.DistanceClaim.claimed c.args.claim.now) in
     let v = c.loop-v.v in
-    let next = c.next-v.ensures in
     let here : ClearBelow row (v + 1) = node_clear_more nodes _ v c.loop-v.invariant.clear (elim c.else-is_some.branch [
       | else-is_some-via-then-is_some+else-not-reaches w ↦ λ reason f. f.2 (c.requires.tree.tree.walks v (sym w.reaches.ensures ∙ w.if-not-reaches.false))
       | else-is_some-via-else-is_some w ↦ λ reason f. (let e : true ≡ false = sym f.1 ∙ (ap is_some (sym c.of.ensures.claimed) ∙ (sym c.is_some.ensures ∙ w.if-is_some.false)) in cc)
     ]) in
     record {
-      low = omega (arith, next.onward);
-      clear = skipped _ (ClearBelow row) _ _ _ next (λ u least below none clear. node_clear_more nodes _ u clear (λ reason f. (let e : true ≡ false = sym f.1 ∙ ap is_some none in cc))) here;
+      low = omega (arith, c.next-v.ensures.onward);
+      clear = skipped _ (ClearBelow row) _ _ _ c.next-v.ensures (λ u least below none clear. node_clear_more nodes _ u clear (λ reason f. (let e : true ≡ false = sym f.1 ∙ ap is_some none in cc))) here;
     }
 
 pub returns : goal.returns

@@ -13,25 +13,21 @@ overflow_add-sum c =
     let id = c.loop-id.id in
     let imbalance = value_of c.args.imbalance.now in
     let sum = to_z w128 c.loop-id.sum-bits in
-    let fits : SFits w128 c.excess_of-sum.result = search rules in
-    let fits_got : SFits w128 c.get.result = search rules in
-    let more : c.excess_of-sum.result ≡ pos (positive_part (imbalance id)) = rw (to_z-of_z w128 c.get.result fits_got, c.get.ensures.value) at c.excess_of-sum.ensures in
+    let more : c.excess_of-sum.result ≡ pos (positive_part (imbalance id)) = rw (to_z-of_z w128 c.get.result (search rules), c.get.ensures.value) at c.excess_of-sum.ensures in
     let next = excess_more imbalance id sum c.loop-id.invariant.low (c.requires.sizes id) c.loop-id.invariant.is in
-    rw (to_z-of_z w128 c.excess_of-sum.result fits) (omega (arith, ints, more, next.least, next.most, c.loop-id-test.true, c.requires.node_limit))
+    rw (to_z-of_z w128 c.excess_of-sum.result (search rules)) (omega (arith, ints, more, next.least, next.most, c.loop-id-test.true, c.requires.node_limit))
 
 pub loop-id-preserved : goal.loop-id-preserved
 loop-id-preserved c =
     let id = c.loop-id.id in
     let imbalance = value_of c.args.imbalance.now in
     let sum = to_z w128 c.loop-id.sum-bits in
-    let fits : SFits w128 c.excess_of-sum.result = search rules in
-    let fits_got : SFits w128 c.get.result = search rules in
-    let more : c.excess_of-sum.result ≡ pos (positive_part (imbalance id)) = rw (to_z-of_z w128 c.get.result fits_got, c.get.ensures.value) at c.excess_of-sum.ensures in
+    let more : c.excess_of-sum.result ≡ pos (positive_part (imbalance id)) = rw (to_z-of_z w128 c.get.result (search rules), c.get.ensures.value) at c.excess_of-sum.ensures in
     let next = excess_more imbalance id sum c.loop-id.invariant.low (c.requires.sizes id) c.loop-id.invariant.is in
     let fits_sum : SFits w128 (sum +ℤ c.excess_of-sum.result) = omega (arith, ints, more, next.least, next.most, c.loop-id-test.true, c.requires.node_limit) in
     let skip = c.next_nonzero-id.ensures in
     record {
       low = omega (arith, skip.onward);
       within = skip.within;
-      is = excess_skipped imbalance _ _ _ _ (omega arith) skip (rw (to_z-of_z w128 c.excess_of-sum.result fits, to_z-of_z w128 (sum +ℤ c.excess_of-sum.result) fits_sum, more) next);
+      is = excess_skipped imbalance _ _ _ _ (omega arith) skip (rw (to_z-of_z w128 c.excess_of-sum.result (search rules), to_z-of_z w128 (sum +ℤ c.excess_of-sum.result) fits_sum, more) next);
     }

@@ -16,9 +16,7 @@ overflow_add-height g c =
     let is : arc_at arcs c.args.parent_arc ≡ c.arc-arc.result = get_or_from_slice_get arcs c.args.parent_arc c.arc-arc.result no_arc c.arc-arc.ensures in
     let has : HasBounds c.arc-arc.result = subst HasBounds is (arc_bounds arcs c.args.parent_arc c.requires.bounds c.requires.parent_arc) in
     let height : c.get.result.height ≡ height_of (value_of c.args.labels.now) c.end_of.result = ap (λ (l : HeightLabel). l.height) c.get.ensures.value in
-    let fits_height : SFits w128 c.get.result.height = search rules in
-    let fits_gain : SFits w128 c.gain.result = search rules in
-    rw (to_z-of_z w128 c.get.result.height fits_height, to_z-of_z w128 c.gain.result fits_gain) (omega (arith, ints, height, c.gain.ensures, c.requires.not_negative c.end_of.result, c.requires.bounded c.end_of.result, gain_most c.args.side c.arc-arc.result has, gain_least c.args.side c.arc-arc.result has))
+    rw (to_z-of_z w128 c.get.result.height (search rules), to_z-of_z w128 c.gain.result (search rules)) (omega (arith, ints, height, c.gain.ensures, c.requires.not_negative c.end_of.result, c.requires.bounded c.end_of.result, gain_most c.args.side c.arc-arc.result has, gain_least c.args.side c.arc-arc.result has))
 
 pub returns-then-height-get : goal.returns-then-height-get
 returns-then-height-get g c =
@@ -31,10 +29,8 @@ returns-then-height-get g c =
     let gain : c.gain.result ≡ gain_at c.args.side (arc_at arcs c.args.parent_arc) = c.gain.ensures ∙ ap (gain_at c.args.side) (sym is) in
     let from : c.get.result.height ≡ height_of labels (end_of c.args.side (arc_at arcs c.args.parent_arc)) = ap (λ (l : HeightLabel). l.height) c.get.ensures.value ∙ ap (height_of labels) near in
     let to : c.get-2.result.height ≡ height_of labels (other_end c.args.side (arc_at arcs c.args.parent_arc)) = ap (λ (l : HeightLabel). l.height) c.get-2.ensures.value ∙ ap (height_of labels) far in
-    let fits_height : SFits w128 c.get.result.height = search rules in
-    let fits_gain : SFits w128 c.gain.result = search rules in
     let fits_sum : SFits w128 (c.get.result.height +ℤ c.gain.result) = omega (arith, ints, from, c.gain.ensures, c.requires.not_negative (end_of c.args.side (arc_at arcs c.args.parent_arc)), c.requires.bounded (end_of c.args.side (arc_at arcs c.args.parent_arc)), gain_most c.args.side c.arc-arc.result has, gain_least c.args.side c.arc-arc.result has) in
-    let low = rw (to_z-of_z w128 c.get.result.height fits_height, to_z-of_z w128 c.gain.result fits_gain) at c.if-height-get.true in
+    let low = rw (to_z-of_z w128 c.get.result.height (search rules), to_z-of_z w128 c.gain.result (search rules)) at c.if-height-get.true in
     (λ v. refl, λ residual_capacity. omega (arith, ints, from, to, gain, low, fits_sum))
 
 pub returns : goal.returns
@@ -49,11 +45,9 @@ returns g c =
     let gain : c.gain.result ≡ gain_at c.args.side (arc_at arcs k) = c.gain.ensures ∙ ap (gain_at c.args.side) (sym is) in
     let from : c.get.result.height ≡ height_of labels (end_of c.args.side (arc_at arcs k)) = ap (λ (l : HeightLabel). l.height) c.get.ensures.value ∙ ap (height_of labels) near in
     let to : c.get-2.result.height ≡ height_of labels (other_end c.args.side (arc_at arcs k)) = ap (λ (l : HeightLabel). l.height) c.get-2.ensures.value ∙ ap (height_of labels) far in
-    let fits_height : SFits w128 c.get.result.height = search rules in
-    let fits_gain : SFits w128 c.gain.result = search rules in
-    let more = rw (to_z-of_z w128 c.get.result.height fits_height, to_z-of_z w128 c.gain.result fits_gain) at c.if-height-get.false in
+    let more = rw (to_z-of_z w128 c.get.result.height (search rules), to_z-of_z w128 c.gain.result (search rules)) at c.if-height-get.false in
     let fits_sum : SFits w128 (c.get.result.height +ℤ c.gain.result) = omega (arith, ints, from, c.gain.ensures, c.requires.not_negative (end_of c.args.side (arc_at arcs k)), c.requires.bounded (end_of c.args.side (arc_at arcs k)), gain_most c.args.side c.arc-arc.result has, gain_least c.args.side c.arc-arc.result has) in
-    let set : value_of c.set.new.self (other_end c.args.side (arc_at arcs k)) ≡ record { height = c.get.result.height +ℤ c.gain.result; arc_number = k + 1; side = c.args.side } = rw (far, to_z-of_z w128 c.get.result.height fits_height, to_z-of_z w128 c.gain.result fits_gain, to_z-of_z w128 (c.get.result.height +ℤ c.gain.result) fits_sum) at c.in_ok-set.ensures.set in
+    let set : value_of c.set.new.self (other_end c.args.side (arc_at arcs k)) ≡ record { height = c.get.result.height +ℤ c.gain.result; arc_number = k + 1; side = c.args.side } = rw (far, to_z-of_z w128 c.get.result.height (search rules), to_z-of_z w128 c.gain.result (search rules), to_z-of_z w128 (c.get.result.height +ℤ c.gain.result) fits_sum) at c.in_ok-set.ensures.set in
     let sum = ap (λ (l : HeightLabel). l.height) set in
     record {
       residual_capacity = omega (arith, ints, c.if-residual_capacity_from-le0.false, c.residual_capacity_from.ensures);

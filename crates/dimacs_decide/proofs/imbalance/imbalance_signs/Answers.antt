@@ -10,19 +10,14 @@ loop-id-init c = record { low = omega arith; within = omega arith; are = signs_n
 pub loop-id-preserved : goal.loop-id-preserved
 loop-id-preserved c =
     let imbalance = value_of c.args.imbalance.now in
-    let nodes = c.args.nodes in
     let id = c.loop-id.id in
-    let is = c.get-amount.ensures.value in
-    let no = c.if-amount-gt0.false in
     let low = c.loop-id.invariant.low in
     let skip = c.next_nonzero-id.ensures in
     elim c.if-amount-lt0.branch [
       | then-amount-lt0 w ↦
-          let yes_is = w.if-amount-lt0.true in
-          let less : imbalance id <ℤ pos 0 = omega (arith, ints, is, yes_is) in
-          record { low = omega (arith, skip.onward); within = skip.within; are = rw w.signs-is (signs_skipped nodes _ _ _ imbalance _ skip (signs_deficit nodes id imbalance c.loop-id.signs c.loop-id.invariant.are (low, omega arith) less)) }
+          let less : imbalance id <ℤ pos 0 = omega (arith, ints, c.get-amount.ensures.value, w.if-amount-lt0.true) in
+          record { low = omega (arith, skip.onward); within = skip.within; are = rw w.signs-is (signs_skipped _ _ _ _ imbalance _ skip (signs_deficit _ id imbalance c.loop-id.signs c.loop-id.invariant.are (low, omega arith) less)) }
       | else-amount-lt0 w ↦
-          let none = w.if-amount-lt0.false in
-          let even : imbalance id ≡ pos 0 = omega (arith, ints, is, no, none) in
-          record { low = omega (arith, skip.onward); within = skip.within; are = rw w.signs-is (signs_skipped nodes _ _ _ imbalance _ skip (signs_even nodes id imbalance c.loop-id.signs c.loop-id.invariant.are even)) }
+          let even : imbalance id ≡ pos 0 = omega (arith, ints, c.get-amount.ensures.value, c.if-amount-gt0.false, w.if-amount-lt0.false) in
+          record { low = omega (arith, skip.onward); within = skip.within; are = rw w.signs-is (signs_skipped _ _ _ _ imbalance _ skip (signs_even _ id imbalance c.loop-id.signs c.loop-id.invariant.are even)) }
     ]

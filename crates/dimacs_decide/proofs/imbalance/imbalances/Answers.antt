@@ -17,14 +17,11 @@ new-requires-clause-one_each g c = rw c.network-network.ensures.arcs (AllZip-lon
 pub overflow_sub-imbalance : goal.overflow_sub-imbalance
 overflow_sub-imbalance g c =
     let i = c.args.instance.now in
-    let law = c.network-network.ensures.lawful in
-    let size = net_size i.arcs c.args.flow.now c.loop-id.id law.bounds c.requires in
+    let size = net_size i.arcs c.args.flow.now c.loop-id.id c.network-network.ensures.lawful.bounds c.requires in
     let is : c.of.result ≡ net i.arcs c.args.flow.now c.loop-id.id = rw (c.of.ensures, c.in_ok-balances.ensures c.loop-id.id, c.network-network.ensures.arcs) (search rules) in
-    let fits : SFits w128 c.of.result = search rules in
-    let fits_from : SFits w128 c.from.result = search rules in
     let fits_supply : SFits w64 c.supply.result = search rules in
     let from = c.from.ensures ∙ to_z-of_z w64 c.supply.result fits_supply in
-    rw (to_z-of_z w128 c.of.result fits, to_z-of_z w128 c.from.result fits_from) (omega (arith, ints, is, size, from, fits_supply, law.arcs_few))
+    rw (to_z-of_z w128 c.of.result (search rules), to_z-of_z w128 c.from.result (search rules)) (omega (arith, ints, is, size, from, fits_supply, c.network-network.ensures.lawful.arcs_few))
 
 pub loop-id-init : goal.loop-id-init
 loop-id-init g c = record {
@@ -45,14 +42,12 @@ loop-id-preserved g c =
     let law = c.network-network.ensures.lawful in
     let size = net_size i.arcs x id law.bounds c.requires in
     let is : c.of.result ≡ net i.arcs x id = rw (c.of.ensures, c.in_ok-balances.ensures id, c.network-network.ensures.arcs) (search rules) in
-    let fits : SFits w128 c.of.result = search rules in
-    let fits_from : SFits w128 c.from.result = search rules in
     let fits_supply : SFits w64 c.supply.result = search rules in
     let from = c.from.ensures ∙ to_z-of_z w64 c.supply.result fits_supply in
     let fits_all : SFits w128 (c.from.result -ℤ c.of.result) = omega (arith, ints, is, size, from, fits_supply, law.arcs_few) in
     let imbalance : c.from.result -ℤ c.of.result ≡ imbalance_at i x id = omega (arith, ints, is, from, c.supply.ensures) in
     let small : IsOfSize (2 ^ 99) (c.from.result -ℤ c.of.result) = (omega (arith, ints, is, size, from, fits_supply, law.arcs_few), omega (arith, ints, is, size, from, fits_supply, law.arcs_few)) in
-    let outcome = rw (to_z-of_z w128 c.from.result fits_from, to_z-of_z w128 c.of.result fits, to_z-of_z w128 (c.from.result -ℤ c.of.result) fits_all) at c.is_unbalanced.ensures in
+    let outcome = rw (to_z-of_z w128 c.from.result (search rules), to_z-of_z w128 c.of.result (search rules), to_z-of_z w128 (c.from.result -ℤ c.of.result) fits_all) at c.is_unbalanced.ensures in
     let later = c.later_supply-supplied.ensures in
     let next = c.next-id.ensures in
     let skip : Skips (λ v. net i.arcs x v ≡ pos 0) (id + 1) c.later_supply-supplied.result c.next-id.result =
@@ -61,7 +56,7 @@ loop-id-preserved g c =
     elim c.if-is_unbalanced.branch [
       | then-is_unbalanced+in_ok-set w ↦
           let new = value_of w.set.new.self in
-          let here : new id ≡ c.from.result -ℤ c.of.result = rw (to_z-of_z w128 c.from.result fits_from, to_z-of_z w128 c.of.result fits, to_z-of_z w128 (c.from.result -ℤ c.of.result) fits_all) at w.in_ok-set.ensures.set in
+          let here : new id ≡ c.from.result -ℤ c.of.result = rw (to_z-of_z w128 c.from.result (search rules), to_z-of_z w128 c.of.result (search rules), to_z-of_z w128 (c.from.result -ℤ c.of.result) fits_all) at w.in_ok-set.ensures.set in
           rw w.table-is record {
             supplied = record { onward = next.within; within = later.within; blank = λ v from below. later.blank v (omega (arith, next.onward, from)) below };
             are = past new (imbalances_more i x id old new c.loop-id.invariant.are (here ∙ imbalance) w.in_ok-set.ensures.others);

@@ -15,9 +15,8 @@ pub returns-in-Some : goal.returns-in-Some
 returns-in-Some g c = λ yes.
     let i = c.args.instance.now in
     let p = c.args.potentials.now in
-    let slack = c.in-Some.ensures.1.slack in
     let nodes : p.nodes ≡ i.nodes = sym c.nodes.ensures.nodes ∙ c.if-nodes.false ∙ c.nodes-2.ensures ∙ c.network.ensures.nodes in
-    (slack_is_least i c.network.ensures.lawful.joined c.args.flow.now (potential_of p) c.requires slack, slack, nodes)
+    (slack_is_least i c.network.ensures.lawful.joined c.args.flow.now (potential_of p) c.requires c.in-Some.ensures.1.slack, c.in-Some.ensures.1.slack, nodes)
 
 pub returns : goal.returns
 returns g c = λ ok.

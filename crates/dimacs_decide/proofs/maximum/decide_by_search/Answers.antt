@@ -23,11 +23,10 @@ returns-in-Sent g c =
 pub returns : goal.returns
 returns g c =
     let i = c.args.instance.now in
-    let law = c.network-network.ensures.lawful in
     let search = c.in_ok-search.search in
     let imbalance = value_of search.imbalance in
     let ends : AreEnds i.source i.sink imbalance = rw (c.source.ensures, c.sink.ensures) at c.in_ok-search.ensures.ends in
     let begun : 0 < rank_of (value_of search.visits) i.source = rw c.source.ensures at c.in_ok-search.ensures.reached in
     let stuck : IsStuck i.nodes i.arcs c.args.flow.now imbalance (λ v. 0 < rank_of (value_of search.visits) v) c.in-Stuck.cut = rw (c.network-network.ensures.nodes, c.network-network.ensures.arcs, c.in-Stuck.is) at c.in_ok-better.ensures in
-    let (best, tight) = stuck_tells i c.args.flow.now imbalance law c.requires ends (members c.in-Stuck.cut) stuck.shut (stuck.has i.source law.source_within begun) in
+    let (best, tight) = stuck_tells i c.args.flow.now imbalance c.network-network.ensures.lawful c.requires ends (members c.in-Stuck.cut) stuck.shut (stuck.has i.source c.network-network.ensures.lawful.source_within begun) in
     (best, tight, stuck.of)

@@ -9,7 +9,5 @@ value_if_shown-requires g c = omega (arith, AllZip-long _ _ _ c.requires.within)
 pub returns-in-Some : goal.returns-in-Some
 returns-in-Some g c = λ yes.
     let i = c.args.instance.now in
-    let law = c.network.ensures.lawful in
-    let tight = c.in-Some.ensures.1.tight in
     let nodes : c.args.cut.now.nodes ≡ i.nodes = sym c.nodes.ensures ∙ c.if-nodes.false ∙ c.nodes-2.ensures ∙ c.network.ensures.nodes in
-    (tight_is_maximum i law.joined law.source_within c.args.flow.now (members c.args.cut.now) c.requires tight, tight, nodes)
+    (tight_is_maximum i c.network.ensures.lawful.joined c.network.ensures.lawful.source_within c.args.flow.now (members c.args.cut.now) c.requires c.in-Some.ensures.1.tight, c.in-Some.ensures.1.tight, nodes)

@@ -12,10 +12,9 @@ returns-then-nodes g c =
     let i = c.args.instance.now in
     let set = members c.args.cut.now in
     let rows = cut_rows i set c.args.flow.now in
-    let law = c.network.ensures.lawful in
     let nodes : c.args.cut.now.nodes ≡ i.nodes = sym c.nodes.ensures ∙ c.if-nodes.true ∙ c.nodes-2.ensures ∙ c.network.ensures.nodes in (
       λ ok.
           let tight = holds rows c.cut_tests.result c.cut_tests.ensures (sym c.is_ok.ensures.value ∙ ok) in
-          (tight_is_maximum i law.joined law.source_within c.args.flow.now set c.requires tight, tight, nodes),
+          (tight_is_maximum i c.network.ensures.lawful.joined c.network.ensures.lawful.source_within c.args.flow.now set c.requires tight, tight, nodes),
       λ decided. c.is_ok.ensures.value ∙ passes rows c.cut_tests.result c.cut_tests.ensures decided.1,
     )

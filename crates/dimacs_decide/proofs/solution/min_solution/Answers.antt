@@ -1,4 +1,4 @@
-use Rattle.std.proofs.{Common.{rules, ◌≡◌, refl, sym, SFits}, lemmas.Int.{to_z-of_z}, lemmas.Slice.Zip.{AllZip-long}}
+use Rattle.std.proofs.{Common.{rules, ◌≡◌, refl, sym}, lemmas.Int.{to_z-of_z}, lemmas.Slice.Zip.{AllZip-long}}
 use Rattle.std.specs.Int.{w128}
 use Rattle.dimacs_judging.specs.{Claims.{Carries}, Flows.{cost}, FlowTests.{cost_row}, Tests.{Clear}}
 use Rattle.dimacs_decide.specs.Entries.{AreEntriesOf}
@@ -17,11 +17,10 @@ returns-clause-some g c =
     let i = c.args.instance.now in
     let x = c.args.flow.now in
     let es = c.in_ok-entries.entries.items in
-    let fits : SFits w128 c.in-Ok.value = search rules in
     let outcome : (c.in-Ok.value ≡ cost i.arcs x) × Clear (cost_row i.arcs x) = rw c.network-network.ensures.arcs at c.in-Ok.ensures in
     let all : AreEntriesOf i.arcs es = rw c.network-network.ensures.arcs at c.in_ok-entries.ensures.all in
     let carries : Carries i.arcs es x = rw (← c.in_ok-entries.ensures.flows) (carried i.arcs es all) in
-    rw (to_z-of_z w128 c.in-Ok.value fits) (
+    rw (to_z-of_z w128 c.in-Ok.value (search rules)) (
       record { value_first = refl; all_arcs = all },
       record { carries = carries; feasible = c.requires; costs_wide = costs_wide i.arcs x outcome.1; cost_is = sym outcome.0 },
     )

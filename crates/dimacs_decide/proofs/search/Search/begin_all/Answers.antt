@@ -9,7 +9,6 @@ pub loop-id-preserved : goal.loop-id-preserved
 loop-id-preserved c =
     let imbalance = value_of c.args.self.now.imbalance in
     let visits = value_of c.loop-id.self.visits in
-    let queue = c.loop-id.self.queue.items in
     let id = c.loop-id.id in
     let nodes = c.args.nodes in
     let now = c.loop-id.invariant in
@@ -33,7 +32,7 @@ loop-id-preserved c =
             ];
             none = λ v h. b.others v (λ e. omega (arith, e, h, skip.onward)) ∙ now.none v (omega (arith, h, skip.onward));
             search = λ arcs x was.
-                let before = subst (λ (s : ℕ → ℤ). IsResidualSearch nodes arcs x s visits queue 0) (sym same) (now.search arcs x was) in
+                let before = subst (λ (s : ℕ → ℤ). IsResidualSearch nodes arcs x s visits c.loop-id.self.queue.items 0) (sym same) (now.search arcs x was) in
                 subst (λ (s : ℕ → ℤ). IsResidualSearch nodes arcs x s (value_of w.begin.new.self.visits) w.begin.new.self.queue.items 0) same (b.search nodes arcs x (low, omega arith) before);
           }
       | else-get-gt0 w ↦

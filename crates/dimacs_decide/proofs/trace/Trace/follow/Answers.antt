@@ -22,11 +22,10 @@ loop-self-smaller g c =
     let path = c.loop-self.self.path.items in
     let places = value_of c.loop-self.self.places in
     let at = c.loop-self.at in
-    let is = c.loop-self.invariant.following in
     let none : places at ≡ 0 = sym c.get.ensures.value ∙ c.loop-self-test.true in
     let longer : c.push.new.self.items ≡ path ++ at ∷ [] = c.in_ok-push.ensures.items in
     let here : value_of c.set.new.self at ≡ length path + 1 = c.in_ok-set.ensures.set ∙ c.len.ensures ∙ c.push.new.self.ok.0 ∙ ap length longer ∙ length-append path (at ∷ []) in
-    let fewer = one_zero_fewer places (value_of c.set.new.self) at c.in_ok-set.ensures.others (nodes + 1) (omega (arith, is.inside)) none (omega (arith, here)) in
+    let fewer = one_zero_fewer places (value_of c.set.new.self) at c.in_ok-set.ensures.others (nodes + 1) (omega (arith, c.loop-self.invariant.following.inside)) none (omega (arith, here)) in
     omega (arith, fewer)
 
 pub loop-self-preserved : goal.loop-self-preserved
