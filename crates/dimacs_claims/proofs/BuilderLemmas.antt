@@ -1,7 +1,7 @@
 -- One more record of labels while their text is read.
 use Rattle.std.proofs.Common.{◌≡◌, ℕ, zero, suc, ◌<◌, ◌≤◌, ◌+◌, ◌-◌, ◌∷◌, ◌++◌, [], List, Bool, true, false, inl, inr, Option, Some, None, length, drop, take, take_all, map, add-one, drop-cons, refl, ap, ap₂, sym, ◌∙◌, subst, arith, append_assoc}
 use Rattle.std.proofs.{Math.Seq.{get_or-append_seam, set-append_seam}, lemmas.List.Folds.{list_any-append}}
-use Rattle.std.proofs.lemmas.Bool.{cases_eq, eq-eqb, le-leb, leb-false, lt-leb, ltb-false, ne_eqb, not-false, or_parts}
+use Rattle.std.proofs.lemmas.Bool.{cases_eq, false_from_ne_true, eq-eqb, le-leb, leb-false, lt-leb, ltb-false, ne_eqb, not-false, or_parts}
 use Rattle.std.proofs.lemmas.List.{drop_all, length-append, length-map, take-append-le}
 use Rattle.std.proofs.lemmas.List.Elements.{All-pop, All-push, All-nil}
 use Rattle.std.specs.Prelude.{ℤ, IfSome, ◌&&◌, ◌||◌, if◌then◌else◌, not, pos, is_some, is_none, nat_le, slice_get, slice_index_or, slice_set, ◌==◌}
@@ -261,11 +261,7 @@ removed_more labels i nodes inside have id there =
 
 pub removed_all : (labels : List Label) (n : ℕ) (nodes : FinSet nat_cmp) → length labels ≤ n → ((id : ℕ) → contains nodes id ≡ true → is_some (distance_in (drop n labels) id) ≡ true) → nodes ≡ set.empty
 removed_all labels n nodes past have =
-    same_set nat_cmp_total nat_cmp-IsAntisymmetric _ _ (λ id. absent (contains nodes id) (λ there. sym (ap (λ ls. is_some (distance_in ls id)) (drop_all n labels past)) ∙ have id there) ∙ sym (contains-empty id))
-  where
-    absent : (t : Bool) → (t ≡ true → false ≡ true) → t ≡ false
-    absent true none = absurd (cc (none refl))
-    absent false none = refl
+    same_set nat_cmp_total nat_cmp-IsAntisymmetric _ _ (λ id. false_from_ne_true (contains nodes id) (λ there. cc (ap (λ ls. is_some (distance_in ls id)) (drop_all n labels past), have id there)) ∙ sym (contains-empty id))
 
 pub unlabelled : (x : Option ℤ) → is_some x ≡ false → x ≡ None
 unlabelled None e = refl

@@ -1,6 +1,6 @@
 -- Lists of IDs, and the IDs from 1 on that pass a test.
 use Rattle.std.proofs.Common.{◌≡◌, inl, inr, ℕ, zero, suc, ◌<◌, ◌≤◌, ◌+◌, ◌-◌, ◌==◌, ◌||◌, ◌&&◌, List, [], ◌∷◌, ◌++◌, length, map, Option, Some, None, Bool, true, false, cond, refl, sym, ◌∙◌, ap, arith, rules}
-use Rattle.std.proofs.{lemmas.Bool.{and_right, eqb-true, cases_lt, cond_both}, lemmas.Bool.Decides.{nat_tests}}
+use Rattle.std.proofs.{lemmas.Bool.{and_right, eqb-true, cases_lt, cond_both, true_from_ne_false}, lemmas.Bool.Decides.{nat_tests}}
 use Rattle.std.proofs.{lemmas.List.{append-nil, map-append}, lemmas.List.Elements.{filter-append, All-nil, All-cons}}
 use Rattle.std.specs.{Prelude.{count_by}, List.{All, filter, list_any, range_with_len}}
 use Rattle.dimacs_records.specs.{declared.records.Record.{Record}, Canonical.{AreLines, records_of_line}}
@@ -127,11 +127,7 @@ listed_passing p id (x ∷ xs) = by_tests (x == id) (p x) refl refl (listed_pass
     by_tests false false apart e rest = rest
 
 some_listed : (id : ℕ) (xs : List ℕ) → count_by (is_id id) xs ≡ 1 → list_any (is_id id) xs ≡ true
-some_listed id xs one = by_test (list_any (is_id id) xs) refl
-  where
-    by_test : (b : Bool) → list_any (is_id id) xs ≡ b → b ≡ true
-    by_test true e = refl
-    by_test false e = absurd (omega (arith, one, none_counted (is_id id) xs e))
+some_listed id xs one = true_from_ne_false (list_any (is_id id) xs) (λ none. omega (arith, one, none_counted (is_id id) xs none))
 
 -- if only IDs from 1 to n pass, the list has exactly those that pass
 pub passing_listed : (p : ℕ → Bool) (n id : ℕ) → (p id ≡ true → (1 ≤ id) × (id ≤ n)) → list_any (is_id id) (passing p n) ≡ p id
