@@ -9,10 +9,9 @@ use Rattle.dimacs_claims.proofs.solution.read_solution.Goals as goal
 
 pub returns-clause-reads : goal.returns-clause-reads
 returns-clause-reads g c = λ text coming.
-    let placed = c.in_ok-placed.placed in
     let read = c.in_ok-placed.ensures.reads text coming in
-    let same = kept_solution (λ w. w.value) (λ w. w.value_line) (λ w. w.place.items) read.answer placed read.alike in
-    rw (to_z-of_z w128 placed.value (search rules)) (subst (λ (noted : Result SolutionValue ReadError). Reads (SpellsSolution text) (Fault Solution (lines text)) noted) same read.reads)
+    let same = kept_solution (λ w. w.value) (λ w. w.value_line) (λ w. w.place.items) read.answer _ read.alike in
+    rw (to_z-of_z w128 c.in_ok-placed.placed.value (search rules)) (subst (λ (noted : Result SolutionValue ReadError). Reads (SpellsSolution text) (Fault Solution (lines text)) noted) same read.reads)
 
 pub returns-clause-lawful : goal.returns-clause-lawful
 returns-clause-lawful g c =

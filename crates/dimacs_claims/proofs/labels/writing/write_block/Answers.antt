@@ -8,9 +8,8 @@ pub returns : goal.returns
 returns g c = λ start text h.
     let kind = c.args.kind in
     let block = c.args.block.now in
-    let labels = c.labels-labels.result.now in
     let first = in_kind kind (LabelsBlock block.source (length block.labels) block.radius) in
     let n = c.len.result in
-    lines_after start _ _ text (first ∷ []) (take n (map (line_in_kind kind) labels)) (map (in_kind kind) (block_lines block)) (rw (all_items (line_in_kind kind) n labels c.len.ensures, c.labels-labels.ensures, ← map-map (in_kind kind) label_line block.labels) refl)
-    (c.write_lines.ensures (λ i. take i (map (line_in_kind kind) labels)) (lines_of_items (line_in_kind kind) _ n labels (omega (arith, c.len.ensures)) (λ i rec within e. e)) start _
+    lines_after start _ _ text (first ∷ []) (take n (map (line_in_kind kind) _)) (map (in_kind kind) (block_lines block)) (rw (all_items (line_in_kind kind) n _ c.len.ensures, c.labels-labels.ensures, ← map-map (in_kind kind) label_line block.labels) refl)
+    (c.write_lines.ensures (λ i. take i (map (line_in_kind kind) _)) (lines_of_items (line_in_kind kind) _ n _ (omega (arith, c.len.ensures)) (λ i rec within e. e)) start _
     (line_after start _ _ text first (rw (c.in_kind.ensures, c.source-source.ensures, c.radius-radius.ensures, c.len-count.ensures, c.labels-labels.ensures) at (c.write_record.ensures start text h))))

@@ -16,13 +16,12 @@ overflow_sub-self c =
 pub invariant_of-self-in_default : goal.invariant_of-self-in_default
 invariant_of-self-in_default c =
     let inside = c.self.inside in
-    let l = c.args.label in
     let begun : LabelsBegun = record { nodes = inside.nodes; declared = inside.declared; missing = inside.missing; blocks = inside.blocks.items } in
-    let fit = fits begun l (passes_of begun _ (label_line l) c.self.view_is c.requires.passes) in
+    let fit = fits begun _ (passes_of begun _ (label_line _) c.self.view_is c.requires.passes) in
     rw (c.in_default.ensures.unchanged, c.remove.ensures, c.in_ok-insert.ensures.inserted) (
       c.self.invariant.0,
       c.self.invariant.1,
-      labelled_again inside.labelled begun.blocks fit.front fit.b l.id fit.is fit.fresh c.self.invariant.2,
+      labelled_again inside.labelled begun.blocks fit.front fit.b c.args.label.id fit.is fit.fresh c.self.invariant.2,
     )
 
 pub invariant_of-self-2 : goal.invariant_of-self-2
