@@ -1,7 +1,7 @@
 -- A table as a map.
 use Rattle.std.proofs.Common.{◌≡◌, ◌≢◌, inl, inr, ℕ, zero, suc, ◌*◌, ◌/◌, ◌<◌, ◌≤◌, length, Option, None, Some, IsSome, refl, sym, ◌∙◌, ap, arith}
-use Rattle.std.proofs.{lemmas.Bool.{cases_eq, cases_lt}, lemmas.Int.{ints}, lemmas.List.{get_or_past}}
-use Rattle.std.specs.{Prelude.{ℤ, ◌<ℤ◌, int_lt, Bool, true, false, Result, Ok, Err, OnOk}, Bool.{then_some}}
+use Rattle.std.proofs.{lemmas.Bool.{cases_eq, cases_lt, true_from_ne_false}, lemmas.Int.{ints}, lemmas.List.{get_or_past}}
+use Rattle.std.specs.{Prelude.{ℤ, ◌<ℤ◌, int_lt, Result, Ok, Err, OnOk}, Bool.{then_some}}
 use Rattle.std.specs.{Ordering.{nat_cmp}, Cmp.{nat_cmp_total}}
 use Rattle.std.specs.FinMap.{FinMap, empty, insert, get, same_map, nat_cmp-IsAntisymmetric}
 use Rattle.dimacs_network.specs.{declared.node_table.NodeTable.{NodeTable}, declared.node_table.TheConstants.{NO_PAGE}}
@@ -86,8 +86,4 @@ pub below_greatest-none : (number : ℤ) → number ≡ greatest → below_great
 below_greatest-none number is = ap below_greatest is
 
 pub below_greatest-some : (number : ℤ) → number <ℤ greatest → below_greatest number ≡ Some number
-below_greatest-some number below = by_test (int_lt number greatest) refl
-  where
-    by_test : (t : Bool) → int_lt number greatest ≡ t → then_some t number ≡ Some number
-    by_test true is = refl
-    by_test false is = absurd (omega (arith, ints, below, is))
+below_greatest-some number below = ap (λ t. then_some t number) (true_from_ne_false (int_lt number greatest) (λ is. omega (arith, ints, below, is)))
