@@ -1,6 +1,6 @@
 -- The value of digits, by places and from the first digit on.
 use Rattle.std.proofs.Common.{◌≡◌, ℕ, zero, suc, ◌+◌, ◌-◌, ◌*◌, ◌/◌, ◌%◌, ◌^◌, ◌<◌, Bool, true, false, cond, eqb, ltb, List, [], ◌∷◌, ◌++◌, length, map, take, replicate, bit_xor, refl, sym, ap, ◌∙◌, arith, lit<, subst, leb-true, ltb-true, lt-ltb, eqb-true, eq-eqb, pow-suc, get_or-take, length-take}
-use Rattle.std.proofs.{lemmas.Bool.{and_parts, agree_below_at}, lemmas.Bool.Decides.{nat_tests}}
+use Rattle.std.proofs.{lemmas.Bool.{and_parts, agree_below_at, false_from_ne_true}, lemmas.Bool.Decides.{nat_tests}}
 use Rattle.std.proofs.lemmas.List.Elements.{All-nil, All-cons, All-head, All-tail, All-weaker}
 use Rattle.std.proofs.lemmas.List.Sums.{prefix_len_passes}
 use Rattle.std.specs.{Prelude.{◌||◌, not}, Char.{is_ascii_digit, IsAsciiDigit}, List.{All, prefix_len, AllPass}}
@@ -79,11 +79,7 @@ AllPass-turned zero (b ∷ ds) small below =
 AllPass-turned (suc j) ds small below = AllPass-turned j ds small below.1
 
 no_digit : (b : ℕ) → has_sixteen b ≡ false → is_ascii_digit b ≡ false
-no_digit b off = by (is_ascii_digit b) refl
-  where
-    by : (t : Bool) → is_ascii_digit b ≡ t → is_ascii_digit b ≡ false
-    by true digit = absurd (let e = digit_has_sixteen b digit in cc)
-    by false digit = digit
+no_digit b off = false_from_ne_true (is_ascii_digit b) (λ digit. let e = digit_has_sixteen b digit in cc)
 
 -- the leading digits end at the first byte without the bit of 16, if all bytes before it are digits
 pub prefix_len-digits : (n : ℕ) (bs : List ℕ) → n ≡ prefix_len has_sixteen bs → AllPass is_ascii_digit (take n bs) → n ≡ prefix_len is_ascii_digit bs

@@ -1,19 +1,15 @@
 -- The first line of a text, and what follows it.
 use Rattle.std.proofs.Common.{◌≡◌, ◌≢◌, ◌+◌, ◌<◌, ◌++◌, ◌∷◌, [], ℕ, suc, List, Option, Some, None, Bool, true, false, length, take, drop, get_or, refl, ap, sym, ◌∙◌, arith, length-append}
-use Rattle.std.proofs.{Math.ListN.{get_or-append}, lemmas.List.{take-append-le, drop-append-le}}
+use Rattle.std.proofs.{Math.ListN.{get_or-append}, lemmas.Bool.{false_from_ne_true}, lemmas.List.{take-append-le, drop-append-le}}
 use Rattle.std.proofs.lemmas.List.Sums.{position_or_len_is, fails_before_first, passes_at_first}
 use Rattle.std.specs.{Prelude.{unwrap_or}, List.{position_or_len, onto_first, before_first, after_first}}
 use Rattle.memchr.specs.Find.{IsFirstByte, is_byte}
 use Rattle.dimacs_lines.specs.Lines.{is_end, lines}
 
-not_true : (b : Bool) → (b ≡ true → ⊥) → b ≡ false
-not_true true h = absurd (h refl)
-not_true false h = refl
-
 -- the place of the first byte 10, or the length
 pub unwrap_or-first_end : (xs : List ℕ) (place : Option ℕ) → IsFirstByte (is_byte 10) xs place → unwrap_or place (length xs) ≡ position_or_len is_end xs
-unwrap_or-first_end xs None h = sym (position_or_len_is is_end xs (length xs) 0 (omega arith) (λ k below. not_true (is_end (get_or xs k 0)) (h k (omega arith) below)) (λ below. absurd (omega arith)))
-unwrap_or-first_end xs (Some n) h = sym (position_or_len_is is_end xs n 0 (omega (arith, h.0.high)) (λ k below. not_true (is_end (get_or xs k 0)) (h.0.before k (omega arith) below)) (λ _. h.1))
+unwrap_or-first_end xs None h = sym (position_or_len_is is_end xs (length xs) 0 (omega arith) (λ k below. false_from_ne_true (is_end (get_or xs k 0)) (h k (omega arith) below)) (λ below. absurd (omega arith)))
+unwrap_or-first_end xs (Some n) h = sym (position_or_len_is is_end xs n 0 (omega (arith, h.0.high)) (λ k below. false_from_ne_true (is_end (get_or xs k 0)) (h.0.before k (omega arith) below)) (λ _. h.1))
 
 -- a line that is whole in a front of the text is the first line of the text
 pub position_or_len-whole : (xs ys : List ℕ) → position_or_len is_end xs < length xs → position_or_len is_end (xs ++ ys) ≡ position_or_len is_end xs
