@@ -1,6 +1,6 @@
 -- The items of a block, label by label.
-use Rattle.std.proofs.Common.{◌≡◌, ◌≢◌, inl, inr, ℕ, ℤ, pos, ◌+◌, ◌-◌, ◌<◌, ◌≤◌, ◌==◌, ◌⊎◌, ◌^◌, List, [], ◌∷◌, ◌++◌, All, length, get_or, map, take, drop, true, false, cond, is_some, Option, None, Some, refl, sym, ap, ◌∙◌, arith}
-use Rattle.std.proofs.{lemmas.Bool.{cases_eq, cases_lt, ne_eqb}, lemmas.Bool.Decides.{eqb_tells}}
+use Rattle.std.proofs.Common.{◌≡◌, ◌≢◌, inl, inr, ℕ, ℤ, pos, ◌+◌, ◌-◌, ◌<◌, ◌≤◌, ◌==◌, ◌⊎◌, ◌^◌, List, [], ◌∷◌, ◌++◌, All, length, get_or, map, take, drop, cond, Some, refl, sym, ap, ◌∙◌, arith}
+use Rattle.std.proofs.{lemmas.Bool.{cases_eq, cases_lt, eq-eqb, ne_eqb}, lemmas.Bool.Decides.{eqb_tells}}
 use Rattle.std.proofs.Math.ListN.{get_or-append}
 use Rattle.std.proofs.lemmas.List.{drop_more, ext_get_or, get_or-append_right, get_or-drop, get_or-set_other, get_or-set_same, get_or-take, length-append, length-drop, length-set, length-take, take-append-drop, take_more}
 use Rattle.std.proofs.lemmas.List.Elements.{All-contains_itself, All-get_or, All-head, All-tail, All-weaker}
@@ -9,7 +9,7 @@ use Rattle.std.specs.{Prelude.{Contains, if◌then◌else◌, slice_set}, List.{
 use Rattle.dimacs_lines.specs.Limits.{IsNode}
 use Rattle.dimacs_claims.specs.declared.block.Label.{Label}
 use Rattle.dimacs_claims.specs.Labels.{BlockValue, IsBlock, IsFresh, IsLabel, label, no_label, with_label}
-use Rattle.dimacs_claims.proofs.BlockLemmas.{fresh_has_none, label-with_label}
+use Rattle.dimacs_claims.proofs.{BlockLemmas.{fresh_has_none, label-with_label}, BuilderLemmas.{unlabelled}}
 use Rattle.dimacs_fill.specs.{BlockFilled.{distances_of, item_of, pred_in, preds_of}, Filling.{filled}}
 
 -- ---- the items of an array that was filled
@@ -61,19 +61,12 @@ module _ {X : Type 0} (f g : ℕ → X) (nodes id : ℕ) (x : X) (old : List X) 
       ext_get_or x (slice_set (filled before old) (id - 1) x) (filled after old) (length-set (filled before old) (id - 1) x ∙ length-filled before old ∙ sym (length-filled after old))
       (λ k inside. at_item k (omega (arith, inside, length-set (filled before old) (id - 1) x, length-filled before old)))
 
-eqb_same : (v : ℕ) → (v == v) ≡ true
-eqb_same v = elim (eqb_tells v v) [ inl same ↦ same.0 | inr apart ↦ absurd (apart.1 refl) ]
-
 -- ---- the first labels of a block
 abbrev pub first_labels : BlockValue → ℕ → BlockValue
 first_labels b n = record { source = b.source; radius = b.radius; labels = take n b.labels }
 
 abbrev pub at_place : List Label → ℕ → Label
 at_place labels n = get_or labels n no_label
-
-none_of : (o : Option ℤ) → is_some o ≡ false → o ≡ None
-none_of None e = refl
-none_of (Some d) e = absurd (cc)
 
 pred_push : (labels : List Label) (l : Label) (v : ℕ) → All (λ (m : Label). m.id ≢ l.id) labels → pred_in (labels ++ l ∷ []) v ≡ cond (l.id == v) l.pred (pred_in labels v)
 pred_push [] l v apart = refl
@@ -95,10 +88,10 @@ module _ (nodes : ℕ) (b : BlockValue) (lawful : IsBlock nodes b) (n : ℕ) (in
   label_next : (v : ℕ) → label (first_labels b (n + 1)) v ≡ cond ((at_place b.labels n).id == v) (Some (at_place b.labels n).dist) (label (first_labels b n) v)
   label_next v =
       ap (λ (c : BlockValue). label c v) next
-      ∙ label-with_label (first_labels b n) (at_place b.labels n) (none_of (label (first_labels b n) (at_place b.labels n).id) (fresh_has_none (first_labels b n) (at_place b.labels n) fresh_at)) v
+      ∙ label-with_label (first_labels b n) (at_place b.labels n) (unlabelled (label (first_labels b n) (at_place b.labels n).id) (fresh_has_none (first_labels b n) (at_place b.labels n) fresh_at)) v
 
   label_here : label (first_labels b (n + 1)) (at_place b.labels n).id ≡ Some (at_place b.labels n).dist
-  label_here = label_next (at_place b.labels n).id ∙ rw (eqb_same (at_place b.labels n).id) refl
+  label_here = label_next (at_place b.labels n).id ∙ rw (eq-eqb (at_place b.labels n).id _ refl) refl
 
   label_there : (v : ℕ) → v ≢ (at_place b.labels n).id → label (first_labels b (n + 1)) v ≡ label (first_labels b n) v
   label_there v apart = label_next v ∙ rw (ne_eqb (at_place b.labels n).id v (λ e. apart (sym e))) refl
@@ -115,7 +108,7 @@ module _ (nodes : ℕ) (b : BlockValue) (lawful : IsBlock nodes b) (n : ℕ) (in
       ∙ pred_push (take n b.labels) (at_place b.labels n) v (All-weaker (Contains (take n b.labels)) (λ (m : Label). m.id ≢ (at_place b.labels n).id) (λ (m : Label) there. fresh_at.1 m there) (take n b.labels) (All-contains_itself (take n b.labels)))
 
   pred_here : pred_in (take (n + 1) b.labels) (at_place b.labels n).id ≡ (at_place b.labels n).pred
-  pred_here = pred_next (at_place b.labels n).id ∙ rw (eqb_same (at_place b.labels n).id) refl
+  pred_here = pred_next (at_place b.labels n).id ∙ rw (eq-eqb (at_place b.labels n).id _ refl) refl
 
   pred_there : (v : ℕ) → v ≢ (at_place b.labels n).id → pred_in (take (n + 1) b.labels) v ≡ pred_in (take n b.labels) v
   pred_there v apart = pred_next v ∙ rw (ne_eqb (at_place b.labels n).id v (λ e. apart (sym e))) refl
