@@ -19,5 +19,5 @@ returns g c =
     let arcs : Clear (claim_row least (label b)) = subst (λ (d : BlockValue). Clear (claim_row least (label d))) c.requires.claimed (c.if-not-leaving_arcs_hold.ensures refl) in
     let is : IsTightTree value.nodes least (label b) tree.block (value_of tree.reached) = subst (λ (d : BlockValue). IsTightTree value.nodes least (label d) tree.block (value_of tree.reached)) c.requires.claimed (rw c.requires.nodes at c.in_ok-tree.ensures.tree.tree) in
     let shown = certified value b.source (label b) tree.block (value_of tree.reached) c.requires.graph.joined (c.in_ok-tree.ensures.source ∙ c.source-source.ensures) (lightest_tree value.arcs least (label b) c.requires.lightest value.nodes tree.block (value_of tree.reached) is)
-        (c.if-not-reaches_all.ensures refl value.nodes) (lightest_clear value.arcs least (label b) c.requires.lightest arcs) in
+    (c.if-not-reaches_all.ensures refl value.nodes) (lightest_clear value.arcs least (label b) c.requires.lightest arcs) in
     record { distances = shown.0; block = shown.1; marked = search rules }
