@@ -1,7 +1,8 @@
 -- Lists of IDs, and the IDs from 1 on that pass a test.
 use Rattle.std.proofs.Common.{◌≡◌, inl, inr, ℕ, zero, suc, ◌<◌, ◌≤◌, ◌+◌, ◌-◌, ◌==◌, ◌||◌, ◌&&◌, List, [], ◌∷◌, ◌++◌, length, map, Option, Some, None, Bool, true, false, cond, refl, sym, ◌∙◌, ap, arith, rules}
-use Rattle.std.proofs.{lemmas.Bool.{and_right, eqb-true, cases_lt, cond_both, true_from_ne_false}, lemmas.Bool.Decides.{nat_tests}}
-use Rattle.std.proofs.{lemmas.List.{append-nil, map-append}, lemmas.List.Elements.{filter-append, All-nil, All-cons}}
+use Rattle.std.proofs.lemmas.Bool.{and_right, eqb-true, cases_lt, cond_both, true_from_ne_false}
+use Rattle.std.proofs.{lemmas.Bool.Decides.{nat_tests}, lemmas.List.{append-nil, map-append}}
+use Rattle.std.proofs.lemmas.List.Elements.{filter-append, All-nil, All-cons}
 use Rattle.std.specs.{Prelude.{count_by}, List.{All, filter, list_any, range_with_len}}
 use Rattle.dimacs_records.specs.{declared.records.Record.{Record}, Canonical.{AreLines, records_of_line}}
 use Rattle.dimacs_claims.specs.Cuts.{is_id}

@@ -1,6 +1,7 @@
 -- The first line of a text, and what follows it.
 use Rattle.std.proofs.Common.{◌≡◌, ◌≢◌, ◌+◌, ◌<◌, ◌++◌, ◌∷◌, [], ℕ, suc, List, Option, Some, None, Bool, true, false, length, take, drop, get_or, refl, ap, sym, ◌∙◌, arith, length-append}
-use Rattle.std.proofs.{Math.ListN.{get_or-append}, lemmas.Bool.{false_from_ne_true}, lemmas.List.{take-append-le, drop-append-le}}
+use Rattle.std.proofs.{Math.ListN.{get_or-append}, lemmas.Bool.{false_from_ne_true}}
+use Rattle.std.proofs.lemmas.List.{take-append-le, drop-append-le}
 use Rattle.std.proofs.lemmas.List.Sums.{position_or_len_is, fails_before_first, passes_at_first}
 use Rattle.std.specs.{Prelude.{unwrap_or}, List.{position_or_len, onto_first, before_first, after_first}}
 use Rattle.memchr.specs.Find.{IsFirstByte, is_byte}

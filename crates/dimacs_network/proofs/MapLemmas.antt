@@ -1,9 +1,9 @@
 -- A table as a map.
 use Rattle.std.proofs.Common.{◌≡◌, ◌≢◌, inl, inr, ℕ, zero, suc, ◌*◌, ◌/◌, ◌<◌, ◌≤◌, length, Option, None, Some, IsSome, refl, sym, ◌∙◌, ap, arith}
-use Rattle.std.proofs.{lemmas.Bool.{cases_eq, cases_lt, true_from_ne_false}, lemmas.Int.{ints}, lemmas.List.{get_or_past}}
-use Rattle.std.specs.{Prelude.{ℤ, ◌<ℤ◌, int_lt, Result, Ok, Err, OnOk}, Bool.{then_some}}
-use Rattle.std.specs.{Ordering.{nat_cmp}, Cmp.{nat_cmp_total}}
-use Rattle.std.specs.FinMap.{FinMap, empty, insert, get, same_map, nat_cmp-IsAntisymmetric}
+use Rattle.std.proofs.{lemmas.Bool.{cases_eq, cases_lt, true_from_ne_false}, lemmas.Int.{ints}}
+use Rattle.std.proofs.lemmas.List.{get_or_past}
+use Rattle.std.specs.{Prelude.{ℤ, ◌<ℤ◌, int_lt, Result, Ok, Err, OnOk}, Bool.{then_some}, Ordering.{nat_cmp}}
+use Rattle.std.specs.{Cmp.{nat_cmp_total}, FinMap.{FinMap, empty, insert, get, same_map, nat_cmp-IsAntisymmetric}}
 use Rattle.dimacs_network.specs.{declared.node_table.NodeTable.{NodeTable}, declared.node_table.TheConstants.{NO_PAGE}}
 use Rattle.dimacs_network.specs.{Maps.{below_greatest, greatest, made_of, values_below, with_option}, Slots.{place_of}}
 use Rattle.dimacs_network.specs.{Skips.{Skips}, Tables.{HasSlot, SameValues, blank_of, reach_of, value_of}}

@@ -1,5 +1,4 @@
-use Rattle.std.proofs.{Common.{◌∙◌, ◌∷◌, [], inl, rules}, lemmas.Int.{to_z-of_z}}
-use Rattle.std.proofs.lemmas.Result.{err_from_is_err_and}
+use Rattle.std.proofs.{Common.{◌∙◌, ◌∷◌, [], inl, rules}, lemmas.Int.{to_z-of_z}, lemmas.Result.{err_from_is_err_and}}
 use Rattle.std.specs.Int.{w128}
 use Rattle.dimacs_judging.specs.FlowTests.{cost_row, feasible_rows}
 use Rattle.dimacs_judging.proofs.{RowLists.{first_after}, Settling.{refused_in_front}}

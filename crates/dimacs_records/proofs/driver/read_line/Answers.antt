@@ -1,7 +1,6 @@
 use Rattle.std.proofs.Common.{◌≡◌, ◌+◌, Ok, Err, arith}
 use Rattle.dimacs_lines.specs.Reader.{GivesLine, AtEnd, text_left}
-use Rattle.dimacs_records.proofs.DriverLemmas.{read_end, read_one, stopped}
-use Rattle.dimacs_records.proofs.driver.read_line.Goals.{In-Ok-Some}
+use Rattle.dimacs_records.proofs.{DriverLemmas.{read_end, read_one, stopped}, driver.read_line.Goals.{In-Ok-Some}}
 use Rattle.dimacs_records.proofs.driver.read_line.Goals as goal
 
 -- the line that was given
