@@ -1,4 +1,4 @@
-use Rattle.std.proofs.{Common.{rules, SFits}, lemmas.Int.{to_z-of_z}, lemmas.Result.{err_from_is_err_and}}
+use Rattle.std.proofs.{Common.{rules}, lemmas.Int.{to_z-of_z}, lemmas.Result.{err_from_is_err_and}}
 use Rattle.std.specs.Int.{w128}
 use Rattle.dimacs_decide.specs.{declared.maximum.MaxDecision.TheVariants.{Better, Optimal}, CertifiedMax.{CertifiesMax}}
 use Rattle.dimacs_runs.proofs.CertifyingLemmas.{cut_certifies, maximum_error}
@@ -15,8 +15,7 @@ refuse_maximum-requires g c =
 pub returns-in-Optimal-clause-certifies : goal.returns-in-Optimal-clause-certifies
 returns-in-Optimal-clause-certifies g c = λ s placed.
     let decided : CertifiesMax c.args.instance.now s (Optimal c.in-Optimal.cut) = rw c.in-Optimal.is at (c.in_ok-cut.ensures s placed) in
-    let fits : SFits w128 c.args.placed.now.value = search rules in
-    rw (c.certified.ensures.outcome, to_z-of_z w128 c.args.placed.now.value fits) (cut_certifies c.args.instance.now c.requires.lawful s c.in-Optimal.cut c.args.placed.now.value placed.value_is decided c.certified.ensures.readable)
+    rw (c.certified.ensures.outcome, to_z-of_z w128 c.args.placed.now.value (search rules)) (cut_certifies c.args.instance.now c.requires.lawful s c.in-Optimal.cut c.args.placed.now.value placed.value_is decided c.certified.ensures.readable)
 
 pub returns-in-Better-clause-certifies : goal.returns-in-Better-clause-certifies
 returns-in-Better-clause-certifies g c = λ s placed.

@@ -6,11 +6,9 @@ use Rattle.dimacs_runs.proofs.certify_distances.answer_blocks.Goals as goal
 
 pub returns-clause-certifies : goal.returns-clause-certifies
 returns-clause-certifies g c = λ fits.
-    let d = c.args.distances.now in
     let labels = c.in_ok-labels.labels in
-    let readable = c.certified.ensures.readable in
-    let few : FitText labels = labels_fit c.args.graph.now d labels c.blocks-2.ensures.lawful.0 readable c.requires c.in_ok-labels.ensures.1 fits in
-    rw c.certified.ensures.outcome (labels_certify c.args.graph.now d labels _ (ap length c.blocks-2.ensures.blocks) c.requires c.in_ok-labels.ensures (labels_round_trip labels readable few))
+    let few : FitText labels = labels_fit c.args.graph.now _ labels c.blocks-2.ensures.lawful.0 c.certified.ensures.readable c.requires c.in_ok-labels.ensures.1 fits in
+    rw c.certified.ensures.outcome (labels_certify c.args.graph.now _ labels _ (ap length c.blocks-2.ensures.blocks) c.requires c.in_ok-labels.ensures (labels_round_trip labels c.certified.ensures.readable few))
 
 pub returns-in_err-labels-clause-certifies : goal.returns-in_err-labels-clause-certifies
 returns-in_err-labels-clause-certifies g c = λ fits.

@@ -15,17 +15,16 @@ returns-in_err-claim g c =
 
 pub returns : goal.returns
 returns g c =
-    let answer = c.make-answer.result in
     let instance : ReadFile = record { name = c.in_ok-instance.instance.name.now; faults = g.F.Input.Source.faults c.make-answer.new.instance } in
     let claim : ReadFile = record { name = c.in_ok-claim.claim.name.now; faults = g.F.Input.Source.faults c.make-answer.new.claim } in
     record {
-      answers = answers_files (instance ∷ claim ∷ []) answer c.or-failure.result
+      answers = answers_files (instance ∷ claim ∷ []) _ c.or-failure.result
           (rw (c.in_ok-instance.ensures.named, c.in_ok-claim.ensures.named) refl)
           (sees_two c.in_ok-instance.ensures.opened c.in_ok-claim.ensures.opened)
           (sees_two c.close_read.ensures.seen c.close_read-2.ensures.seen) c.name_failure.ensures
           (rw c.or-failure.ensures (two_first c.close_read.result c.close_read-2.result (Read instance) (Read claim) c.close_read.ensures.failure c.close_read-2.ensures.failure))
           (rw (c.in_ok-instance.ensures.faultless, c.in_ok-claim.ensures.faultless) at c.make-answer.ensures.faults)
-          (each_text (_ ∷ _ ∷ []) (λ (texts : List (List ℕ)). IfEnds unclaimed_texts (made_for c.args.job texts) answer) (λ a first b second.
+          (each_text (_ ∷ _ ∷ []) (λ (texts : List (List ℕ)). IfEnds unclaimed_texts (made_for c.args.job texts) _) (λ a first b second.
           (c.make-answer.ensures.possible a b
           (c.in_ok-instance.ensures.coming ∙ first)
           (c.in_ok-claim.ensures.coming ∙ ap (λ (h : Contents). h c.args.claim.now) c.in_ok-instance.ensures.holds ∙ second))));

@@ -23,7 +23,6 @@ pub returns : goal.returns
 returns g c =
     let outcome = c.judge_texts-outcome.result in
     let ended = c.write_outcome-ended.result in
-    let failure = c.or-failure.result in
     let old = g.K.Sink.seen c.args.output.now in
     let new = g.K.Sink.seen c.write_outcome-ended.new.report in
     let instance : ReadFile = record { name = c.in_ok-instance.instance.name.now; faults = g.F.Input.Source.faults c.judge_texts-outcome.new.instance } in
@@ -35,12 +34,12 @@ returns g c =
     let counts = rw (c.in_ok-instance.ensures.faultless, c.in_ok-claim.ensures.faultless, c.in_ok-certificate.ensures.faultless) at c.judge_texts-outcome.ensures.faults in
     let ends = c.write_outcome-ended.ensures.ends in
     record {
-      runs = uses_files read [] ended failure
+      runs = uses_files read [] ended _
           (rw (c.in_ok-instance.ensures.named, c.in_ok-claim.ensures.named, c.in_ok-certificate.ensures.named) refl) refl opened closed c.name_failure.ensures
           (rw (c.or-failure.ensures, c.or.ensures) (three_first c.close_read.result c.close_read-2.result c.close_read-3.result (Read instance) (Read claim) (Read certificate) c.close_read.ensures.failure c.close_read-2.ensures.failure c.close_read-3.ensures.failure))
           (counts_reported outcome ended (0 ∷ 0 ∷ 0 ∷ []) (instance.faults ∷ claim.faults ∷ certificate.faults ∷ []) old new refl counts ends)
-          (each_text (_ ∷ _ ∷ _ ∷ []) (λ (texts : List (List ℕ)). ReportsJudged c.args.kind texts (named ended failure) (old.accepted ∷ []) (new.accepted ∷ [])) (λ a first b second d third.
-          judged_reports c.args.kind a b d (named ended failure) old.accepted new.accepted (reports_named (Judged c.args.kind a b d) ended failure old.accepted new.accepted (report_written (Judged c.args.kind a b d) outcome ended old new (c.judge_texts-outcome.ensures.reports a b d
+          (each_text (_ ∷ _ ∷ _ ∷ []) (λ (texts : List (List ℕ)). ReportsJudged c.args.kind texts (named ended _) (old.accepted ∷ []) (new.accepted ∷ [])) (λ a first b second d third.
+          judged_reports c.args.kind a b d (named ended _) old.accepted new.accepted (reports_named (Judged c.args.kind a b d) ended _ old.accepted new.accepted (report_written (Judged c.args.kind a b d) outcome ended old new (c.judge_texts-outcome.ensures.reports a b d
           (c.in_ok-instance.ensures.coming ∙ first)
           (is_claim c.args.kind _ b (c.in_ok-claim.ensures.coming ∙ ap (λ (h : Contents). h c.args.claim.now) c.in_ok-instance.ensures.holds ∙ second))
           (c.in_ok-certificate.ensures.coming ∙ ap (λ (h : Contents). h c.args.certificate.now) (c.in_ok-claim.ensures.holds ∙ c.in_ok-instance.ensures.holds) ∙ third)) ends))))

@@ -11,18 +11,16 @@ returns-in_err-text g c =
 
 pub returns : goal.returns
 returns g c =
-    let ended = c.run_text-ended.result in
-    let failure = c.close_read-failure.result in
     let old = (g.K.Sink.seen c.args.output.now).accepted in
     let new = (g.K.Sink.seen c.run_text-ended.new.sink).accepted in
     let faults = g.F.Input.Source.faults c.run_text-ended.new.text in
     let quiet = rw c.in_ok-text.ensures.faultless at c.run_text-ended.ensures.nothing_written in
     record {
-      runs = uses_files (record { name = c.in_ok-text.text.name.now; faults = faults } ∷ []) [] ended failure
+      runs = uses_files (record { name = c.in_ok-text.text.name.now; faults = faults } ∷ []) [] _ _
           (ap (λ (n : List ℕ). n ∷ []) c.in_ok-text.ensures.named) refl c.in_ok-text.ensures.opened c.close_read-failure.ensures.seen c.name_failure.ensures
-          (one_first failure (closed_read c.in_ok-text.text.name.now faults) c.close_read-failure.ensures.failure)
+          (one_first _ (closed_read c.in_ok-text.text.name.now faults) c.close_read-failure.ensures.failure)
           (rw c.in_ok-text.ensures.faultless at c.run_text-ended.ensures.faults)
-          (each_text (_ ∷ []) (λ (texts : List (List ℕ)). ReportsOne (Prints c.args.form c.args.kind) texts (named ended failure) (old ∷ []) (new ∷ [])) (λ bytes is. reports_named (Prints c.args.form c.args.kind bytes) ended failure old new (c.run_text-ended.ensures.reports bytes (c.in_ok-text.ensures.coming ∙ is))))
+          (each_text (_ ∷ []) (λ (texts : List (List ℕ)). ReportsOne (Prints c.args.form c.args.kind) texts (named _ _) (old ∷ []) (new ∷ [])) (λ bytes is. reports_named (Prints c.args.form c.args.kind bytes) _ _ old new (c.run_text-ended.ensures.reports bytes (c.in_ok-text.ensures.coming ∙ is))))
           (λ memory. ap (λ (w : Written). w.accepted ∷ []) (c.run_text-ended.ensures.memory memory))
           (λ unread. ap (λ (w : Written). w.accepted ∷ []) (quiet (one_of unread)));
     }

@@ -26,7 +26,6 @@ pub returns : goal.returns
 returns g c =
     let outcome = c.solve_texts-outcome.result in
     let ended = c.write_outcome-ended.result in
-    let failure = c.or-failure.result in
     let old = g.K.Sink.seen c.args.output.now in
     let new = g.K.Sink.seen c.write_outcome-ended.new.report in
     let written = g.F.Output.Sink.seen c.write_outcome-ended.new.certificate in
@@ -40,12 +39,12 @@ returns g c =
     let after : List Written = nowhere ∷ written ∷ new ∷ [] in
     let ends = rw c.in_ok-labels.ensures.empty at c.write_outcome-ended.ensures.ends in
     record {
-      runs = uses_files (graph ∷ queries ∷ []) (labels ∷ []) ended failure
+      runs = uses_files (graph ∷ queries ∷ []) (labels ∷ []) ended _
           (rw (c.in_ok-graph.ensures.named, c.in_ok-queries.ensures.named) refl) (rw c.in_ok-labels.ensures.named refl) opened closed c.name_failure.ensures
           (rw (c.or-failure.ensures, c.or.ensures) (three_first c.close_read.result c.close_read-2.result c.close_written.result (Read graph) (Read queries) (Wrote labels) c.close_read.ensures.failure c.close_read-2.ensures.failure c.close_written.ensures.failure))
           (counts_without ended (0 ∷ 0 ∷ []) (graph.faults ∷ queries.faults ∷ []) (0 ∷ old.faults ∷ []) (written.faults ∷ new.faults ∷ []) refl (counts_both outcome ended (0 ∷ 0 ∷ []) (graph.faults ∷ queries.faults ∷ []) before after counts ends))
-          (each_text (_ ∷ _ ∷ []) (λ (texts : List (List ℕ)). WritesSolved solves.Paths texts (named ended failure) (g.F.Files.empty ∷ old.accepted ∷ []) (written.accepted ∷ new.accepted ∷ [])) (λ a first b second.
-          reports_all_named (MayWrite (Solved solves.Paths a b)) ended failure (accepted_by before) (accepted_by after) (all_written (MayWrite (Solved solves.Paths a b)) outcome ended before after (c.solve_texts-outcome.ensures.solves a b
+          (each_text (_ ∷ _ ∷ []) (λ (texts : List (List ℕ)). WritesSolved solves.Paths texts (named ended _) (g.F.Files.empty ∷ old.accepted ∷ []) (written.accepted ∷ new.accepted ∷ [])) (λ a first b second.
+          reports_all_named (MayWrite (Solved solves.Paths a b)) ended _ (accepted_by before) (accepted_by after) (all_written (MayWrite (Solved solves.Paths a b)) outcome ended before after (c.solve_texts-outcome.ensures.solves a b
           (c.in_ok-graph.ensures.coming ∙ first)
           (c.in_ok-queries.ensures.coming ∙ ap (λ (h : Contents). h c.args.queries.now) c.in_ok-graph.ensures.holds ∙ second)) ends)))
           (λ memory. ap (λ (sinks : List Written). drop 1 (accepted_by sinks)) (unwritten outcome ended before after ends (inl memory)))

@@ -26,7 +26,6 @@ pub returns : goal.returns
 returns g c =
     let outcome = c.solve_texts-outcome.result in
     let ended = c.write_outcome-ended.result in
-    let failure = c.or-failure.result in
     let old = g.K.Sink.seen c.args.output.now in
     let new = g.K.Sink.seen c.write_outcome-ended.new.report in
     let claimed = g.F.Output.Sink.seen c.write_outcome-ended.new.claim in
@@ -42,13 +41,13 @@ returns g c =
     let after : List Written = claimed ∷ certified ∷ new ∷ [] in
     let ends = rw (c.in_ok-claim.ensures.empty, c.in-Ok.ensures.empty) at c.write_outcome-ended.ensures.ends in
     record {
-      runs = uses_files (instance ∷ []) (claim ∷ certificate ∷ []) ended failure
+      runs = uses_files (instance ∷ []) (claim ∷ certificate ∷ []) ended _
           (rw c.in_ok-instance.ensures.named refl) (rw (c.in_ok-claim.ensures.named, c.in-Ok.ensures.named) refl) opened closed c.name_failure.ensures
           (rw (c.or-failure.ensures, c.or.ensures) (three_first c.close_read.result c.close_written-2.result c.close_written-3.result (Read instance) (Wrote claim) (Wrote certificate) c.close_read.ensures.failure c.close_written-2.ensures.failure c.close_written-3.ensures.failure))
           (counts_both outcome ended (0 ∷ []) (instance.faults ∷ []) before after counts ends)
-          (each_text (_ ∷ []) (λ (texts : List (List ℕ)). WritesSolved c.args.job texts (named ended failure) (accepted_by before) (accepted_by after)) (λ a first.
-          flow_writes c.args.job a [] (named ended failure) (accepted_by before) (accepted_by after) c.requires
-          (reports_all_named (MayWrite (Solved c.args.job a [])) ended failure (accepted_by before) (accepted_by after)
+          (each_text (_ ∷ []) (λ (texts : List (List ℕ)). WritesSolved c.args.job texts (named ended _) (accepted_by before) (accepted_by after)) (λ a first.
+          flow_writes c.args.job a [] (named ended _) (accepted_by before) (accepted_by after) c.requires
+          (reports_all_named (MayWrite (Solved c.args.job a [])) ended _ (accepted_by before) (accepted_by after)
           (all_written (MayWrite (Solved c.args.job a [])) outcome ended before after (c.solve_texts-outcome.ensures.solves a [] (c.in_ok-instance.ensures.coming ∙ first) (flow_asks_nothing c.args.job _ [] c.requires)) ends))))
           (λ memory. ap accepted_by (unwritten outcome ended before after ends (inl memory)))
           (λ unread. ap accepted_by (unwritten outcome ended before after ends (inr (no_outcome outcome (instance ∷ []) counts unread))));

@@ -1,4 +1,4 @@
-use Rattle.std.proofs.{Common.{SFits, rules}, lemmas.Int.{to_z-of_z}}
+use Rattle.std.proofs.{Common.{rules}, lemmas.Int.{to_z-of_z}}
 use Rattle.std.specs.Int.{w128}
 use Rattle.dimacs_claims.specs.SolutionTexts.{GivesSolution, claimed}
 use Rattle.dimacs_instance.specs.MinTexts.{GivesMin}
@@ -13,13 +13,11 @@ use Rattle.dimacs_runs.proofs.spread.spread_least.Goals as goal
 pub returns-clause-spreads : goal.returns-clause-spreads
 returns-clause-spreads g c = λ a b first second.
     let read = c.in_ok-instance.ensures.reads a b first second in
-    let instance = c.in_ok-instance.instance in
     let solution = claimed c.in_ok-instance.claim in
     let flow = c.spread_min-flow in
-    let deals = min_deals instance.arcs solution flow.result flow.ensures.deals flow.ensures.least (flow.ensures.tested, flow.ensures.refused) in
-    let fits : SFits w128 c.in_ok-instance.claim.value = search rules in
-    two_end certifying (text_of kinds.Min GivesMin a) (text_of kinds.Solution GivesSolution b) (λ i s. SpreadsClaim Min i.arcs s) instance solution (outcome_of c.answer_spread.result) read.0 read.1
-    (rw c.network.ensures.arcs at (c.answer_spread.ensures.spreads Min) solution (to_z-of_z w128 c.in_ok-instance.claim.value fits) deals)
+    let deals = min_deals c.in_ok-instance.instance.arcs solution flow.result flow.ensures.deals flow.ensures.least (flow.ensures.tested, flow.ensures.refused) in
+    two_end certifying (text_of kinds.Min GivesMin a) (text_of kinds.Solution GivesSolution b) (λ i s. SpreadsClaim Min i.arcs s) _ solution (outcome_of c.answer_spread.result) read.0 read.1
+    (rw c.network.ensures.arcs at (c.answer_spread.ensures.spreads Min) solution (to_z-of_z w128 c.in_ok-instance.claim.value (search rules)) deals)
 
 pub returns-clause-faults : goal.returns-clause-faults
 returns-clause-faults g c = counts_none (outcome_of c.answer_spread.result) _ _ c.answer_spread.ensures.no_device c.in_ok-instance.ensures.faults
