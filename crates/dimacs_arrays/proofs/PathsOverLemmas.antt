@@ -1,10 +1,10 @@
 -- Queries and distances from arrays.
-use Rattle.std.proofs.Common.{◌≡◌, ◌≢◌, ◌∙◌, inl, inr, ℕ, ◌+◌, ◌-◌, ◌<◌, ◌≤◌, ◌==◌, ◌++◌, true, List, [], ◌∷◌, All, get_or, length, min, take, Option, None, Some, IfSome, IsSome, refl, sym, ap, subst, ℤ, arith}
-use Rattle.std.proofs.{lemmas.Bool.{ne_eqb}, lemmas.Bool.Decides.{eqb_tells}, lemmas.Slice.Zip.{get_or-zip, length-zip}}
+use Rattle.std.proofs.Common.{◌≡◌, ◌≢◌, ◌∙◌, inl, inr, ℕ, ◌+◌, ◌-◌, ◌<◌, ◌≤◌, ◌++◌, List, [], ◌∷◌, All, get_or, length, min, take, Option, None, Some, IfSome, IsSome, refl, sym, ap, subst, ℤ, arith}
+use Rattle.std.proofs.{lemmas.Bool.{eq-eqb, ne_eqb}, lemmas.Bool.Decides.{eqb_tells}}
+use Rattle.std.proofs.{lemmas.Slice.Zip.{get_or-zip, length-zip}, lemmas.Option.{slice_get-get_or, slice_get_past}}
 use Rattle.std.proofs.lemmas.List.{append-nil, length-map, map-id, take_more}
 use Rattle.std.proofs.lemmas.List.Elements.{All-cons, All-from_get_or, All-get_or, All-head, All-nil, All-tail, filter_map-append}
 use Rattle.std.proofs.lemmas.List.FromFn.{get_or-range_with_len, length-range_with_len, map-range_with_len_more}
-use Rattle.std.proofs.lemmas.Option.{slice_get-get_or, slice_get_past}
 use Rattle.std.specs.{Prelude.{slice_get}, List.{cons_option, filter_map, range_with_len, zip}}
 use Rattle.dimacs_lines.specs.Limits.{IsNode, most_count, most_nodes}
 use Rattle.dimacs_records.specs.{declared.reasons.Reason.{Reason}, declared.reasons.Reason.TheVariants.{NumberRange}}
@@ -91,9 +91,6 @@ pairs_more froms tos i same inside =
     ∙ ap (λ (pair : ℕ × ℕ). take i (zip froms tos) ++ pair ∷ []) (get_or-zip froms tos i (0, 0) inside (omega (arith, inside, same)))
 
 -- ---- labels by ID
-eqb_same : (v : ℕ) → (v == v) ≡ true
-eqb_same v = elim (eqb_tells v v) [ inl same ↦ same.0 | inr apart ↦ absurd (apart.1 refl) ]
-
 range_more : (n : ℕ) → range_with_len 1 (n + 1) ≡ range_with_len 1 n ++ (n + 1) ∷ []
 range_more n =
     sym (map-id (range_with_len 1 (n + 1))) ∙ map-range_with_len_more (λ (v : ℕ). v) 1 n (n + 1) (omega arith) ∙ ap (λ (front : List ℕ). front ++ (n + 1) ∷ []) (map-id (range_with_len 1 n))
@@ -194,7 +191,7 @@ module _ (s : ℕ) (claim : ℕ → Option ℤ) where
         ∙ rw (ne_eqb s id (λ e. facts.1 (sym e))) (none_later (id - 1) id (omega (arith, some)))
 
     pub has_source : IsSome (label b l.pred)
-    has_source = rw (is, facts.2, eqb_same s) refl
+    has_source = rw (is, facts.2, eq-eqb s s refl) refl
 
     pub few_yet : id ≤ most_nodes → length b.labels < most_count
     few_yet few = rw is (omega (arith, few, some, few_labels (id - 1)))

@@ -13,7 +13,7 @@ use Rattle.dimacs_decide.specs.inside.LabelTrees.{AreLabelled, AreLabelledBelow,
 use Rattle.dimacs_arrays.specs.Paths.{AreInOrder, AreLabelsBy, IsPred, pred_row}
 use Rattle.dimacs_arrays.proofs.LabelLemmas.{in_order, spelled}
 use Rattle.dimacs_decide.proofs.LabelTreeLemmas.{begun, grown, next_label, source_labelled}
-use Rattle.dimacs_decide.proofs.MarkedLemmas.{few, label_if_marked, none_if_unmarked}
+use Rattle.dimacs_decide.proofs.MarkedLemmas.{few, label_if_marked, none_if_unmarked, some_of}
 
 -- ---- one more step back
 back_more : (pred : ℕ → ℕ) (n v : ℕ) → back pred (suc n) v ≡ pred (back pred n v)
@@ -30,10 +30,6 @@ natural (negsuc k) low = absurd (omega (arith, ints))
 -- each distance is this far above the least one that is wide
 above : (d : ℤ) → IsWide d → (k : ℕ) × (d +ℤ pos (10 ^ 30) ≡ pos k)
 above d wide = natural (d +ℤ pos (10 ^ 30)) (omega (arith, ints, wide.0))
-
-some_value : (o : Option ℤ) → IsSome o → (d : ℤ) × (o ≡ Some d)
-some_value None some = absurd (let f : false ≡ true = some in cc)
-some_value (Some d) some = (d, refl)
 
 -- the node has a distance that is less than d
 abbrev pub IsNearer : (ℕ → Option ℤ) → ℕ → ℤ → Type 0
@@ -169,7 +165,7 @@ module _ (nodes s : ℕ) (claim : ℕ → Option ℤ) (pred : ℕ → ℕ) (smal
     | inr off ↦ elim (cases_Bool (is_some (claim n))) [
       | inr none ↦ (b, labelled, is, with_node n labelled labelled (λ v h. h) below (λ some. absurd (let f : true ≡ false = sym some ∙ none in cc)))
       | inl some ↦
-          let (d, named) = some_value (claim n) some in
+          let (d, named) = some_of (claim n) some in
           let apart : n ≢ s = λ e. (let f : true ≡ false = sym (source_labelled nodes s claim pred b labelled is).0 ∙ (ap labelled (sym e) ∙ off) in cc) in
           let (e, from, less) = are.nearer n d apart named in
           let (k, is_k) = above d (are.wide n d named) in
@@ -188,7 +184,7 @@ module _ (nodes s : ℕ) (claim : ℕ → Option ℤ) (pred : ℕ → ℕ) (smal
     | inr apart ↦ elim (cases_Bool (is_some (claim v))) [
       | inr none ↦ (let free : ¬ NeedsPredecessor s claim v = λ due. (let f : true ≡ false = sym due.1 ∙ none in cc) in inr (free, are.others v free))
       | inl some ↦
-          let (d, named) = some_value (claim v) some in
+          let (d, named) = some_of (claim v) some in
           let (e, from, less) = are.nearer v d apart named in
           inl ((apart, some), are.inside (pred v) (ap is_some from))
     ]
