@@ -13,15 +13,14 @@ loop-i-init c = record {
 
 pub loop-i-preserved : goal.loop-i-preserved
 loop-i-preserved c =
-    let bytes = c.args.inside.now in
     elim c.if-inside-i-gt0.branch [
       | then-inside-i-gt0+in_ok-add w ↦ rw w.cut-is record {
         nodes = ap (λ (k : CutValue). k.nodes) w.in_ok-add.ensures.added ∙ c.loop-i.invariant.nodes;
-        members = node_in bytes c.loop-i.cut w.add.new.self c.loop-i.i c.loop-i.invariant.members w.in_ok-add.ensures.added (lt-ltb 0 _ w.if-inside-i-gt0.true);
+        members = node_in _ c.loop-i.cut w.add.new.self c.loop-i.i c.loop-i.invariant.members w.in_ok-add.ensures.added (lt-ltb 0 _ w.if-inside-i-gt0.true);
       }
       | else-inside-i-gt0 w ↦ rw w.cut-is record {
         nodes = c.loop-i.invariant.nodes;
-        members = node_out bytes c.loop-i.cut c.loop-i.cut c.loop-i.i c.loop-i.invariant.members (le-ltb 0 _ (omega (arith, w.if-inside-i-gt0.false)));
+        members = node_out _ c.loop-i.cut c.loop-i.cut c.loop-i.i c.loop-i.invariant.members (le-ltb 0 _ (omega (arith, w.if-inside-i-gt0.false)));
       }
     ]
 

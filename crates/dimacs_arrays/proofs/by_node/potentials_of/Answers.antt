@@ -1,4 +1,4 @@
-use Rattle.std.proofs.{Common.{◌≡◌, ◌∙◌, ap, get_or, length, pos, w64, rules, arith, SFits}, lemmas.Int.{to_z-of_z}}
+use Rattle.std.proofs.{Common.{◌≡◌, ◌∙◌, ap, length, w64, rules, arith}, lemmas.Int.{to_z-of_z}}
 use Rattle.std.specs.Int.{w128}
 use Rattle.dimacs_claims.specs.Potentials.{PotentialsValue, potential_of}
 use Rattle.dimacs_arrays.proofs.ByNodeLemmas.{all_numbers, no_numbers, number_set}
@@ -12,11 +12,9 @@ loop-i-init c = record {
 
 pub loop-i-preserved : goal.loop-i-preserved
 loop-i-preserved c =
-    let fits : SFits w128 c.from.result = search rules in
-    let whole : SFits w64 (get_or c.args.numbers.now c.loop-i.i (pos 0)) = search rules in
     record {
       nodes = ap (λ (p : PotentialsValue). p.nodes) c.in_ok-set.ensures.set ∙ c.loop-i.invariant.nodes;
-      numbers = number_set c.args.numbers.now c.loop-i.potentials c.set.new.self c.loop-i.i _ (to_z-of_z w128 c.from.result fits ∙ c.from.ensures ∙ to_z-of_z w64 _ whole) c.in_ok-set.ensures.set c.loop-i.invariant.numbers;
+      numbers = number_set c.args.numbers.now c.loop-i.potentials c.set.new.self c.loop-i.i _ (to_z-of_z w128 c.from.result (search rules) ∙ c.from.ensures ∙ to_z-of_z w64 _ (search rules)) c.in_ok-set.ensures.set c.loop-i.invariant.numbers;
     }
 
 pub returns-clause-numbers : goal.returns-clause-numbers

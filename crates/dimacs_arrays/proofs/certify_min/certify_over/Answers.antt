@@ -1,4 +1,4 @@
-use Rattle.std.proofs.{Common.{List, ℤ, subst, rules, SFits}, lemmas.Int.{to_z-of_z}}
+use Rattle.std.proofs.{Common.{List, ℤ, subst, rules}, lemmas.Int.{to_z-of_z}}
 use Rattle.std.specs.Int.{w128}
 use Rattle.dimacs_judging.specs.{Feasible.{FeasibleMin}, FlowTests.{feasible_min_rows}, Tests.{Refutes}}
 use Rattle.dimacs_decide.specs.{declared.least.MinDecision.{MinDecision}, MinDecision.{DecidesMin}}
@@ -37,7 +37,6 @@ returns g c =
     let potentials = c.in-Optimal.potentials in
     let outcome = subst (λ (d : MinDecision). DecidesMin i c.in_ok-flow.flow d) c.in-Optimal.is c.in_ok-better.ensures in
     let decided = subst (λ (y : List ℤ). DecidesMin i y (Optimal potentials)) c.in_ok-flow.ensures outcome in
-    let fits : SFits w128 c.in_ok-cost.cost = search rules in
     let least = c.in_ok-least_by-in-Optimal in
-    let is = subst (λ (total : ℤ). IsLeastBy total potentials least.field-0) (to_z-of_z w128 c.in_ok-cost.cost fits) least.ensures in
+    let is = subst (λ (total : ℤ). IsLeastBy total potentials least.field-0) (to_z-of_z w128 c.in_ok-cost.cost (search rules)) least.ensures in
     min_least i c.args.flows.now feasible costs.1 c.network.ensures.lawful.joined c.in_ok-cost.cost potentials least.field-0 costs.0 decided is

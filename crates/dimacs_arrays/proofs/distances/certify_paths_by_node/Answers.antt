@@ -8,17 +8,15 @@ use Rattle.dimacs_arrays.proofs.distances.certify_paths_by_node.Goals as goal
 
 pub predecessors_of-requires : goal.predecessors_of-requires
 predecessors_of-requires g c =
-    let are = c.in_ok-labels.ensures in
     let labels = c.in_ok-labels.labels in
     let b = c.index-blocks-0.result in
-    let alone : labels.blocks ≡ b ∷ [] = one_block labels.blocks b are.1.alone (rw c.blocks-2.ensures.blocks at c.index-blocks-0.is) in
-    rw (c.nodes-nodes.ensures, c.network-2.ensures.nodes, ← are.1.passes.nodes) (All-head (IsBlock labels.nodes) b [] (rw alone at c.blocks-2.ensures.lawful.blocks))
+    let alone : labels.blocks ≡ b ∷ [] = one_block labels.blocks b c.in_ok-labels.ensures.1.alone (rw c.blocks-2.ensures.blocks at c.index-blocks-0.is) in
+    rw (c.nodes-nodes.ensures, c.network-2.ensures.nodes, ← c.in_ok-labels.ensures.1.passes.nodes) (All-head (IsBlock labels.nodes) b [] (rw alone at c.blocks-2.ensures.lawful.blocks))
 
 pub returns-in-Some : goal.returns-in-Some
 returns-in-Some g c =
-    let lawful = c.network.ensures.lawful in
     let tight = rw (c.in-Some.is, c.network.ensures.nodes, c.network.ensures.arcs) at c.in_ok-predecessors.ensures in
-    tight_certified c.args.graph.now c.args.source c.args.distances.now c.in-Some.predecessors.items c.requires.source lawful.nodes_few lawful.joined tight
+    tight_certified c.args.graph.now c.args.source c.args.distances.now c.in-Some.predecessors.items c.requires.source c.network.ensures.lawful.nodes_few c.network.ensures.lawful.joined tight
 
 pub returns : goal.returns
 returns g c =

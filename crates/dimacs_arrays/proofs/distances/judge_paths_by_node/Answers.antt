@@ -10,9 +10,8 @@ returns-in_err-labels g c =
 
 pub returns-then-branch : goal.returns-then-branch
 returns-then-branch g c =
-    let lawful = c.network.ensures.lawful in
     let tight = rw (c.network.ensures.nodes, c.network.ensures.arcs) at (c.in_ok-are_tight_predecessors.ensures c.if-branch.true) in
-    tight_judged c.args.graph.now c.args.source c.args.distances.now c.args.predecessors.now c.requires.source lawful.nodes_few lawful.joined tight
+    tight_judged c.args.graph.now c.args.source c.args.distances.now c.args.predecessors.now c.requires.source c.network.ensures.lawful.nodes_few c.network.ensures.lawful.joined tight
 
 pub returns : goal.returns
 returns g c =

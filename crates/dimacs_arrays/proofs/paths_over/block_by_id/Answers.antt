@@ -1,4 +1,4 @@
-use Rattle.std.proofs.Common.{◌≡◌, ◌∙◌, ◌≤◌, Some, None, length, sym, subst, arith, rules}
+use Rattle.std.proofs.Common.{◌≡◌, ◌∙◌, ◌≤◌, Some, length, sym, subst, arith, rules}
 use Rattle.dimacs_claims.specs.Labels.{IsBlock}
 use Rattle.dimacs_decide.specs.Claims.{claimed_by_node}
 use Rattle.dimacs_arrays.specs.PathsSpelled.{label_with}
@@ -10,9 +10,8 @@ pub add-requires : goal.add-requires
 add-requires c =
     let s = c.args.source in
     let claim = claimed_by_node c.args.distances.now in
-    let some : 1 ≤ c.loop-id.id = search rules in
     let labelled : label_with s c.loop-id.id (claim c.loop-id.id) ≡ Some c.in-Some.label = rw c.of.ensures.claimed at (sym c.label_to.ensures ∙ c.in-Some.is) in
-    none_yet s claim c.loop-id.id c.loop-id.block c.in-Some.label some c.loop-id.invariant.0 labelled
+    none_yet s claim c.loop-id.id c.loop-id.block c.in-Some.label (search rules) c.loop-id.invariant.0 labelled
 
 pub loop-id-preserved : goal.loop-id-preserved
 loop-id-preserved c =
@@ -33,6 +32,5 @@ loop-id-preserved c =
                 (has_source s claim id c.loop-id.block l some is labelled) (near s claim id c.loop-id.block l some is labelled)),
           )
       | in_default w ↦
-          let none : label_with s id (claim id) ≡ None = search rules in
-          (w.block-is ∙ none_more s claim id c.loop-id.block some c.loop-id.invariant.0 none, subst (IsBlock (length c.args.distances.now)) (sym w.block-is) c.loop-id.invariant.1)
+          (w.block-is ∙ none_more s claim id c.loop-id.block some c.loop-id.invariant.0 (search rules), subst (IsBlock (length c.args.distances.now)) (sym w.block-is) c.loop-id.invariant.1)
     ]

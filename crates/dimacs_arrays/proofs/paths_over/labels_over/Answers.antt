@@ -13,7 +13,5 @@ returns-in_err-labels_by_node c =
     let claim = claimed_by_node c.args.distances.now in
     let pred = pred_by_node c.args.predecessors.now in
     let rows = label_rows nodes s claim pred in
-    let law : HasSource nodes s = search rules in
-    let error = c.in_err-labels_by_node.field-0.0 in
     tells_refusal (length_of Predecessors (length c.args.predecessors.now) nodes ∷ []) (source_limits nodes s) (HasSource nodes s) (Settles (AreOrderedLabels nodes s claim pred) rows)
-    (rw c.of.ensures at c.in_ok-lengths_hold.ensures) law error (none_ordered nodes s claim pred rows error c.in_err-labels_by_node.ensures.labels) _ c.from_residual-in_err-labels_by_node.ensures.1
+    (rw c.of.ensures at c.in_ok-lengths_hold.ensures) (search rules) _ (none_ordered nodes s claim pred rows _ c.in_err-labels_by_node.ensures.labels) _ c.from_residual-in_err-labels_by_node.ensures.1

@@ -1,4 +1,4 @@
-use Rattle.std.proofs.{Common.{◌∙◌, rules, SFits}, lemmas.Int.{to_z-of_z}, lemmas.Slice.Zip.{AllZip-long}}
+use Rattle.std.proofs.{Common.{◌∙◌, rules}, lemmas.Int.{to_z-of_z}, lemmas.Slice.Zip.{AllZip-long}}
 use Rattle.std.specs.Int.{w128}
 use Rattle.dimacs_arrays.proofs.CertifyLemmas.{min_by, min_by_wider}
 use Rattle.dimacs_arrays.proofs.solve_min.least_by.Goals as goal
@@ -9,13 +9,11 @@ cost_within-requires g c = record { one_each = rw c.network.ensures.arcs (AllZip
 pub returns-in-Some : goal.returns-in-Some
 returns-in-Some g c = λ limit kept.
     let outcome = rw c.network.ensures.arcs at c.in-Ok.ensures in
-    let fits : SFits w128 c.in-Ok.cost = search rules in
     let (shift, are) = rw c.in-Some.is at c.in_ok-numbers.ensures.numbers in
-    (min_by c.args.instance.now c.args.flow c.args.potentials _ c.in-Some.numbers.items c.network.ensures.lawful.joined c.requires.least outcome.1 c.requires.slack c.requires.nodes (to_z-of_z w128 c.in-Ok.cost fits ∙ outcome.0) shift are, kept)
+    (min_by c.args.instance.now c.args.flow c.args.potentials _ c.in-Some.numbers.items c.network.ensures.lawful.joined c.requires.least outcome.1 c.requires.slack c.requires.nodes (to_z-of_z w128 c.in-Ok.cost (search rules) ∙ outcome.0) shift are, kept)
 
 pub returns-in-None : goal.returns-in-None
 returns-in-None g c = λ limit kept.
     let outcome = rw c.network.ensures.arcs at c.in-Ok.ensures in
-    let fits : SFits w128 c.in-Ok.cost = search rules in
     let wider = rw c.in-None.is at c.in_ok-numbers.ensures.wider in
-    (min_by_wider c.args.instance.now c.args.flow c.args.potentials _ c.requires.least outcome.1 c.requires.slack c.requires.nodes (to_z-of_z w128 c.in-Ok.cost fits ∙ outcome.0) wider, kept)
+    (min_by_wider c.args.instance.now c.args.flow c.args.potentials _ c.requires.least outcome.1 c.requires.slack c.requires.nodes (to_z-of_z w128 c.in-Ok.cost (search rules) ∙ outcome.0) wider, kept)
