@@ -1,13 +1,14 @@
 -- Blocks that label few nodes.
 use Rattle.std.proofs.Common.{◌≡◌, ◌≢◌, inl, inr, true, false, ℕ, zero, suc, ◌+◌, ◌-◌, ◌<◌, ◌≤◌, Bool, List, [], ◌∷◌, length, get_or, Option, Some, None, is_some, ℤ, refl, sym, ap, subst, ◌∙◌, arith}
-use Rattle.std.proofs.{lemmas.Bool.{cases_eq, cases_lt, cases_order, false_from_ne_true}, lemmas.Bool.Decides.{eqb_tells}}
-use Rattle.std.proofs.lemmas.List.Elements.{All-cons, All-nil}
-use Rattle.std.specs.{Option.{ForSome}}
+use Rattle.std.proofs.lemmas.Bool.{cases_eq, cases_lt, cases_order, false_from_ne_true}
+use Rattle.std.proofs.{lemmas.Bool.Decides.{eqb_tells}, lemmas.List.Elements.{All-cons, All-nil}}
+use Rattle.std.specs.Option.{ForSome}
 use Rattle.dimacs_records.specs.{Ranges.{IsWide}, declared.reasons.Reason.{Reason}}
 use Rattle.dimacs_network.specs.{declared.network.ArcView.{ArcView}, declared.adjacency_lists.Side.TheVariants.{Tail}}
 use Rattle.dimacs_network.specs.{AdjacencyLists.{IsLast}, Arcs.{arc_at}}
 use Rattle.dimacs_claims.specs.Labels.{BlockValue, IsBlock, distance_in, label, no_label}
-use Rattle.dimacs_claims.proofs.{BlockLemmas.{label_at_wide}, BuilderLemmas.{unlabelled}, ByIdLemmas.{distance_in-at, fresh_apart}}
+use Rattle.dimacs_claims.proofs.{BlockLemmas.{label_at_wide}, BuilderLemmas.{unlabelled}}
+use Rattle.dimacs_claims.proofs.ByIdLemmas.{distance_in-at, fresh_apart}
 use Rattle.dimacs_judging.specs.{CertificateTests.{RelaxFails}, Tests.{Clear}}
 use Rattle.dimacs_decide.specs.{Distances.{claim_row}, inside.TightTrees.{ReachesAll, node_at}}
 use Rattle.dimacs_decide.specs.inside.FewLabels.{AreNamed, ArcsHoldFrom, ArePlaced, IsUnreached}

@@ -2,7 +2,7 @@ use Rattle.std.proofs.{Common.{◌<◌, ◌^◌, ◌∙◌, SFits, ap, sym, subs
 use Rattle.std.specs.{Prelude.{is_some}, Int.{w128}}
 use Rattle.dimacs_claims.specs.Labels.{IsBlock, IsWithinRadius, with_label}
 use Rattle.dimacs_solve.specs.{inside.Frontiers.{walk_of}, inside.NodeStates.{known, settled_label}}
-use Rattle.dimacs_decide.proofs.MarkedLemmas.{none_of}
+use Rattle.dimacs_claims.proofs.BuilderLemmas.{unlabelled}
 use Rattle.dimacs_solve.proofs.SearchLemmas.{AddsLabel, added, added_few, added_label, added_pred, has_none, marked_ready, popped_again, popped_small, visited, visited_less}
 use Rattle.dimacs_solve.proofs.search.visit.Goals as goal
 
@@ -35,7 +35,7 @@ add-requires g c =
     let node_states = known value c.args.node_states.now in
     let e = walk_of value c.args.walk in
     let front = c.args.frontier.now in
-    let unsettled = none_of (settled_label (node_states e.node)) (sym c.is_settled.ensures ∙ c.if-is_settled.false) in
+    let unsettled = unlabelled (settled_label (node_states e.node)) (sym c.is_settled.ensures ∙ c.if-is_settled.false) in
     has_none a b node_states e front c.requires.popped unsettled
 
 pub relax-requires-clause-ready : goal.relax-requires-clause-ready
@@ -46,7 +46,7 @@ relax-requires-clause-ready g c =
     let node_states = known value c.args.node_states.now in
     let e = walk_of value c.args.walk in
     let front = c.args.frontier.now in
-    let unsettled = none_of (settled_label (node_states e.node)) (sym c.is_settled.ensures ∙ c.if-is_settled.false) in
+    let unsettled = unlabelled (settled_label (node_states e.node)) (sym c.is_settled.ensures ∙ c.if-is_settled.false) in
     let marked = known value c.settle.new.self in
     let sets = c.in_ok-settle.ensures.settled in
     marked_ready a b node_states e front c.requires.popped unsettled marked sets
@@ -59,7 +59,7 @@ returns-clause-search g c =
     let node_states = known value c.args.node_states.now in
     let e = walk_of value c.args.walk in
     let front = c.args.frontier.now in
-    let unsettled = none_of (settled_label (node_states e.node)) (sym c.is_settled.ensures ∙ c.if-is_settled.false) in
+    let unsettled = unlabelled (settled_label (node_states e.node)) (sym c.is_settled.ensures ∙ c.if-is_settled.false) in
     let marked = known value c.settle.new.self in
     let sets = c.in_ok-settle.ensures.settled in
     let l = added a b node_states e front c.requires.popped unsettled marked sets in
@@ -79,7 +79,7 @@ returns-clause-less g c =
     let node_states = known value c.args.node_states.now in
     let e = walk_of value c.args.walk in
     let front = c.args.frontier.now in
-    let unsettled = none_of (settled_label (node_states e.node)) (sym c.is_settled.ensures ∙ c.if-is_settled.false) in
+    let unsettled = unlabelled (settled_label (node_states e.node)) (sym c.is_settled.ensures ∙ c.if-is_settled.false) in
     let marked = known value c.settle.new.self in
     let sets = c.in_ok-settle.ensures.settled in
     visited_less a b node_states e front c.requires.popped unsettled marked sets (known value c.relax.new.node_states) c.relax.new.frontier c.in_ok-relax.ensures.relaxes
