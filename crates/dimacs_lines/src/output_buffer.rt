@@ -118,8 +118,8 @@ impl OutputBuffer {
     }
 
     /// Writes the rest. Fails if any write since `new` failed.
-    pub fn finish<S: Sink>(mut self, sink: &mut S) -> Result<(), DeviceFault>
-        ensures { (start : Written) (text : List ℕ) → IsWritten start text (S.seen sink.old) self
+    pub fn finish<S: Sink>(&mut self, sink: &mut S) -> Result<(), DeviceFault>
+        ensures { (start : Written) (text : List ℕ) → IsWritten start text (S.seen sink.old) self.old
             → Puts result start text (S.seen sink.new) }
     {
         self.flush(sink);
