@@ -23,6 +23,7 @@ nothing | 0      | tools/try_bodies.py --apply
 nothing | 0      | tools/group_imports.py --check
 nothing | 0      | tools/believed.py
 nothing | 0      | tools/crate_tables.py --check
+nothing | 19     | tests/module_circles.py
 nothing | 380    | tests/promises.py
 nothing | 400    | tests/links.py
 nothing | 14     | tests/theorem.py

@@ -5,7 +5,7 @@ use Rattle.std.proofs.lemmas.List.{get_or-replicate, get_or-set_other, get_or-se
 use Rattle.std.proofs.lemmas.Option.{slice_get-get_or, slice_get_past}
 use Rattle.std.specs.Prelude.{int_lt, slice_set}
 use Rattle.dimacs_lines.specs.Limits.{IsNode}
-use Rattle.dimacs_claims.specs.{inside.ById.{NodesAreDistinct}, declared.block.Label.{Label}}
+use Rattle.dimacs_claims.specs.{inside.ById.{NodesAreDistinct}, declared.label_list.Label.{Label}}
 use Rattle.dimacs_claims.specs.Labels.{BlockValue, IsItem, distance_in, label}
 use Rattle.dimacs_claims.proofs.ByIdLemmas.{distance_in-at}
 use Rattle.dimacs_decide.specs.Claims.{claimed_by_node, unless_greatest}

@@ -7,7 +7,7 @@ use Rattle.std.specs.Result.{IsErrAnd}
 use Rattle.dimacs_lines.specs.Limits.{IsNode}
 use Rattle.dimacs_records.specs.declared.reasons.Reason.{Reason}
 use Rattle.dimacs_records.specs.declared.reasons.Reason.TheVariants.{NodeRange, NotShortest}
-use Rattle.dimacs_claims.specs.declared.block.Label.{Label}
+use Rattle.dimacs_claims.specs.declared.label_list.Label.{Label}
 use Rattle.dimacs_claims.specs.Labels.{BlockValue, EachAfter, HasPred, IsBlock, IsLabel, LabelsValue, distance_in, label}
 use Rattle.dimacs_judging.specs.{declared.verdict.Verdict.{Verdict}, declared.verdict.Where.{Where}}
 use Rattle.dimacs_judging.specs.{declared.verdict.Where.TheVariants.{Node}, declared.verdict.JudgeError.{JudgeError}}

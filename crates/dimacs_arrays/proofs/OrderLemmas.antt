@@ -5,7 +5,7 @@ use Rattle.std.proofs.lemmas.List.Elements.{All-cons, All-contains, All-from_get
 use Rattle.dimacs_lines.specs.Limits.{IsNode}
 use Rattle.dimacs_network.specs.Arcs.{JoinsNodes, NetworkValue, arc_at, no_arc}
 use Rattle.dimacs_instance.specs.QueryTexts.{Sources}
-use Rattle.dimacs_claims.specs.declared.block.Label.{Label}
+use Rattle.dimacs_claims.specs.declared.label_list.Label.{Label}
 use Rattle.dimacs_claims.specs.Labels.{BlockValue, IsBlock, IsLabel, IsWithinRadius, LabelsValue, distance_in, label, no_label}
 use Rattle.dimacs_judging.specs.{Answers.{block_of}, Labels.{HasTightArc, IsReached, IsRelaxed, LabelsOk}}
 use Rattle.dimacs_judging.specs.{PathsJudge.{PassesPaths}, QueryTests.{HasFullBlock}}

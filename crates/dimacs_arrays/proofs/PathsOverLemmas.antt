@@ -11,7 +11,7 @@ use Rattle.dimacs_records.specs.{declared.reasons.Reason.{Reason}, declared.reas
 use Rattle.dimacs_records.specs.{Ranges.{IsId, IsWide}, declared.records.Record.TheVariants.{SourceQuery}}
 use Rattle.dimacs_records.specs.declared.records.QueryKind.{QueryKind}
 use Rattle.dimacs_instance.specs.QueryTexts.{AreIds, AreLawful, pair_query}
-use Rattle.dimacs_claims.specs.{declared.block.Label.{Label}, DistanceTexts.{IsBare}}
+use Rattle.dimacs_claims.specs.{declared.label_list.Label.{Label}, DistanceTexts.{IsBare}}
 use Rattle.dimacs_claims.specs.Labels.{BlockValue, IsLabel, IsWithinRadius, distance_in, label, with_label}
 use Rattle.dimacs_judging.specs.{declared.verdict.Where.{Where}, declared.verdict.Where.TheVariants.{Node}}
 use Rattle.dimacs_judging.specs.{declared.verdict.JudgeError.{JudgeError}, Tests.{AllClear, FirstOfRow, Refutes, Row}}

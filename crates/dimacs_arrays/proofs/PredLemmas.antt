@@ -3,7 +3,7 @@ use Rattle.std.proofs.Common.{◌≡◌, ◌≢◌, inl, inr, ℕ, ◌+◌, ◌-
 use Rattle.std.proofs.{lemmas.Bool.{cases_order}, lemmas.List.Elements.{All-from_get_or}}
 use Rattle.std.specs.Prelude.{slice_set}
 use Rattle.dimacs_lines.specs.Limits.{IsNode}
-use Rattle.dimacs_claims.specs.{inside.ById.{NodesAreDistinct}, declared.block.Label.{Label}}
+use Rattle.dimacs_claims.specs.{inside.ById.{NodesAreDistinct}, declared.label_list.Label.{Label}}
 use Rattle.dimacs_claims.specs.Labels.{distance_in, no_label}
 use Rattle.dimacs_claims.proofs.ByIdLemmas.{distance_in-at}
 use Rattle.dimacs_decide.specs.Predecessors.{pred_by_node}

@@ -4,7 +4,7 @@ use Rattle.std.proofs.{lemmas.Bool.{cases_Bool, cases_eq, cases_order, ne_eqb}, 
 use Rattle.std.proofs.lemmas.Int.{ints}
 use Rattle.dimacs_lines.specs.Limits.{most_nodes, IsNode}
 use Rattle.dimacs_records.specs.Ranges.{IsWide}
-use Rattle.dimacs_claims.specs.declared.block.Label.{Label}
+use Rattle.dimacs_claims.specs.declared.label_list.Label.{Label}
 use Rattle.dimacs_claims.specs.Labels.{BlockValue, IsBlock, IsWithinRadius, LabelsValue, label, with_label}
 use Rattle.dimacs_claims.proofs.BlockLemmas.{block_empty, block_push, label-with_label}
 use Rattle.dimacs_judging.specs.Tests.{Clear}

@@ -5,7 +5,7 @@ use Rattle.dimacs_lines.specs.Limits.{IsNode}
 use Rattle.dimacs_records.specs.declared.reasons.Reason.TheVariants.{NegativeWeight, NodeRange}
 use Rattle.dimacs_network.specs.Arcs.{NetworkValue}
 use Rattle.dimacs_instance.specs.QueryTexts.{Sources}
-use Rattle.dimacs_claims.specs.declared.block.Label.{Label}
+use Rattle.dimacs_claims.specs.declared.label_list.Label.{Label}
 use Rattle.dimacs_claims.specs.Labels.{BlockValue, EachAfter, IsBlock, IsItem, LabelsValue, label}
 use Rattle.dimacs_judging.specs.{Answers.{AnswersQueries}, PathsJudge.{PassesPaths, ShowsDistances, paths_rows}}
 use Rattle.dimacs_judging.specs.{Rows.{node_row}, Tests.{FirstAlone, Judges, Refutes, Row}}

@@ -6,7 +6,7 @@ use Rattle.dimacs_records.specs.{declared.reasons.Reason.TheVariants.{NumberRang
 use Rattle.dimacs_records.specs.declared.records.QueryKind.{QueryKind}
 use Rattle.dimacs_instance.specs.declared.queries.Queries.{Queries}
 use Rattle.dimacs_instance.specs.QueryTexts.{AreLawful, Pairs, QueriesValue, Sources, asked}
-use Rattle.dimacs_claims.specs.{declared.block.Label.{Label}, Labels.{BlockValue, LabelsValue}}
+use Rattle.dimacs_claims.specs.{declared.label_list.Label.{Label}, Labels.{BlockValue, LabelsValue}}
 use Rattle.dimacs_judging.specs.{declared.verdict.JudgeError.{JudgeError}, declared.verdict.Where.TheVariants.{Node}}
 use Rattle.dimacs_judging.specs.{declared.verdict.JudgeError.TheVariants.{Refused, Memory}, Rows.{one_test}}
 use Rattle.dimacs_judging.specs.Tests.{Row, Settles}

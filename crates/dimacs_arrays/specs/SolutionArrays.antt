@@ -6,7 +6,7 @@ use Rattle.dimacs_records.specs.{declared.faults.ReadError.{ReadError}, Faults.{
 use Rattle.dimacs_records.specs.declared.reasons.Reason.TheVariants.{NumberRange}
 use Rattle.dimacs_network.specs.{declared.network.ArcView.{ArcView}, Arcs.{NetworkValue}, KeptArcs.{weight_arc}}
 use Rattle.dimacs_instance.specs.Graph.{IsGraph}
-use Rattle.dimacs_claims.specs.{declared.solution.Entry.{Entry}, declared.solution.Solution.{Solution}}
+use Rattle.dimacs_claims.specs.{declared.place.Entry.{Entry}, declared.solution.Solution.{Solution}}
 use Rattle.dimacs_claims.specs.SolutionTexts.{SolutionValue, SpellsSolution, claimed}
 use Rattle.dimacs_judging.specs.{declared.verdict.JudgeError.{JudgeError}, Claims.{Carries, entry_row}, Rows.{one_test}}
 use Rattle.dimacs_judging.specs.{declared.verdict.JudgeError.TheVariants.{Refused, Memory}, Tests.{Row, Settles}}

@@ -7,7 +7,7 @@ use Rattle.std.specs.List.{All, Contains, list_any}
 use Rattle.dimacs_lines.specs.Limits.{most_count, IsNode}
 use Rattle.dimacs_records.specs.{Blocks.{is_past}, Earlier.{or_else}, Ranges.{IsRadius, IsWide}}
 use Rattle.dimacs_records.proofs.SplitLemmas.{two_places, same, sooner, later}
-use Rattle.dimacs_claims.specs.declared.block.Label.{Label}
+use Rattle.dimacs_claims.specs.declared.label_list.Label.{Label}
 use Rattle.dimacs_claims.specs.Labels.{BlockValue, label, label_at, distance_in, with_label, EachAfter, IsFresh, HasPred, IsLabel, IsBlock, IsWithinRadius, IsNewSource, AreLabels}
 
 -- a test before a choice

@@ -15,7 +15,7 @@ use Rattle.dimacs_records.specs.declared.records.Record.TheVariants.{LabelsProbl
 use Rattle.dimacs_records.specs.Blocks.{block_in, is_full_block, is_labelled, is_past, is_past_block, is_short_block}
 use Rattle.dimacs_records.specs.{Readings.{LineRecord, records_of}, Spelling.{kind_of}}
 use Rattle.dimacs_records.specs.Tests.{Passes, PassesEnd, plain_context_after, plain_context_of, end_context_of, context_after}
-use Rattle.dimacs_claims.specs.{declared.block.Label.{Label}, LabelTexts.{GivesLabels, label_line}}
+use Rattle.dimacs_claims.specs.{declared.label_list.Label.{Label}, LabelTexts.{GivesLabels, label_line}}
 use Rattle.dimacs_claims.specs.Labels.{AreSources, BlockValue, EachAfter, IsBlock, IsNewSource, distance_in, label, no_label, with_label, has_source}
 use Rattle.dimacs_claims.specs.LabelsReading.{LabelsBegun, lines_of_blocks, labels_begun_records, plain_context, context, end_context}
 use Rattle.dimacs_claims.specs.inside.LabelsReading.{AreLabelled, AreLabelsBegun}

@@ -13,7 +13,7 @@ use Rattle.dimacs_records.specs.Earlier.{counted_in, is_above, is_counted, names
 use Rattle.dimacs_records.specs.{Forms.{Count, Id, Nodes, Radius, Wide, Word, form}, Spelling.{kind_of}}
 use Rattle.dimacs_records.specs.{Readings.{IsAllowed, LineRecord, records_of}, Texts.{AreFaultless}}
 use Rattle.dimacs_records.proofs.{CanonicalLaws.{canonical_spelled, numbered_all}, FitLaws.{fits_spelled}}
-use Rattle.dimacs_claims.specs.{declared.block.Label.{Label}, Labels.{AreLabels, BlockValue, LabelsValue}}
+use Rattle.dimacs_claims.specs.{declared.label_list.Label.{Label}, Labels.{AreLabels, BlockValue, LabelsValue}}
 use Rattle.dimacs_claims.specs.DistanceTexts.{AreBare, GivesDistances, IsBare, SpellsDistances, bare, canonical_distances, distance_records}
 use Rattle.dimacs_claims.specs.LabelTexts.{FitText, block_lines, label_line, label_records}
 use Rattle.dimacs_claims.proofs.LabelLaws.{AllAllowed, allowed_at, labels_of, labels_of-label_records, records_fit, whole_records}

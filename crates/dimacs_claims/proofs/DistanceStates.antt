@@ -9,9 +9,10 @@ use Rattle.dimacs_records.specs.Blocks.{block_in, is_labelled, is_past, is_past_
 use Rattle.dimacs_records.specs.Readings.{LineRecord, numbered, records_of}
 use Rattle.dimacs_records.specs.Tests.{Passes, end_context_of, context_after}
 use Rattle.dimacs_records.proofs.CanonicalLaws.{numbered_all}
-use Rattle.dimacs_claims.specs.{declared.block.Label.{Label}, DistanceTexts.{AreBare, GivesDistances, IsBare, bare}}
+use Rattle.dimacs_claims.specs.{declared.label_list.Label.{Label}, LabelTexts.{GivesLabels}}
+use Rattle.dimacs_claims.specs.DistanceTexts.{AreBare, GivesDistances, IsBare, bare}
 use Rattle.dimacs_claims.specs.Labels.{BlockValue, IsBlock, LabelsValue, with_block, with_label}
-use Rattle.dimacs_claims.specs.{LabelTexts.{GivesLabels}, inside.LabelsReading.{AreLabelsBegun}}
+use Rattle.dimacs_claims.specs.inside.LabelsReading.{AreLabelsBegun}
 use Rattle.dimacs_claims.specs.LabelsReading.{LabelsBegun, context, bare_context, end_context, labels_begun_records}
 use Rattle.dimacs_claims.proofs.BuilderLemmas.{end_context_by_records, in_last, plain_context_by_records, context_by_records}
 use Rattle.dimacs_claims.proofs.DistanceLaws.{bare_counted_in, bare_full, bare_labelled, bare_misplaced, bare_named, bare_problem_in, bare_short}

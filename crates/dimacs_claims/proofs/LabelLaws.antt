@@ -12,7 +12,7 @@ use Rattle.dimacs_records.specs.{Forms.{form, Word, Nodes, Count, Id, Wide, Radi
 use Rattle.dimacs_records.specs.{declared.faults.ReadError.{ReadError}, Texts.{AreFaultless, Reads, SpellsValue}}
 use Rattle.dimacs_records.specs.{Readings.{LineRecord, numbered, records_of, IsAllowed, IsComplete}, Faults.{Fault}}
 use Rattle.dimacs_records.proofs.CanonicalLaws.{canonical_spelled, numbered_all}
-use Rattle.dimacs_claims.specs.declared.block.Label.{Label}
+use Rattle.dimacs_claims.specs.declared.label_list.Label.{Label}
 use Rattle.dimacs_claims.specs.Labels.{BlockValue, LabelsValue, AreLabels, EachAfter, IsBlock, IsLabel, IsFresh, HasPred, IsWithinRadius, IsNewSource}
 use Rattle.dimacs_claims.specs.LabelTexts.{label_line, block_lines, label_records, GivesLabels, SpellsLabels, canonical_labels, FitText}
 use Rattle.dimacs_claims.proofs.BlockLemmas.{label_id, is_some-label, fresh_has_none, not_past, pred_has_label}

@@ -6,8 +6,8 @@ use Rattle.std.specs.{Prelude.{ℤ, nat_lt, ◌==◌, ◌||◌}, List.{list_any,
 use Rattle.std.specs.Cmp.{nat_cmp_total, nat_eq_equiv, unsigned_tied}
 use Rattle.dimacs_records.specs.{declared.records.Record.{Record}, Blocks.{Block, block_in, is_short_block}}
 use Rattle.dimacs_records.specs.declared.records.Record.TheVariants.{LabelsProblem, LabelsBlock}
-use Rattle.dimacs_claims.specs.{declared.block.Label.{Label}, Labels.{AreSources, BlockValue, IsNewSource, has_source}}
-use Rattle.dimacs_claims.specs.LabelTexts.{label_line, block_lines}
+use Rattle.dimacs_claims.specs.{declared.label_list.Label.{Label}, LabelTexts.{label_line, block_lines}}
+use Rattle.dimacs_claims.specs.Labels.{AreSources, BlockValue, IsNewSource, has_source}
 use Rattle.dimacs_claims.specs.LabelsReading.{LabelsBegun, lines_of_short, lacking, lines_of_blocks, labels_begun_records}
 use Rattle.dimacs_claims.proofs.BlockLemmas.{label_id}
 use Rattle.dimacs_claims.proofs.LabelStates.{Say, opened, is_source, say_problem, say_block, say_label}

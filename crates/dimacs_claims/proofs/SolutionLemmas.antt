@@ -14,7 +14,7 @@ use Rattle.dimacs_records.specs.Tests.{Passes, end_context_of, context_after}
 use Rattle.dimacs_records.proofs.{CanonicalLaws.{canonical_spelled}, ConditionLemmas.{is_allowed, is_complete}}
 use Rattle.dimacs_records.proofs.{FitLaws.{fits_of}, OrderLemmas.{allowed_by_records}, SplitLemmas.{image_at}}
 use Rattle.dimacs_records.proofs.ReadLaws.{reads_exactly, spelled_of_faultless}
-use Rattle.dimacs_claims.specs.{declared.solution.Entry.{Entry}, declared.solution.Solution.{Solution}}
+use Rattle.dimacs_claims.specs.{declared.place.Entry.{Entry}, declared.solution.Solution.{Solution}}
 use Rattle.dimacs_claims.specs.{declared.solution.ValueLine.{ValueLine}, inside.SolutionReading.{value_context}}
 use Rattle.dimacs_claims.specs.SolutionTexts.{SolutionValue, GivesSolution, SpellsSolution, IsLawful, IsLawfulEntry, canonical_solution, claimed, entry_line, entry_record, on_lines_from, renumbered, solution_records}
 use Rattle.dimacs_claims.specs.SolutionReading.{AreTaken, StandsForSolution, GivesPlaced, IsPlaced, IsPlacedLawful, AnswersAlike, ReadsLike}

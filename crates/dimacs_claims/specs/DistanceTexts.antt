@@ -5,7 +5,7 @@ use Rattle.dimacs_records.specs.{declared.kinds.TextKind.TheVariants.{Distances}
 use Rattle.dimacs_records.specs.declared.records.Record.TheVariants.{LabelsProblem, LabelsBlock, LabelsNode, DistancesProblem, DistancesBlock, DistancesNode}
 use Rattle.dimacs_records.specs.{Canonical.{canonical_text}, Printed.{shown}, Readings.{LineRecord, records_of}}
 use Rattle.dimacs_records.specs.Texts.{SpellsValue}
-use Rattle.dimacs_claims.specs.{declared.block.Label.{Label}, Labels.{BlockValue, LabelsValue, AreLabels}}
+use Rattle.dimacs_claims.specs.{declared.label_list.Label.{Label}, Labels.{BlockValue, LabelsValue, AreLabels}}
 use Rattle.dimacs_claims.specs.LabelTexts.{label_records}
 
 -- the block has no radius, and the source is the predecessor of each label

@@ -1,5 +1,5 @@
 -- The labels of a block as they are stored.
-use Rattle.dimacs_claims.specs.{declared.block.Label.{Label}, declared.label_list.Label64.{Label64}}
+use Rattle.dimacs_claims.specs.{declared.label_list.Label.{Label}, declared.label_list.Label64.{Label64}}
 use Rattle.dimacs_claims.specs.declared.label_list.Label32.{Label32}
 
 -- a label with a distance of 32 bits

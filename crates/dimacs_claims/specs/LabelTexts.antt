@@ -4,7 +4,7 @@ use Rattle.dimacs_lines.specs.{Lines.{lines}, Limits.{most_lines}}
 use Rattle.dimacs_records.specs.{declared.records.Record.{Record}, Canonical.{canonical_text}, Printed.{shown}}
 use Rattle.dimacs_records.specs.declared.records.Record.TheVariants.{LabelsProblem, LabelsBlock, LabelsNode}
 use Rattle.dimacs_records.specs.{Readings.{LineRecord, records_of}, Texts.{SpellsValue}}
-use Rattle.dimacs_claims.specs.{declared.block.Label.{Label}, Labels.{BlockValue, LabelsValue, AreLabels}}
+use Rattle.dimacs_claims.specs.{declared.label_list.Label.{Label}, Labels.{BlockValue, LabelsValue, AreLabels}}
 use Rattle.dimacs_records.specs.declared.kinds.TextKind.TheVariants as kinds
 
 abbrev pub label_line : Label → Record

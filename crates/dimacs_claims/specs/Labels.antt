@@ -3,7 +3,7 @@ use Rattle.std.specs.Prelude.{ℕ, ◌≡◌, ◌≢◌, ◌≤◌, ◌⊎◌, �
 use Rattle.std.specs.{List.{All, Contains, list_any}, Ordering.{nat_cmp}}
 use Rattle.dimacs_lines.specs.Limits.{most_count, most_nodes, IsNode}
 use Rattle.dimacs_records.specs.Ranges.{IsRadius, IsWhole, IsWide}
-use Rattle.dimacs_claims.specs.declared.block.Label.{Label}
+use Rattle.dimacs_claims.specs.declared.label_list.Label.{Label}
 use Rattle.std.specs.FinSet as set
 
 -- the labels of all nodes claimed to be reachable from the source, or of those within a radius

@@ -3,7 +3,7 @@ use Rattle.std.specs.Prelude.{ℕ, ℤ, ◌≡◌, List, map, Option, None, Some
 use Rattle.dimacs_lines.specs.Lines.{lines}
 use Rattle.dimacs_records.specs.{declared.faults.ReadError.{ReadError}, Faults.{Fault}, Readings.{LineRecord, on_line}}
 use Rattle.dimacs_records.specs.{declared.records.Record.TheVariants.{SolutionValue}, Texts.{Reads}}
-use Rattle.dimacs_claims.specs.{declared.solution.Entry.{Entry}, declared.solution.ValueLine.{ValueLine}}
+use Rattle.dimacs_claims.specs.{declared.place.Entry.{Entry}, declared.solution.ValueLine.{ValueLine}}
 use Rattle.dimacs_claims.specs.SolutionTexts.{StandsAmong, GivesSolution, SpellsSolution, IsLawful, entry_line}
 use Rattle.dimacs_records.specs.declared.kinds.TextKind.TheVariants as kinds
 use Rattle.dimacs_claims.specs.SolutionTexts as texts

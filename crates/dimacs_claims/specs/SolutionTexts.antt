@@ -4,7 +4,7 @@ use Rattle.std.specs.Fmt.{decimal, signed_decimal}
 use Rattle.dimacs_lines.specs.{Lines.{lines}, Limits.{most_lines}}
 use Rattle.dimacs_records.specs.{declared.records.Record.{Record}, Canonical.{canonical_text}, Printed.{shown}}
 use Rattle.dimacs_records.specs.{Ranges.{IsId, IsWhole, IsWide}, Readings.{LineRecord, on_line}, Texts.{SpellsValue}}
-use Rattle.dimacs_claims.specs.{declared.solution.Entry.{Entry}, declared.solution.Solution.{Solution}}
+use Rattle.dimacs_claims.specs.{declared.place.Entry.{Entry}, declared.solution.Solution.{Solution}}
 use Rattle.dimacs_records.specs.declared.kinds.TextKind.TheVariants as kinds
 use Rattle.dimacs_records.specs.declared.records.Record.TheVariants as records
 

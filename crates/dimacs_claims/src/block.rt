@@ -6,19 +6,10 @@ ghost use Rattle.dimacs_records.specs.Blocks.{is_past};
 ghost use Rattle.dimacs_claims.specs.Labels.{BlockValue, IsBlock, IsLabel, IsWithinRadius, with_label};
 ghost use Rattle.dimacs_claims.specs.Labels as claims;
 
-use crate::label_list::LabelList;
+use crate::label_list::{Label, LabelList};
 use dimacs_lines::Memory;
 use std::alloc::Global;
 use std::marker::Model;
-
-/// A claimed distance: node `id` is at distance `dist` from the source, and `pred` is its predecessor on a walk of this
-/// weight.
-#[derive(Clone, Copy, Debug, PartialEq, Eq)]
-pub struct Label {
-    pub dist: i128,
-    pub id: u32,
-    pub pred: u32,
-}
 
 /// The labels of one source. A node without a label is claimed to be unreachable or, with a radius, farther than it.
 #[derive(Drop)]

@@ -10,7 +10,8 @@ ghost use Rattle.dimacs_claims.specs.Labels.{AreLabels, IsBlock, IsNewSource, La
 ghost use Rattle.dimacs_claims.specs.LabelTexts.{FitText};
 ghost use Rattle.dimacs_claims.specs.LabelsReading.{bare_context, end_context, labels_begun_records};
 
-use crate::block::{Block, Label};
+use crate::block::Block;
+use crate::label_list::Label;
 use crate::labels::{Labels, LabelsBuilder, write_in_kind};
 use crate::show::show_nodes;
 use dimacs_lines::{DeviceFault, Memory, Sink, Source};

@@ -1,14 +1,22 @@
-//! The labels of a block, stored compactly.
+//! Labels, and those of a block, stored compactly.
 
 ghost use Rattle.std.specs.Prelude.{◌≡◌, ◌<◌, ◌++◌, ◌∷◌, [], ◌↔◌, All, length, slice_get, slice_index_or, IsTrue, OnOk, OnErr};
 ghost use Rattle.dimacs_network.specs.Lists.{items_left};
-ghost use Rattle.dimacs_claims.specs.{Labels.{no_label}, ShortDistances.{IsShort}, declared.block.Label.{Label}};
+ghost use Rattle.dimacs_claims.specs.{Labels.{no_label}, ShortDistances.{IsShort}, declared.label_list.Label.{Label}};
 
-use crate::block::Label;
 use dimacs_lines::Memory;
 use dimacs_network::{ListIter, ShortForm, WideningList};
 use std::alloc::Global;
 use std::marker::Model;
+
+/// A claimed distance: node `id` is at distance `dist` from the source, and `pred` is its predecessor on a walk of this
+/// weight.
+#[derive(Clone, Copy, Debug, PartialEq, Eq)]
+pub struct Label {
+    pub dist: i128,
+    pub id: u32,
+    pub pred: u32,
+}
 
 /// Labels in the order in which they were added. A label takes 12 bytes while all distances are below the greatest
 /// number of 32 bits, 16 while they fit into 64, otherwise 32.
@@ -19,7 +27,7 @@ pub struct LabelList {
 
 impl Model for LabelList {
     ghost use Rattle.std.specs.Prelude.{List};
-    ghost use Rattle.dimacs_claims.specs.declared.block.Label.{Label};
+    ghost use Rattle.dimacs_claims.specs.declared.label_list.Label.{Label};
 
     ghost Value = { List Label };
 

@@ -17,13 +17,13 @@ mod potentials;
 mod show;
 mod solution;
 
-pub use block::{Block, Label};
+pub use block::Block;
 pub use cut::{Cut, CutReading, read_cut, write_cut};
 pub use distances::{Distances, DistancesReading, read_distances, write_distances};
-pub use label_list::LabelList;
+pub use label_list::{Label, LabelList};
 pub use labels::{Labels, LabelsReading, read_labels, read_plain_labels, write_labels};
-pub use place::{Place, Placed};
+pub use place::{Entry, Place, Placed};
 pub use potentials::{Potentials, PotentialsReading, read_potentials, write_potentials};
 pub use solution::{
-    Entry, Solution, SolutionReading, read_solution, read_solution_into, write_solution,
+    Solution, SolutionReading, read_solution, read_solution_into, write_solution,
 };

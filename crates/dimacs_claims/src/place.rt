@@ -1,10 +1,33 @@
-//! Where the entries of a solution go while they are read.
+//! The entries of a solution, and where they go while they are read.
 
 ghost use Rattle.std.specs.Prelude.{◌≡◌, ◌↔◌, ◌++◌, ◌∷◌, [], List, OnOk, OnErr};
-ghost use Rattle.dimacs_claims.specs.declared.solution.Entry.{Entry};
+ghost use Rattle.dimacs_claims.specs.{SolutionTexts.{entry_record}, declared.place.Entry.{Entry}};
 
-use crate::solution::Entry;
 use dimacs_lines::Memory;
+use dimacs_records::Record;
+
+/// The claimed flow of an arc between two nodes.
+#[derive(Clone, Copy, Debug, PartialEq, Eq)]
+pub struct Entry {
+    pub tail: u32,
+    pub head: u32,
+    pub flow: i64,
+    /// The line of the text that has this entry.
+    pub line: u64,
+}
+
+impl Entry {
+    #[inline(always)]
+    pub(crate) fn record(&self) -> Record
+        ensures { result ≡ entry_record self.now }
+    {
+        Record::SolutionEntry {
+            tail: self.tail,
+            head: self.head,
+            flow: self.flow,
+        }
+    }
+}
 
 /// Receives the entries of a solution one after another.
 ///

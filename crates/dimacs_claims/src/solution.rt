@@ -2,7 +2,7 @@
 
 ghost use Rattle.std.specs.Prelude.{◌≡◌, ◌<◌, ℕ, List, [], Some, IfOk, length, map, option_map, slice_get};
 ghost use Rattle.std.specs.Result.{result_map_both};
-ghost use Rattle.dimacs_claims.specs.declared.solution.Entry.{Entry};
+ghost use Rattle.dimacs_claims.specs.declared.place.Entry.{Entry};
 ghost use Rattle.dimacs_lines.specs.{Lines.{lines}, Puts.{Puts}};
 ghost use Rattle.dimacs_records.specs.declared.kinds.TextKind.TheVariants as kinds;
 ghost use Rattle.dimacs_records.specs.{Faults.{Fault}, Readings.{CountsRead}, Texts.{Reads}};
@@ -10,7 +10,7 @@ ghost use Rattle.dimacs_claims.specs.SolutionTexts.{SolutionValue, IsLawful, Spe
 ghost use Rattle.dimacs_claims.specs.SolutionReading.{GivesPlaced, IsPlaced, IsPlacedLawful, ReadsLike, StandsForSolution};
 ghost use Rattle.dimacs_claims.specs.inside.SolutionReading.{value_context};
 
-use crate::place::{Place, Placed};
+use crate::place::{Entry, Place, Placed};
 use dimacs_lines::{DeviceFault, Sink, Source};
 use dimacs_records::{
     Context, Part, ReadError, Reading, Record, TakeError, Text, TextKind, Writable, put_line,
@@ -27,29 +27,6 @@ pub struct Solution {
     pub value_line: u64,
     /// The entries in the order of the text.
     pub entries: Vec<Entry>,
-}
-
-/// The claimed flow of an arc between two nodes.
-#[derive(Clone, Copy, Debug, PartialEq, Eq)]
-pub struct Entry {
-    pub tail: u32,
-    pub head: u32,
-    pub flow: i64,
-    /// The line of the text that has this entry.
-    pub line: u64,
-}
-
-impl Entry {
-    #[inline(always)]
-    fn record(&self) -> Record
-        ensures { result ≡ entry_record self.now }
-    {
-        Record::SolutionEntry {
-            tail: self.tail,
-            head: self.head,
-            flow: self.flow,
-        }
-    }
 }
 
 /// A value and its line.

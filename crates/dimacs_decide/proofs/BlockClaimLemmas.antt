@@ -5,7 +5,7 @@ use Rattle.std.proofs.{lemmas.List.{drop_all}, lemmas.List.Elements.{All-cons, A
 use Rattle.std.specs.{Prelude.{IfSome, int_lt}, Option.{ForSome}}
 use Rattle.dimacs_lines.specs.Limits.{IsNode}
 use Rattle.dimacs_records.specs.Ranges.{IsWide}
-use Rattle.dimacs_claims.specs.declared.block.Label.{Label}
+use Rattle.dimacs_claims.specs.declared.label_list.Label.{Label}
 use Rattle.dimacs_claims.specs.Labels.{BlockValue, IsBlock, IsLabel, distance_in, label, no_label}
 use Rattle.dimacs_claims.proofs.{BlockLemmas.{label_at_wide}, ByIdLemmas.{distance_in-from, distance_in-past}}
 use Rattle.dimacs_judging.specs.Distances.{below}

@@ -3,7 +3,7 @@ use Rattle.std.proofs.Common.{◌≡◌, ◌≢◌, inl, inr, ℕ, suc, ◌==◌
 use Rattle.std.proofs.{lemmas.Bool.{cases_eq, ne_eqb}, lemmas.Bool.Decides.{eqb_tells}}
 use Rattle.std.proofs.lemmas.List.Elements.{All-nil, All-push}
 use Rattle.dimacs_lines.specs.Limits.{IsNode}
-use Rattle.dimacs_claims.specs.declared.block.Label.{Label}
+use Rattle.dimacs_claims.specs.declared.label_list.Label.{Label}
 use Rattle.dimacs_claims.specs.Labels.{BlockValue, IsBlock, distance_in, label, with_label}
 use Rattle.dimacs_claims.proofs.BlockLemmas.{each_after_nil, each_after_push}
 use Rattle.dimacs_decide.specs.Predecessors.{IsNext, LeadsBack}

@@ -2,7 +2,7 @@
 use Rattle.std.proofs.Common.{◌≡◌, ◌≢◌, inl, inr, ℕ, ◌+◌, ◌<◌, ◌≤◌, ◌==◌, Bool, true, false, not, cond, [], ◌∷◌, length, Option, Some, None, is_some, ℤ, pos, refl, sym, ap, ◌∙◌, arith}
 use Rattle.std.proofs.{lemmas.Bool.Decides.{eqb_tells}, lemmas.List.{length-append}}
 use Rattle.dimacs_lines.specs.Limits.{most_count, most_nodes, IsNode}
-use Rattle.dimacs_claims.specs.{declared.block.Label.{Label}, Labels.{BlockValue, IsBlock, label, with_label}}
+use Rattle.dimacs_claims.specs.{declared.label_list.Label.{Label}, Labels.{BlockValue, IsBlock, label, with_label}}
 use Rattle.dimacs_decide.specs.inside.MarkedBlocks.{IsMarkedBlock, absent}
 use Rattle.dimacs_claims.proofs.BuilderLemmas.{unlabelled}
 use Rattle.dimacs_decide.proofs.CountLemmas.{count_all, one_fewer}

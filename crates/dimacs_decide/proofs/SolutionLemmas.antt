@@ -4,7 +4,7 @@ use Rattle.std.proofs.{Math.ListN.{get_or-map}, Math.Seq.{get_or-append_seam}, l
 use Rattle.std.proofs.{lemmas.List.{get_or_append_left, length-map}, lemmas.List.FromFn.{fill_by_all}}
 use Rattle.std.specs.List.{filter}
 use Rattle.dimacs_records.proofs.CountLemmas.{count_by-cons, count_yes, count_no}
-use Rattle.dimacs_claims.specs.declared.solution.Entry.{Entry}
+use Rattle.dimacs_claims.specs.declared.place.Entry.{Entry}
 use Rattle.dimacs_network.specs.{declared.network.ArcView.{ArcView}, Arcs.{joins, no_arc, arc_at}}
 use Rattle.dimacs_judging.specs.{Claims.{is_between, entry_at, no_entry, claimed_of, HasArc, Carries}, Rows.{amount_at}}
 use Rattle.dimacs_decide.specs.Entries.{IsEntryOf, AreEntriesOf}

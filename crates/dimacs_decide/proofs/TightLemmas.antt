@@ -6,7 +6,7 @@ use Rattle.std.proofs.lemmas.List.Elements.{All-nil, All-push, All-head, All-tai
 use Rattle.dimacs_lines.specs.Limits.{IsNode}
 use Rattle.dimacs_network.specs.{declared.network.ArcView.{ArcView}, AdjacencyLists.{IsLast}, Arcs.{arc_at, no_arc}}
 use Rattle.dimacs_network.specs.declared.adjacency_lists.Side.TheVariants.{Tail}
-use Rattle.dimacs_claims.specs.declared.block.Label.{Label}
+use Rattle.dimacs_claims.specs.declared.label_list.Label.{Label}
 use Rattle.dimacs_claims.specs.Labels.{BlockValue, IsBlock, distance_in, label, no_label, with_label}
 use Rattle.dimacs_judging.specs.{Labels.{HasTightArc}, Walks.{IsWalk}}
 use Rattle.dimacs_decide.specs.Distances.{IsTight, IsTightlyReached}

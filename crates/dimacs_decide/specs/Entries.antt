@@ -1,6 +1,6 @@
 -- Solutions with an entry for every arc.
 use Rattle.std.specs.Prelude.{ℕ, ◌≡◌, ◌+◌, ◌<◌, List, length, ℤ}
-use Rattle.dimacs_claims.specs.{declared.solution.Entry.{Entry}, SolutionTexts.{SolutionValue}}
+use Rattle.dimacs_claims.specs.{declared.place.Entry.{Entry}, SolutionTexts.{SolutionValue}}
 use Rattle.dimacs_network.specs.{declared.network.ArcView.{ArcView}, Arcs.{arc_at}}
 use Rattle.dimacs_instance.specs.{MaxFlows.{MaxValue}, MinFlows.{MinValue}}
 use Rattle.dimacs_judging.specs.{Claims.{entry_at}, MaxJudge.{IsMaxClaim}, MinJudge.{IsMinClaim}}

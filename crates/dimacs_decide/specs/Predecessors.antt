@@ -1,7 +1,7 @@
 -- Predecessors of nodes, and where they lead.
 use Rattle.std.specs.Prelude.{ℕ, zero, suc, ◌≡◌, ◌≢◌, ◌<◌, List, get_or, Option, None, IsSome, ℤ}
 use Rattle.dimacs_records.specs.declared.reasons.Reason.TheVariants.{PredUnknown}
-use Rattle.dimacs_claims.specs.{declared.block.Label.{Label}, Labels.{distance_in}}
+use Rattle.dimacs_claims.specs.{declared.label_list.Label.{Label}, Labels.{distance_in}}
 use Rattle.dimacs_judging.specs.{Rows.{node_row}, Tests.{Row}}
 
 -- the predecessor of node v is item v - 1; 0 past the end

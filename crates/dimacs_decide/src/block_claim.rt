@@ -2,7 +2,7 @@
 
 ghost use Rattle.std.specs.{Prelude.{◌≡◌, ℕ, All, IfOk}, Option.{ForSome}};
 ghost use Rattle.dimacs_records.specs.Ranges.{IsWide};
-ghost use Rattle.dimacs_claims.specs.{Labels.{IsBlock, label}, declared.block.Label.{Label}};
+ghost use Rattle.dimacs_claims.specs.{Labels.{IsBlock, label}, declared.label_list.Label.{Label}};
 ghost use Rattle.dimacs_judging.specs.Distances.{Fits};
 ghost use Rattle.dimacs_network.specs.DenseTables.{value_at};
 

@@ -4,7 +4,7 @@ ghost use Rattle.std.specs.Prelude.{◌≡◌, ℕ, All, IfOk, IfSome, IsSome, O
 ghost use Rattle.dimacs_lines.specs.Limits.{IsNode};
 ghost use Rattle.dimacs_network.specs.AdjacencyLists.{AreAdjacencyLists};
 ghost use Rattle.dimacs_network.specs.declared.adjacency_lists.Side.TheVariants.{Tail};
-ghost use Rattle.dimacs_claims.specs.{Labels.{IsBlock, label}, declared.block.Label.{Label}};
+ghost use Rattle.dimacs_claims.specs.{Labels.{IsBlock, label}, declared.label_list.Label.{Label}};
 ghost use Rattle.dimacs_judging.specs.Distances.{Fits};
 ghost use Rattle.dimacs_decide.specs.{CertifiedPaths.{CertifiesPaths}, Distances.{AreDistancesFrom}};
 ghost use Rattle.dimacs_decide.specs.{inside.DistanceBlocks.{DecidesBlock, IsBlockFor}, inside.FewLabels.{AreFree}};

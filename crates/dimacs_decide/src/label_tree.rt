@@ -2,7 +2,7 @@
 
 ghost use Rattle.std.specs.Prelude.{◌≡◌, ◌≤◌, ◌↔◌, ℕ, All, None, Some, false, true, length, pos, IfErr, IfOk, IsSome, IsTrue, OnOk};
 ghost use Rattle.dimacs_lines.specs.Limits.{most_nodes, IsNode};
-ghost use Rattle.dimacs_claims.specs.{declared.block.Label.{Label}, Labels.{EachAfter, IsBlock, label}};
+ghost use Rattle.dimacs_claims.specs.{declared.label_list.Label.{Label}, Labels.{EachAfter, IsBlock, label}};
 ghost use Rattle.dimacs_judging.specs.Tests.{FirstOfRow, Refuses};
 ghost use Rattle.dimacs_network.specs.Tables.{value_of};
 ghost use Rattle.dimacs_decide.specs.Predecessors.{IsNext, back_row, pred_by_node};

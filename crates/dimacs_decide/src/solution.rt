@@ -2,7 +2,7 @@
 
 ghost use Rattle.std.specs.Prelude.{◌≡◌, ◌≤◌, ◌+◌, length, IfNone, IfOk, IfSome, map};
 ghost use Rattle.dimacs_lines.specs.Limits.{most_count};
-ghost use Rattle.dimacs_claims.specs.{declared.solution.Entry.{Entry}, SolutionTexts.{claimed}};
+ghost use Rattle.dimacs_claims.specs.{declared.place.Entry.{Entry}, SolutionTexts.{claimed}};
 ghost use Rattle.dimacs_decide.specs.Entries.{AreEntriesOf, IsEntryOf, IsMaxSolutionOf, IsMinSolutionOf};
 ghost use Rattle.dimacs_judging.specs.{Feasible.{FeasibleMax, FeasibleMin}, FlowTests.{LeavesCostRange}};
 

@@ -7,7 +7,7 @@ use Rattle.std.proofs.lemmas.List.Elements.{All-contains_itself, All-get_or, All
 use Rattle.std.proofs.lemmas.List.FromFn.{get_or-map-range_with_len, length-map-range_with_len}
 use Rattle.std.specs.{Prelude.{Contains, if◌then◌else◌, slice_set}, List.{range_with_len}}
 use Rattle.dimacs_lines.specs.Limits.{IsNode}
-use Rattle.dimacs_claims.specs.declared.block.Label.{Label}
+use Rattle.dimacs_claims.specs.declared.label_list.Label.{Label}
 use Rattle.dimacs_claims.specs.Labels.{BlockValue, IsBlock, IsFresh, IsLabel, label, no_label, with_label}
 use Rattle.dimacs_claims.proofs.{BlockLemmas.{fresh_has_none, label-with_label}, BuilderLemmas.{unlabelled}}
 use Rattle.dimacs_fill.specs.{BlockFilled.{distances_of, item_of, pred_in, preds_of}, Filling.{filled}}

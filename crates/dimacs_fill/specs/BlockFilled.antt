@@ -2,8 +2,8 @@
 use Rattle.std.specs.Prelude.{ℕ, ℤ, ◌≡◌, ◌<◌, ◌-◌, ◌^◌, ◌⊎◌, ◌==◌, if◌then◌else◌, List, [], ◌∷◌, All, Contains, get_or, length, map, Option, None, Some, IfSome, pos, Result, Ok, Err}
 use Rattle.std.specs.List.{range_with_len}
 use Rattle.dimacs_records.specs.declared.reasons.Reason.TheVariants.{BlockMissing, NumberRange}
-use Rattle.dimacs_claims.specs.{declared.block.Label.{Label}, Labels.{BlockValue, IsItem, LabelsValue, label, no_label}}
-use Rattle.dimacs_claims.specs.{DistanceTexts.{SpellsDistances}, LabelTexts.{SpellsLabels}}
+use Rattle.dimacs_claims.specs.{declared.label_list.Label.{Label}, DistanceTexts.{SpellsDistances}}
+use Rattle.dimacs_claims.specs.{Labels.{BlockValue, IsItem, LabelsValue, label, no_label}, LabelTexts.{SpellsLabels}}
 use Rattle.dimacs_fill.specs.{declared.error.FillError.{FillError}, declared.error.FillError.TheVariants.{Unread, Node}}
 use Rattle.dimacs_fill.specs.{declared.labels.LabelSizes.{LabelSizes}, Filling.{Array, IsFilled, IsKept, ReadsFitting}}
 use Rattle.dimacs_records.specs.declared.kinds.TextKind.TheVariants as kinds

@@ -3,7 +3,7 @@
 ghost use Rattle.std.specs.Prelude.{◌≡◌, ◌≢◌, ◌≤◌, ◌<◌, ◌+◌, ◌-◌, ◌==◌, ◌^◌, if◌then◌else◌, All, Contains, IfErr, IfOk, IfSome, IsTrue, ◌↔◌, pos, slice_set};
 ghost use Rattle.dimacs_records.specs.declared.reasons.Reason.TheVariants as reasons;
 ghost use Rattle.dimacs_records.specs.Ranges.{IsWhole};
-ghost use Rattle.dimacs_claims.specs.{declared.block.Label.{Label}, Labels.{BlockValue, IsBlock, IsItem}};
+ghost use Rattle.dimacs_claims.specs.{declared.label_list.Label.{Label}, Labels.{BlockValue, IsBlock, IsItem}};
 ghost use Rattle.dimacs_fill.specs.{declared.error.FillError.TheVariants.{Node}, Filling.{filled}};
 ghost use Rattle.dimacs_fill.specs.BlockFilled.{HasBlock, HasItems, RefusesBlock, distances_of, item_of, preds_of};
 ghost use Rattle.dimacs_fill.specs.inside.BlockFilled.{TestsItems, TestsLabels};

@@ -6,7 +6,7 @@ use Rattle.dimacs_judging.specs.{declared.verdict.JudgeError.{JudgeError}, decla
 use Rattle.dimacs_judging.specs.{declared.verdict.JudgeError.TheVariants.{Refused, Memory}, inside.Labels.{block_at}}
 use Rattle.dimacs_judging.specs.{CertificateTests.{label_rows, weight_row}, Tests.{AllClear, Clear, First}}
 use Rattle.dimacs_judging.specs.{inside.CertificateTests.{block_rows, distance_rows}, inside.Tests.{TestsAll}}
-use Rattle.dimacs_claims.specs.{declared.block.Label.{Label}, Labels.{BlockValue, label, label_at}}
+use Rattle.dimacs_claims.specs.{declared.label_list.Label.{Label}, Labels.{BlockValue, label, label_at}}
 
 blocks_more_suc : (arcs : List ArcView) (blocks : List BlockValue) (k : ℕ) → k < length blocks → AllClear (label_rows arcs (take k blocks)) → AllClear (block_rows arcs (block_at blocks k)) → AllClear (label_rows arcs (take (suc k) blocks))
 blocks_more_suc arcs [] k inside before here = absurd (omega arith)

@@ -4,7 +4,7 @@ use Rattle.std.proofs.{lemmas.Bool.{cond_both}, lemmas.Int.{ints, by_lt_z}, lemm
 use Rattle.std.proofs.lemmas.List.Elements.{Contains-append_right, All-contains, All-head, All-tail, All-nil, All-cons, All-weaker}
 use Rattle.std.proofs.lemmas.Bool.Decides.{eqb_tells}
 use Rattle.dimacs_network.specs.declared.network.ArcView.{ArcView}
-use Rattle.dimacs_claims.specs.declared.block.Label.{Label}
+use Rattle.dimacs_claims.specs.declared.label_list.Label.{Label}
 use Rattle.dimacs_claims.specs.Labels.{BlockValue, IsWithinRadius, distance_in, label, PredsAreEarlier}
 use Rattle.dimacs_judging.specs.Walks.{IsWalk, weight, Dist, IsDistance}
 use Rattle.dimacs_judging.specs.Labels.{HasTightArc, HasWeights, IsReached, IsRelaxed, LabelsOk, StaysNear}

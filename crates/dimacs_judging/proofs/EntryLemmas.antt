@@ -5,7 +5,7 @@ use Rattle.std.proofs.{lemmas.Option.{slice_get-get_or}, lemmas.List.Elements.{f
 use Rattle.std.proofs.lemmas.List.{append-nil, length-set, length-replicate, length_push, take-append-le, take_all, get_or-replicate, get_or_append_left, get_or_past, get_or_push, get_or-set_same, get_or-set_other}
 use Rattle.std.proofs.{lemmas.List.FromFn.{fill_by_all, get_or-map-range_with_len}, lemmas.List.Sums.{length-filter}}
 use Rattle.dimacs_network.specs.{declared.network.ArcView.{ArcView}, Arcs.{joins, IsKthBetween, no_arc, arc_at}}
-use Rattle.dimacs_claims.specs.declared.solution.Entry.{Entry}
+use Rattle.dimacs_claims.specs.declared.place.Entry.{Entry}
 use Rattle.dimacs_records.specs.declared.reasons.Reason.{Reason}
 use Rattle.dimacs_judging.specs.{declared.verdict.Where.{Where}, declared.verdict.Where.TheVariants.{Solution}}
 use Rattle.dimacs_judging.specs.Claims.{is_between, no_entry, entry_at, entries_between, parallels_before, claimed_of, claimed_flow, EntryFails, entry_row}

@@ -5,7 +5,7 @@ use Rattle.std.proofs.lemmas.List.Elements.{All-nil, All-cons, All-head, All-tai
 use Rattle.std.specs.{Int.Signed.{<ℤ_irrefl}, Result.{OnOk}}
 use Rattle.dimacs_network.specs.{declared.network.ArcView.{ArcView}, Arcs.{no_arc, arc_at}}
 use Rattle.dimacs_records.specs.{Ranges.{IsRadius}, declared.reasons.Reason.{Reason}}
-use Rattle.dimacs_claims.specs.declared.block.Label.{Label}
+use Rattle.dimacs_claims.specs.declared.label_list.Label.{Label}
 use Rattle.dimacs_claims.specs.Labels.{BlockValue, LabelsValue, AreLabels, IsBlock, IsWithinRadius, label, no_label}
 use Rattle.dimacs_judging.specs.{declared.verdict.Where.{Where}, Tests.{Clear, AllClear}, inside.Tests.{TestsRows}}
 use Rattle.dimacs_judging.specs.Labels.{HasArcOfWeight, HasTightArc, HasWeights, IsReached, IsRelaxed, LabelsOk, AreDistances, StaysNear}

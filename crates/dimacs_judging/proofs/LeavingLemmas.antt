@@ -6,7 +6,7 @@ use Rattle.std.specs.{Option.{is_some}, Result.{is_err, result_err}, Prelude.{Re
 use Rattle.dimacs_records.specs.{declared.reasons.Reason.{Reason}, declared.reasons.Reason.TheVariants.{NotShortest}}
 use Rattle.dimacs_network.specs.{declared.network.ArcView.{ArcView}, declared.adjacency_lists.Side.TheVariants.{Tail}}
 use Rattle.dimacs_network.specs.{AdjacencyLists.{IsLast}, Arcs.{arc_at}}
-use Rattle.dimacs_claims.specs.declared.block.Label.{Label}
+use Rattle.dimacs_claims.specs.declared.label_list.Label.{Label}
 use Rattle.dimacs_claims.specs.Labels.{BlockValue, IsBlock, IsWithinRadius, label, no_label}
 use Rattle.dimacs_claims.proofs.BlockLemmas.{has_pred}
 use Rattle.dimacs_judging.specs.{CertificateTests.{RelaxFails, relax_row}, inside.Leaving.{AreRelaxedFrom, IsRelaxedBy}}

@@ -11,7 +11,7 @@ use Rattle.std.specs.Int.{from_bool}
 use Rattle.dimacs_network.specs.{declared.node_table.NodeTable.{NodeTable}, Tables.{blank_of}, Arcs.{arc_at, no_arc}}
 use Rattle.dimacs_network.specs.declared.network.ArcView.{ArcView}
 use Rattle.dimacs_records.specs.{declared.reasons.Reason.{Reason}, Ranges.{IsWide}}
-use Rattle.dimacs_claims.specs.declared.block.Label.{Label}
+use Rattle.dimacs_claims.specs.declared.label_list.Label.{Label}
 use Rattle.dimacs_claims.specs.Labels.{BlockValue, IsBlock, IsFresh, distance_in, label, no_label}
 use Rattle.dimacs_claims.proofs.{BuilderLemmas.{unlabelled}, ByIdLemmas.{distance_in-at, fresh_apart, label_elsewhere}}
 use Rattle.dimacs_claims.proofs.BlockLemmas.{fresh_has_none, has_pred, label-with_label, label_at_wide}

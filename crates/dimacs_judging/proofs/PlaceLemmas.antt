@@ -5,7 +5,7 @@ use Rattle.std.proofs.lemmas.List.{length-replicate, take-take, get_or-replicate
 use Rattle.std.proofs.lemmas.List.Sums.{count_by-le-length, count_by_more_yes, count_by_more_no, sum_by-take-le}
 use Rattle.std.specs.Prelude.{is_some}
 use Rattle.dimacs_network.specs.{declared.network.ArcView.{ArcView}, Arcs.{joins, IsKthBetween, no_arc, arc_at}}
-use Rattle.dimacs_claims.specs.declared.solution.Entry.{Entry}
+use Rattle.dimacs_claims.specs.declared.place.Entry.{Entry}
 use Rattle.dimacs_records.specs.{declared.reasons.Reason.{Reason}, declared.reasons.Reason.TheVariants.{ArcTwice}}
 use Rattle.dimacs_judging.proofs.{Claims.{claims_carried}, SupportLemmas.{ends_joined, counted_before, counted_in_all}}
 use Rattle.dimacs_judging.proofs.EntryLemmas.{joined_at, one_kth, between_ends, counted_more, counted_same, none_claimed, between_own, claimed_more, clear_more, first_still}

@@ -4,7 +4,7 @@ use Rattle.std.proofs.{lemmas.Bool.{cases_order}, lemmas.Bool.Decides.{eqb_tells
 use Rattle.std.proofs.lemmas.Option.{get_or_from_slice_get, slice_get-get_or, slice_get_within}
 use Rattle.std.proofs.lemmas.List.Sums.{count_by_more_yes, count_by-le-length, sum_by-take-le}
 use Rattle.dimacs_network.specs.{declared.network.ArcView.{ArcView}, Arcs.{joins, IsKthBetween}}
-use Rattle.dimacs_claims.specs.declared.block.Label.{Label}
+use Rattle.dimacs_claims.specs.declared.label_list.Label.{Label}
 use Rattle.dimacs_judging.specs.Labels.{HasArcOfWeight}
 use Rattle.dimacs_network.proofs.ArcLemmas.{joins_ends}
 

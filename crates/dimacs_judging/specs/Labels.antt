@@ -1,7 +1,7 @@
 -- The conditions under which labels are distances.
 use Rattle.std.specs.Prelude.{ℕ, ◌≡◌, ◌⊎◌, List, All, Contains, Option, Some, None, ℤ, pos, ◌+ℤ◌, ◌≤ℤ◌}
 use Rattle.dimacs_network.specs.declared.network.ArcView.{ArcView}
-use Rattle.dimacs_claims.specs.{declared.block.Label.{Label}, Labels.{BlockValue, IsWithinRadius, label}}
+use Rattle.dimacs_claims.specs.{declared.label_list.Label.{Label}, Labels.{BlockValue, IsWithinRadius, label}}
 use Rattle.dimacs_judging.specs.Walks.{IsDistance}
 
 -- an arc from the label's predecessor to its node, with the weight from distance `base` to the label's

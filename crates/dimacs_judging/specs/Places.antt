@@ -1,7 +1,7 @@
 -- A flow while entries are put on their arcs, entry by entry.
 use Rattle.std.specs.Prelude.{ℕ, zero, suc, ◌≡◌, Bool, false, List, take, get_or, count_by, ℤ, Option, None, Some}
 use Rattle.dimacs_network.specs.{declared.network.ArcView.{ArcView}, Arcs.{joins, IsKthBetween}}
-use Rattle.dimacs_claims.specs.declared.solution.Entry.{Entry}
+use Rattle.dimacs_claims.specs.declared.place.Entry.{Entry}
 use Rattle.dimacs_records.specs.declared.reasons.Reason.{Reason}
 use Rattle.dimacs_judging.specs.{declared.verdict.Where.{Where}, Claims.{is_between, claimed_flow, entry_row}}
 use Rattle.dimacs_judging.specs.Tests.{Clear, FirstOfRow}

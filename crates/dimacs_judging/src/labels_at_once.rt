@@ -4,7 +4,7 @@ ghost use Rattle.std.specs.Prelude.{◌≡◌, ◌≤◌, ◌<◌, ◌^◌, ◌-
 ghost use Rattle.dimacs_lines.specs.Limits.{most_nodes};
 ghost use Rattle.dimacs_network.specs.{Arcs.{JoinsNodes}, DenseTables.{HasNode, HasNodes, SameNodes}};
 ghost use Rattle.dimacs_network.specs.declared.network.ArcView.{ArcView};
-ghost use Rattle.dimacs_claims.specs.{declared.block.Label.{Label}, Labels.{IsBlock}};
+ghost use Rattle.dimacs_claims.specs.{declared.label_list.Label.{Label}, Labels.{IsBlock}};
 ghost use Rattle.dimacs_judging.specs.{Distances.{Fits}, inside.CertificateTests.{distance_rows}, Tests.{AllClear}};
 ghost use Rattle.dimacs_judging.specs.{inside.Distances.{Improves}, inside.LabelsAtOnce.{AreSmall, entries_at}};
 ghost use Rattle.dimacs_judging.specs.inside.NodeLabels.{HasLabels, IsFirstTight, RelaxesArc};
@@ -114,7 +114,7 @@ fn relax_all<N: Network>(network: &N, block: &Block, table: &mut LabelTable) -> 
     true
 }
 
-/// Relaxes one arc, as `node_labels::relax` does. None if it fails, or its weight isn't small.
+/// Relaxes one arc, as `relaxing::relax` does. None if it fails, or its weight isn't small.
 #[inline(always)]
 fn relax(arc: ArcView, table: &mut LabelTable) -> Option<bool>
     requires ends { HasNode table.old arc.tail × HasNode table.old arc.head }

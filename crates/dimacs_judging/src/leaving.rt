@@ -12,7 +12,7 @@ use crate::distance::Distance;
 use crate::labels::escape_fault;
 use crate::lightest::LightestArcs;
 use crate::node_label::NodeLabel;
-use crate::node_labels::relax;
+use crate::relaxing::relax;
 use dimacs_claims::Block;
 use dimacs_network::{Network, NodeTable};
 

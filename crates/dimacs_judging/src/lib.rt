@@ -37,6 +37,7 @@ mod paths;
 mod places;
 mod potentials;
 mod queries;
+mod relaxing;
 mod totals;
 mod value;
 mod verdict;

@@ -1,26 +1,26 @@
 //! Judging labels with tables: all arcs are relaxed for each block, or those that leave its nodes.
 
-ghost use Rattle.std.specs.Prelude.{◌≡◌, ◌<◌, ◌≤◌, ◌^◌, ◌-◌, ◌↔◌, ℕ, pos, neg_ℤ, List, All, IfOk, IfSome, OnOk, IsTrue};
-ghost use Rattle.std.specs.Result.{result_err};
+ghost use Rattle.std.specs.Prelude.{◌≡◌, ◌≤◌, ◌^◌, ◌-◌, ℕ, pos, neg_ℤ, List, All, IfSome, OnOk, IsTrue};
 ghost use Rattle.dimacs_lines.specs.Limits.{most_nodes};
 ghost use Rattle.dimacs_network.specs.{Arcs.{JoinsNodes}, declared.network.ArcView.{ArcView}};
-ghost use Rattle.dimacs_claims.specs.{declared.block.Label.{Label}, Labels.{AreLabels, BlockValue, IsBlock}};
-ghost use Rattle.dimacs_judging.specs.CertificateTests.{RelaxFails, label_rows, relax_row, support_row, weight_row};
+ghost use Rattle.dimacs_claims.specs.{declared.label_list.Label.{Label}, Labels.{AreLabels, BlockValue, IsBlock}};
+ghost use Rattle.dimacs_judging.specs.CertificateTests.{label_rows, relax_row, support_row, weight_row};
 ghost use Rattle.dimacs_judging.specs.{inside.CertificateTests.{distance_rows}, Distances.{Fits}};
 ghost use Rattle.dimacs_judging.specs.{LightestArcs.{AreLightest}, Tests.{AllClear, Clear, TestsRow}};
-ghost use Rattle.dimacs_judging.specs.inside.NodeLabels.{AllUnlabelled, AreAsTested, AreUnlabelled, AreSupported, AreSupportedBelow, AreWide, DefaultsToNone, IsLabelled, IsFirstTight, RelaxesArc, entries};
-ghost use Rattle.dimacs_judging.specs.inside.Tests.{TestsRows, TestsAll, NamesReason};
+ghost use Rattle.dimacs_judging.specs.inside.NodeLabels.{AllUnlabelled, AreAsTested, AreUnlabelled, AreSupported, AreSupportedBelow, IsLabelled, entries};
+ghost use Rattle.dimacs_judging.specs.inside.Tests.{TestsRows, TestsAll};
 
-use crate::distance::{Distance, distance_in, improves, is_tight};
-use crate::labels::{relax_fault_from, weights_hold};
+use crate::distance::Distance;
+use crate::labels::weights_hold;
 use crate::labels_at_once::{LabelTable, block_holds_at_once, table_for};
 use crate::leaving::{has_few_labels, relax_leaving};
 use crate::lightest::LightestArcs;
 use crate::node_label::NodeLabel;
+use crate::relaxing::relax;
 use crate::verdict::{JudgeError, Where};
 use dimacs_claims::{Block, LabelList, Labels};
 use dimacs_lines::Memory;
-use dimacs_network::{ArcView, Network, NodeTable, Slot};
+use dimacs_network::{Network, NodeTable};
 use dimacs_records::Reason;
 use std::alloc::Global;
 
@@ -334,58 +334,6 @@ fn relax_rest<N: Network, D: Distance>(
     for i in from..network.arcs() {
         let _outcome = relax(network.arc(i), block, node_labels);
     }
-}
-
-/// Relaxes one arc. If it is tight, the head's label becomes supported. Returns whether it is the first such arc, or
-/// why it fails. No branch depends on whether an arc is tight, so none is mispredicted if the labels are right.
-#[inline(always)]
-pub(crate) fn relax<D: Distance>(
-    arc: ArcView,
-    block: &Block,
-    node_labels: &mut NodeTable<NodeLabel<D>>,
-) -> Result<bool, Reason>
-    requires defaults { DefaultsToNone D.value node_labels.old }
-    requires in_range { AreWide (entries D.value node_labels.old) }
-    ensures outcome { NamesReason (RelaxFails block.now.radius (entries D.value node_labels.old arc.tail).dist
-        (entries D.value node_labels.old arc.head).dist arc.cost) (result_err result) }
-    ensures relaxes { RelaxesArc arc (entries D.value node_labels.old) (entries D.value node_labels.new) }
-    ensures tight { IfOk result (λ tight. IsTrue tight ↔ IsFirstTight arc (entries D.value node_labels.old)) }
-    ensures defaults { DefaultsToNone D.value node_labels.new }
-{
-    let from = match node_labels.get_slot(arc.tail) {
-        Some(Slot { value, .. }) if value.dist.is_some() => value.dist,
-        _ => return Ok(false),
-    };
-    let (head, place) = match node_labels.get_slot(arc.head) {
-        Some(Slot { value, place }) if !improves(from, value.dist, arc.cost) => (value, place),
-        _ => {
-            return match arc_fault(arc.tail, arc.head, arc.cost, block, node_labels) {
-                Some(reason) => Err(reason),
-                None => Ok(false),
-            };
-        }
-    };
-    let tight = is_tight(from, head.dist, arc.cost) & head.lacks_arc_from(arc.tail);
-    node_labels.put(place, head.supported_if(tight));
-    Ok(tight)
-}
-
-#[cold]
-#[inline(never)]
-fn arc_fault<D: Distance>(
-    tail: u32,
-    head: u32,
-    weight: i64,
-    block: &Block,
-    node_labels: &NodeTable<NodeLabel<D>>,
-) -> Option<Reason>
-    requires { AreWide (entries D.value node_labels.now) }
-    ensures { NamesReason (RelaxFails block.now.radius (entries D.value node_labels.now tail).dist
-        (entries D.value node_labels.now head).dist weight) result }
-{
-    let from = distance_in(node_labels.get(tail).dist)?;
-    let to = distance_in(node_labels.get(head).dist);
-    relax_fault_from(from, to, block.radius(), weight)
 }
 
 /// Tests by the table that each label has a tight arc.

@@ -1,7 +1,7 @@
 //! The flow that entries claim, placed on the arcs entry by entry.
 
 ghost use Rattle.std.specs.Prelude.{◌≡◌, ◌≤◌, ◌<◌, ◌+◌, ◌++◌, ◌∷◌, [], List, Some, None, true, false, length, take, count_by, IfOk, IfErr, IfSome, IsOk, IsTrue, OnOk, OnErr, ◌↔◌};
-ghost use Rattle.dimacs_claims.specs.declared.solution.Entry.{Entry};
+ghost use Rattle.dimacs_claims.specs.declared.place.Entry.{Entry};
 ghost use Rattle.dimacs_network.specs.{declared.network.ArcView.{ArcView}, Arcs.{joins, IsKthBetween, arc_at}};
 ghost use Rattle.dimacs_judging.specs.{Claims.{Carries, entry_row}, Places.{ArePlaced, HavePlaced, placed_between}};
 ghost use Rattle.dimacs_judging.specs.inside.Places.{IsIndexFor, PutsEntry, FindsFlow, left_order};

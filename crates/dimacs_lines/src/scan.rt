@@ -2,11 +2,10 @@
 
 ghost use Rattle.std.specs.Prelude.{◌≡◌, ◌≤◌, ◌<◌, ◌+◌, ◌-◌, ◌^◌, [], ◌∷◌, ℤ, pos, neg_ℤ, Some, not, true, length, take, drop, slice_index, IsTrue, ◌↔◌, IfNone, IfSome};
 ghost use Rattle.std.specs.{List.{position_or_len, All}, Char.{IsAsciiDigit}};
-ghost use Rattle.dimacs_lines.specs.{Fields.{is_blank, fields_of, AreFields}, Number.{ReadsNumber, Spells, place_sum}};
+ghost use Rattle.dimacs_lines.specs.{Fields.{is_blank, fields_of}, Number.{ReadsNumber, Spells, place_sum}};
 
 use crate::digits::digits_at;
 use crate::numbers::{NumberFault, number, wide};
-use crate::split::Fields;
 use std::marker::Model;
 
 /// A field of a line, and the index of its first byte in the line, from 0.
@@ -46,14 +45,6 @@ impl<'a> Token<'a> {
             None => wide(self.field.text),
         }
     }
-}
-
-/// The fields of a line: the maximal runs of bytes that are not blanks (32, 9 and 13), from left to right.
-pub fn fields(line: &[u8]) -> Fields<'_>
-    ensures value { result ≡ fields_of line.now }
-    ensures maximal_runs { AreFields line.now result }
-{
-    Fields::new(line)
 }
 
 /// The part of a line that isn't scanned yet.
@@ -99,6 +90,50 @@ impl<'a> Scan<'a> {
         let token = token_at(line, start);
         self.at = start + token.field.text.len();
         Some(token)
+    }
+}
+
+/// Iterates over the fields of a line, from left to right.
+#[derive(Drop)]
+pub struct Fields<'a> {
+    scan: Scan<'a>,
+}
+
+impl<'a> Model for Fields<'a> {
+    ghost use Rattle.std.specs.Prelude.{List};
+    ghost use Rattle.dimacs_lines.specs.Fields.{Run};
+
+    ghost Value = { List Run };
+
+    ghost view = { λ s. s.scan };
+}
+
+impl<'a> Iterator for Fields<'a> {
+    ghost use Rattle.std.specs.Iterator.{YieldsFirstBy, item_count};
+    ghost use Rattle.dimacs_lines.specs.FieldViews.{view_field};
+
+    type Item = Field<'a>;
+
+    ghost next_gives = { YieldsFirstBy view_field (λ left. left) };
+
+    ghost remaining = { item_count (λ left. left) };
+
+    fn next(&mut self) -> Option<Field<'a>> {
+        match self.scan.next_token() {
+            Some(token) => Some(token.field),
+            None => None,
+        }
+    }
+}
+
+impl<'a> Fields<'a> {
+    /// The fields of this line.
+    pub fn new(line: &'a [u8]) -> Fields<'a>
+        ensures { result ≡ fields_of line.now }
+    {
+        Fields {
+            scan: Scan::new(line),
+        }
     }
 }
 

@@ -94,10 +94,10 @@ fn tie_and_link<N: Network, V: Number>(
         return Ok(None);
     };
     if !tied {
-        return Ok(Some(cycle_within(alloc, claim, &places)?));
+        return Ok(Some(Guess::Cycle(cycle_within(alloc, claim, &places)?)));
     }
     let Some(links) = all_links(alloc, claim, &places)? else {
-        return Ok(Some(cycle_within(alloc, claim, &places)?));
+        return Ok(Some(Guess::Cycle(cycle_within(alloc, claim, &places)?)));
     };
     let mut distances = vec![in alloc; V::of(0); places.groups as usize]?;
     match relax_in_rounds(&links, &mut distances) {
@@ -128,7 +128,7 @@ fn join_and_correct<N: Network, V: Number>(
     places.join(&joints);
     match joined_links(links, &joints) {
         Some(links) => correct_labels(alloc, claim, &places, links),
-        None => Ok(Some(cycle_within(alloc, claim, &places)?)),
+        None => Ok(Some(Guess::Cycle(cycle_within(alloc, claim, &places)?))),
     }
 }
 
@@ -146,7 +146,7 @@ fn correct_labels<N: Network, V: Number>(
     let end = lower_all(alloc, &listing, &mut tree, size * BUDGET)?;
     drop(listing);
     if let SearchEnd::Cycle(groups) = &end {
-        return Ok(Some(cycle_over(alloc, claim, places, groups)?));
+        return Ok(Some(Guess::Cycle(cycle_over(alloc, claim, places, groups)?)));
     }
     if !tree.are_small {
         return Ok(None);

@@ -131,7 +131,7 @@ impl<V: Number> Simplex<V> {
             BasisCycle::find(&self.tree, price.head, price.tail, residual_capacity)
         };
         self.work = self.work.wrapping_add(cycle.steps);
-        self.tree.augment(&cycle);
+        cycle.augment(&mut self.tree);
         match cycle.leaving {
             Leaving::Itself => self.arcs.set_state(entering, state.wrapping_neg()),
             Leaving::OnFirst(out) => {

@@ -4,8 +4,9 @@ ghost use Rattle.std.specs.Prelude.{◌≤◌, List, length, IfOk, IsTrue};
 ghost use Rattle.dimacs_network.specs.{declared.network.ArcView.{ArcView}, Arcs.{IsKthBetween}};
 ghost use Rattle.dimacs_network.specs.{ArcOrder.{HasRoom, Indexes}, inside.ArcOrder.{IsFirst}};
 
-use crate::arc_order::{FEW, OutArc, fill_in_order};
+use crate::arc_order::fill_in_order;
 use crate::network::Network;
+use crate::out_arc::{FEW, OutArc};
 use crate::tail_starts::TailStarts;
 use dimacs_lines::Memory;
 use std::alloc::Global;

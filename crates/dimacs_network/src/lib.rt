@@ -20,6 +20,7 @@ mod node_map;
 mod node_set;
 mod node_table;
 mod of_arcs;
+mod out_arc;
 mod plain_arcs;
 mod tail_starts;
 mod wide_map;

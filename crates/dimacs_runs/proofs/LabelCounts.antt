@@ -9,9 +9,10 @@ use Rattle.std.specs.Option.{IsSome}
 use Rattle.dimacs_lines.specs.{Limits.{IsNode}, Lines.{lines}}
 use Rattle.dimacs_network.specs.Arcs.{NetworkValue}
 use Rattle.dimacs_records.specs.declared.kinds.TextKind.TheVariants.{Distances}
-use Rattle.dimacs_claims.specs.{declared.block.Label.{Label}, DistanceTexts.{GivesDistances, SpellsDistances, bare}}
+use Rattle.dimacs_claims.specs.{declared.label_list.Label.{Label}, inside.ById.{id_at}}
+use Rattle.dimacs_claims.specs.DistanceTexts.{GivesDistances, SpellsDistances, bare}
 use Rattle.dimacs_claims.specs.Labels.{AreLabels, BlockValue, IsBlock, LabelsValue, label, label_in, no_label}
-use Rattle.dimacs_claims.specs.{LabelTexts.{FitText, block_lines, label_line, label_records}, inside.ById.{id_at}}
+use Rattle.dimacs_claims.specs.LabelTexts.{FitText, block_lines, label_line, label_records}
 use Rattle.dimacs_claims.proofs.{BlockLemmas.{is_some-label, label_id}, ByIdLemmas.{fresh_apart}}
 use Rattle.dimacs_claims.proofs.LabelLaws.{fit_spelled}
 use Rattle.dimacs_judging.specs.{inside.Labels.{block_at}, QueryTests.{HasBlock}}

@@ -1,7 +1,7 @@
 -- What runs that spread write: a solution with an entry for every arc, or a report. The other text is empty here.
 use Rattle.std.specs.Prelude.{ℕ, ◌≡◌, List, [], ◌∷◌, ℤ, map}
 use Rattle.dimacs_records.specs.{declared.kinds.TextKind.{TextKind}, declared.reasons.Reason.{Reason}}
-use Rattle.dimacs_claims.specs.declared.solution.Entry.{Entry}
+use Rattle.dimacs_claims.specs.declared.place.Entry.{Entry}
 use Rattle.dimacs_claims.specs.SolutionTexts.{SolutionValue, GivesSolution, canonical_solution}
 use Rattle.dimacs_instance.specs.{MaxTexts.{GivesMax}, MinTexts.{GivesMin}}
 use Rattle.dimacs_judging.specs.{declared.verdict.Where.{Where}, Tests.{AllClear, First}}

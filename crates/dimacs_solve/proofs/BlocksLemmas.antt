@@ -8,13 +8,13 @@ use Rattle.std.specs.{Prelude.{◌==◌, ◌||◌, ◌+ℤ◌, map}, List.{list_
 use Rattle.dimacs_lines.specs.Limits.{IsNode}
 use Rattle.dimacs_network.specs.Arcs.{NetworkValue, arc_at, no_arc}
 use Rattle.dimacs_instance.specs.QueryTexts.{QueriesValue, AreIds, HaveIds, Sources, Pairs}
-use Rattle.dimacs_claims.specs.declared.block.Label.{Label}
+use Rattle.dimacs_claims.specs.declared.label_list.Label.{Label}
 use Rattle.dimacs_claims.specs.Labels.{AreLabels, BlockValue, LabelsValue, IsNewSource, has_source, label}
 use Rattle.dimacs_judging.specs.{Labels.{HasWeights, HasTightArc, IsRelaxed, LabelsOk}, Laws.{PassingShowsLaw}}
 use Rattle.dimacs_judging.specs.{PathsJudge.{PassesPaths}, inside.QueryTests.{ends_of}}
 use Rattle.dimacs_judging.specs.QueryTests.{HasBlock, HasFullBlock, IsServed, nodes_asked, sources_asked}
 use Rattle.dimacs_judging.proofs.BlockNumbers.{block_found}
-use Rattle.dimacs_solve.specs.{declared.adjacency.Adjacency.{Adjacency}, declared.adjacency.WeightedArc.{WeightedArc}}
+use Rattle.dimacs_solve.specs.{declared.adjacency.Adjacency.{Adjacency}, declared.packed_arc.WeightedArc.{WeightedArc}}
 use Rattle.dimacs_solve.specs.inside.Adjacency.{out, out_arc_to, IsOutArcOf, IsAdjacencyOf}
 use Rattle.dimacs_solve.specs.{inside.Blocks.{AddsBlock, AreSolved}, inside.Search.{HasTightOutArc, IsPathTree}}
 use Rattle.dimacs_solve.specs.Paths.{AreProduced, IsNearestFirst, block_source, distinct_after, noted}

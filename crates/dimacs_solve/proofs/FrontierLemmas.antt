@@ -6,7 +6,7 @@ use Rattle.std.proofs.lemmas.List.Elements.{All-append, All-nil, All-cons, All-h
 use Rattle.std.specs.{BinaryHeap.{IsUpperBound, lt_by_cmp}, Ordering.{is_lt, nat_cmp, ordering_then, partial_lt}}
 use Rattle.std.specs.{Prelude.{IsPermutation, get_or, remove}, declared.cmp.Ordering.{Ordering}}
 use Rattle.std.specs.declared.cmp.Reverse.{Reverse}
-use Rattle.dimacs_solve.specs.{declared.frontier.Walk.{Walk}, declared.piles.Pile.{Pile}}
+use Rattle.dimacs_solve.specs.{declared.piles.Walk.{Walk}, declared.piles.Pile.{Pile}}
 use Rattle.dimacs_solve.specs.inside.Frontiers.{AreWithin, ArePiles, IsNearest, in_piles, walk_cmp, walk_in, walks_in}
 use Rattle.dimacs_solve.proofs.PileLemmas.{all_beyond, first_pile}
 

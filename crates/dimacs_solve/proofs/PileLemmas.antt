@@ -4,7 +4,7 @@ use Rattle.std.proofs.lemmas.List.{get_or_default, length-map, map-append, map_p
 use Rattle.std.proofs.lemmas.List.Elements.{All-append, All-cons, All-head, All-nil, All-push, All-tail, All-weaker}
 use Rattle.std.proofs.lemmas.List.Sorted.{All-permutation, IsPermutation-append_comm, IsPermutation-append_left, IsPermutation-append_right, IsPermutation-map, IsPermutation-middle, IsPermutation-sym, IsPermutation-to_front, IsPermutation-trans, length_permutation}
 use Rattle.std.specs.{Prelude.{All, IsPermutation, OnErr, OnOk, remove}, declared.cmp.Reverse.{Reverse}}
-use Rattle.dimacs_solve.specs.{declared.frontier.Walk.{Walk}, declared.piles.Pile.{Pile}}
+use Rattle.dimacs_solve.specs.{declared.piles.Walk.{Walk}, declared.piles.Pile.{Pile}}
 use Rattle.dimacs_solve.specs.inside.Frontiers.{AreBeyond, AreWithin, ArePiles, IsPile, IsPlace, IsSplit, in_piles, walk_in, walks_in}
 
 shift : {X : Type 0} (xs ys zs : List X) → IsPermutation (xs ++ (ys ++ zs)) (ys ++ (xs ++ zs))

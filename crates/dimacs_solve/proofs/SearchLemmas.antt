@@ -7,9 +7,10 @@ use Rattle.std.proofs.lemmas.List.Elements.{All-weaker, All-more, All-nil, All-g
 use Rattle.std.proofs.lemmas.List.Sorted.{Contains-permutation, IsPermutation-sym, length_permutation}
 use Rattle.std.specs.Prelude.{◌==◌, ◌≤ℤ◌, if◌then◌else◌, IsPermutation}
 use Rattle.dimacs_lines.specs.Limits.{most_count, most_nodes, IsNode}
-use Rattle.dimacs_claims.specs.{declared.block.Label.{Label}, Labels.{BlockValue, IsBlock, IsLabel, label, with_label}}
-use Rattle.dimacs_solve.specs.{declared.adjacency.Adjacency.{Adjacency}, declared.adjacency.WeightedArc.{WeightedArc}}
-use Rattle.dimacs_solve.specs.{declared.frontier.Walk.{Walk}, inside.Adjacency.{AreByNode, IsOutArc, out, out_arc_to}}
+use Rattle.dimacs_claims.specs.declared.label_list.Label.{Label}
+use Rattle.dimacs_claims.specs.Labels.{BlockValue, IsBlock, IsLabel, label, with_label}
+use Rattle.dimacs_solve.specs.{declared.adjacency.Adjacency.{Adjacency}, declared.packed_arc.WeightedArc.{WeightedArc}}
+use Rattle.dimacs_solve.specs.{declared.piles.Walk.{Walk}, inside.Adjacency.{AreByNode, IsOutArc, out, out_arc_to}}
 use Rattle.dimacs_solve.specs.inside.NodeStates.{Known, Unknown, Reached, Settled, AreUnknown, IsReachedWithin, Sets, is_settled, settled_label}
 use Rattle.dimacs_solve.specs.Paths.{IsNearestFirst}
 use Rattle.dimacs_solve.specs.inside.Search.{settled_count, Agrees, IsWalk, IsQueuedWalk, IsPending, IsFront, Lowers, Offers, IsArcRelaxed, IsReady, Relaxes, HasTightOutArc, IsPathSearch, IsPopped, IsClosed, IsPathTree, work}

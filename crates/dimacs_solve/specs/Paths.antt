@@ -3,7 +3,7 @@ use Rattle.std.specs.Prelude.{ℕ, ◌≡◌, ◌<◌, ◌+◌, ◌++◌, ◌==�
 use Rattle.std.specs.List.{list_any}
 use Rattle.dimacs_network.specs.{declared.network.ArcView.{ArcView}, Arcs.{NetworkValue, arc_at}}
 use Rattle.dimacs_instance.specs.QueryTexts.{QueriesValue}
-use Rattle.dimacs_claims.specs.{declared.block.Label.{Label}, Labels.{BlockValue, LabelsValue}}
+use Rattle.dimacs_claims.specs.{declared.label_list.Label.{Label}, Labels.{BlockValue, LabelsValue}}
 use Rattle.dimacs_judging.specs.{PathsJudge.{ShowsDistances}, QueryTests.{query_node_row, sources_asked}}
 use Rattle.dimacs_judging.specs.Tests.{Clear, FirstOfRow}
 use Rattle.dimacs_solve.specs.declared.error.SolveError.{SolveError}

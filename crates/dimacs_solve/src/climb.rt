@@ -3,6 +3,7 @@
 ghost use Rattle.std.specs.Prelude.{IfOk};
 ghost use Rattle.dimacs_solve.specs.Climbing.{Climbs};
 
+use crate::answer::MaxFlowAnswer;
 use crate::improve::raise;
 use dimacs_claims::Cut;
 use dimacs_decide::{MaxDecision, decide_max, shows_maximum};
@@ -11,15 +12,6 @@ use dimacs_judging::Flow;
 use dimacs_lines::Memory;
 use dimacs_network::Network;
 use std::alloc::Global;
-
-/// The answer of `solve_max_flow`.
-#[derive(Drop)]
-pub enum MaxFlowAnswer {
-    /// A maximum flow, with a tight cut.
-    Optimal(Flow, Cut),
-    /// As many better and better flows as the limit aren't maximum.
-    GaveUp,
-}
 
 /// Starts at the zero flow, and goes to flows of greater value until one is maximum. At most `limit` flows are tested:
 /// first by the last cut that a heuristic made. If that isn't tight, the heuristic looks for a greater value. If it finds

@@ -3,26 +3,15 @@
 ghost use Rattle.std.specs.Prelude.{◌≡◌, IfOk};
 ghost use Rattle.dimacs_solve.specs.Descending.{start_amount, start_flow, Descends};
 
+use crate::answer::MinFlowAnswer;
 use crate::jump::jump;
 use crate::question::{Reply, ask_over};
-use dimacs_claims::{Cut, Potentials};
 use dimacs_decide::Incidence;
 use dimacs_instance::MinInstance;
 use dimacs_judging::Flow;
 use dimacs_lines::Memory;
 use dimacs_network::{ArcView, Network};
 use std::alloc::Global;
-
-/// The answer of `solve_min_flow`.
-#[derive(Drop)]
-pub enum MinFlowAnswer {
-    /// A flow of least cost, with slack potentials.
-    Optimal(Flow, Potentials),
-    /// No flow is feasible; the set shows it.
-    Infeasible(Cut),
-    /// After as many steps as the limit, each to a better flow, the flow still isn't least.
-    GaveUp,
-}
 
 /// Goes from the start flow to a flow of least cost. If `limit` allows a step, a heuristic comes first, which may get
 /// there in one.

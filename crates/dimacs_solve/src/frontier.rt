@@ -4,20 +4,12 @@ ghost use Rattle.std.specs.Prelude.{◌≡◌, ◌∷◌, [], OnOk, MatchOption,
 ghost use Rattle.dimacs_solve.specs.inside.Frontiers.{walk_of, IsNearest};
 
 use crate::distance::SearchDistance;
-use crate::piles::{Pile, middle_of, put_aside, split};
+use crate::piles::{Pile, Walk, middle_of, put_aside, split};
 use dimacs_lines::Memory;
 use std::alloc::Global;
 use std::cmp::Reverse;
 use std::collections::BinaryHeap;
 use std::marker::Model;
-
-/// A walk that the search found: its length, its end, and the node before the end.
-#[derive(Clone, Copy, PartialEq, Eq, PartialOrd, Ord)]
-pub(crate) struct Walk<D> {
-    pub dist: D,
-    pub node: u32,
-    pub pred: u32,
-}
 
 /// How many walks the heap may have before the farther ones leave it.
 const MOST_NEAR: usize = 1024;
@@ -38,7 +30,7 @@ pub(crate) struct Frontier<D: SearchDistance> {
 impl<D: SearchDistance> Model for Frontier<D> {
     ghost use Rattle.std.specs.Prelude.{List, ℕ, ◌++◌};
     ghost use Rattle.std.specs.BinaryHeap.{heap_items};
-    ghost use Rattle.dimacs_solve.specs.declared.frontier.Walk.{Walk};
+    ghost use Rattle.dimacs_solve.specs.declared.piles.Walk.{Walk};
     ghost use Rattle.dimacs_solve.specs.inside.Frontiers.{IsFrontier, in_piles, walks_in};
 
     ghost Value = { List (Walk ℕ) };

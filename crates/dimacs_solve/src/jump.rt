@@ -4,7 +4,7 @@ ghost use Rattle.std.specs.Prelude.{◌<◌, ℕ, IfOk, IfSome};
 ghost use Rattle.dimacs_decide.specs.Bounds.{KeepsBounds};
 ghost use Rattle.dimacs_solve.specs.Descending.{Descends};
 
-use crate::descend::MinFlowAnswer;
+use crate::answer::MinFlowAnswer;
 use crate::question::{Reply, ask};
 use dimacs_claims::Potentials;
 use dimacs_decide::keeps_bounds;

@@ -5,7 +5,8 @@ ghost use Rattle.dimacs_claims.specs.Potentials.{potential_of};
 ghost use Rattle.dimacs_judging.specs.{Optimum.{Least}, Potentials.{Slack}};
 ghost use Rattle.dimacs_solve.specs.{Descending.{start_flow}, SolveMin.{SolvesMin}};
 
-use crate::descend::{MinFlowAnswer, solve_min_flow};
+use crate::answer::MinFlowAnswer;
+use crate::descend::solve_min_flow;
 use crate::error::SolveError;
 use dimacs_claims::{Cut, Potentials, Solution};
 use dimacs_decide::min_solution;

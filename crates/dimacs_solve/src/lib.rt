@@ -7,6 +7,7 @@
 #![tactic(auto)]
 
 mod adjacency;
+mod answer;
 mod arcs_by_cost;
 mod arcs_by_ends;
 mod climb;
@@ -29,8 +30,9 @@ mod rests;
 mod search;
 mod spread;
 
-pub use climb::{MaxFlowAnswer, solve_max_flow};
-pub use descend::{MinFlowAnswer, solve_min_flow};
+pub use answer::{MaxFlowAnswer, MinFlowAnswer};
+pub use climb::solve_max_flow;
+pub use descend::solve_min_flow;
 pub use error::SolveError;
 pub use improve::improve_max;
 pub use laws::enough_limit_suffices;

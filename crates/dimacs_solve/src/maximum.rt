@@ -2,7 +2,8 @@
 
 ghost use Rattle.dimacs_solve.specs.SolveMax.{SolvesMax};
 
-use crate::climb::{MaxFlowAnswer, solve_max_flow};
+use crate::answer::MaxFlowAnswer;
+use crate::climb::solve_max_flow;
 use crate::error::SolveError;
 use dimacs_claims::{Cut, Solution};
 use dimacs_decide::max_solution;

@@ -2,8 +2,14 @@
 
 ghost use Rattle.std.specs.Prelude.{◌≡◌};
 
-use crate::adjacency::WeightedArc;
 use std::marker::Model;
+
+/// An arc of a known tail.
+#[derive(Clone, Copy)]
+pub(crate) struct WeightedArc {
+    pub weight: u64,
+    pub head: u32,
+}
 
 /// An arc in the list of its tail. Its weight lies in two halves, so that it takes 12 bytes and not 16.
 #[derive(Drop)]
@@ -15,7 +21,7 @@ pub(crate) struct PackedArc {
 
 impl Model for PackedArc {
     ghost use Rattle.std.specs.Prelude.{◌+◌, ◌*◌};
-    ghost use Rattle.dimacs_solve.specs.declared.adjacency.WeightedArc.{WeightedArc};
+    ghost use Rattle.dimacs_solve.specs.declared.packed_arc.WeightedArc.{WeightedArc};
 
     ghost Value = { WeightedArc };
 

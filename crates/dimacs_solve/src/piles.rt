@@ -4,13 +4,20 @@ ghost use Rattle.std.specs.Prelude.{◌≡◌, ◌<◌, ◌≤◌, ℕ, ◌∷�
 ghost use Rattle.dimacs_solve.specs.inside.Frontiers.{ArePiles, IsPlace, IsSplit, in_piles, walk_of, walks_in};
 
 use crate::distance::SearchDistance;
-use crate::frontier::Walk;
 use dimacs_lines::Memory;
 use std::alloc::Global;
 use std::cmp::Reverse;
 
 /// Walks are few if they are less than one of so many.
 const FEW: usize = 4;
+
+/// A walk that the search found: its length, its end, and the node before the end.
+#[derive(Clone, Copy, PartialEq, Eq, PartialOrd, Ord)]
+pub(crate) struct Walk<D> {
+    pub dist: D,
+    pub node: u32,
+    pub pred: u32,
+}
 
 /// Walks no longer than `ceiling`.
 #[derive(Drop)]

@@ -1,7 +1,7 @@
 //! Dealing out what exceeds the lower bounds: the cheapest arcs are filled first.
 
 ghost use Rattle.std.specs.{Prelude.{◌≡◌, ◌<◌, ◌≤ℤ◌, List, length, ℕ, pos}, List.{All}};
-ghost use Rattle.dimacs_claims.specs.declared.solution.Entry.{Entry};
+ghost use Rattle.dimacs_claims.specs.declared.place.Entry.{Entry};
 ghost use Rattle.dimacs_instance.specs.MinFlows.{HasBounds};
 ghost use Rattle.dimacs_solve.specs.{inside.ArcsByCost.{AreByCost}, inside.Rests.{AddUp, AreLows, AreRests}};
 ghost use Rattle.dimacs_solve.specs.inside.Raised.{AreDealt, AreWithin, IsMore, IsRaised};

@@ -8,8 +8,9 @@ ghost use Rattle.dimacs_solve.specs.inside.Search.{IsPopped, IsReady, IsPathSear
 
 use crate::adjacency::Adjacency;
 use crate::distance::SearchDistance;
-use crate::frontier::{Frontier, Walk};
+use crate::frontier::Frontier;
 use crate::node_states::NodeStates;
+use crate::piles::Walk;
 use dimacs_claims::{Block, Label};
 use dimacs_lines::Memory;
 use std::alloc::Global;

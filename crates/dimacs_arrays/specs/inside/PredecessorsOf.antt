@@ -1,6 +1,6 @@
 -- Inside: the predecessors of labels, by node.
 use Rattle.std.specs.Prelude.{ℕ, ◌≡◌, List, All, length, None}
-use Rattle.dimacs_claims.specs.{declared.block.Label.{Label}, Labels.{distance_in}}
+use Rattle.dimacs_claims.specs.{declared.label_list.Label.{Label}, Labels.{distance_in}}
 use Rattle.dimacs_decide.specs.Predecessors.{pred_by_node}
 
 -- the predecessor of each labelled node; 0 for the others

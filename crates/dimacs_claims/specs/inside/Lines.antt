@@ -1,7 +1,7 @@
 -- Inside: the lines of labels in a text of either kind.
 use Rattle.dimacs_records.specs.{declared.kinds.TextKind.{TextKind}, declared.kinds.TextKind.TheVariants.{Distances}}
 use Rattle.dimacs_records.specs.declared.records.Record.{Record}
-use Rattle.dimacs_claims.specs.{declared.block.Label.{Label}, DistanceTexts.{bare}, LabelTexts.{label_line}}
+use Rattle.dimacs_claims.specs.{declared.label_list.Label.{Label}, DistanceTexts.{bare}, LabelTexts.{label_line}}
 
 -- a line of labels as a line of this kind
 abbrev pub in_kind : TextKind → Record → Record

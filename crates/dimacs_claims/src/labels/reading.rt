@@ -14,8 +14,8 @@ ghost use Rattle.dimacs_claims.specs.LabelTexts.{FitText, GivesLabels, SpellsLab
 ghost use Rattle.dimacs_claims.specs.LabelsReading.{labels_begun_records, plain_context, context, end_context};
 ghost use Rattle.dimacs_claims.specs.inside.LabelsReading.{AreLabelled, AreLabelsBegun};
 
-use crate::block::{Block, Label};
-use crate::label_list::LabelList;
+use crate::block::Block;
+use crate::label_list::{Label, LabelList};
 use crate::labels::Labels;
 use dimacs_lines::{Memory, Source};
 use dimacs_network::NodeSet;

@@ -8,7 +8,8 @@ ghost use Rattle.dimacs_claims.specs.{Labels.{AreLabels, LabelsValue}, DistanceT
 ghost use Rattle.dimacs_claims.specs.inside.Lines.{in_kind, line_in_kind};
 ghost use Rattle.dimacs_claims.specs.LabelTexts.{FitText, SpellsLabels, block_lines, canonical_labels, label_line, label_records, shown_labels};
 
-use crate::block::{Block, Label};
+use crate::block::Block;
+use crate::label_list::Label;
 use crate::labels::Labels;
 use crate::show::show_nodes;
 use dimacs_lines::{DeviceFault, OutputBuffer, Sink};

@@ -1,7 +1,7 @@
 -- Inside: labels of nodes that lead back to the source, and the path back from one more.
 use Rattle.std.specs.Prelude.{ℕ, ◌≡◌, ◌≢◌, ◌<◌, ◌≤◌, ◌⊎◌, Bool, true, false, List, [], ◌∷◌, All, length, Option, None, IsSome, ℤ}
 use Rattle.dimacs_lines.specs.Limits.{most_nodes, IsNode}
-use Rattle.dimacs_claims.specs.{declared.block.Label.{Label}, Labels.{BlockValue, EachAfter, label}}
+use Rattle.dimacs_claims.specs.{declared.label_list.Label.{Label}, Labels.{BlockValue, EachAfter, label}}
 use Rattle.dimacs_decide.specs.{Predecessors.{IsNext, LeadsBack}, inside.MarkedBlocks.{IsMarkedBlock}}
 
 -- distances of nodes, and predecessors of no others

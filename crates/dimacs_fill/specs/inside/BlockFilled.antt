@@ -1,7 +1,7 @@
 -- Inside: the tests of a block's numbers.
 use Rattle.std.specs.Prelude.{◌≡◌, List, All, Result, Ok, Err}
 use Rattle.dimacs_records.specs.declared.reasons.Reason.TheVariants.{NumberRange}
-use Rattle.dimacs_claims.specs.{declared.block.Label.{Label}, Labels.{BlockValue, IsItem}}
+use Rattle.dimacs_claims.specs.{declared.label_list.Label.{Label}, Labels.{BlockValue, IsItem}}
 use Rattle.dimacs_fill.specs.{declared.error.FillError.{FillError}, declared.error.FillError.TheVariants.{Unread, Node}}
 use Rattle.dimacs_fill.specs.BlockFilled.{HasItems, IsFirstPast, IsPast}
 

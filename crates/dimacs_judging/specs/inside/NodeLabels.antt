@@ -3,7 +3,7 @@ use Rattle.std.specs.Prelude.{ℕ, ◌≡◌, ◌≢◌, ◌<◌, ◌≤◌, ◌
 use Rattle.dimacs_network.specs.{declared.node_table.NodeTable.{NodeTable}, Tables.{blank_of, value_of}, Arcs.{arc_at}}
 use Rattle.dimacs_network.specs.declared.network.ArcView.{ArcView}
 use Rattle.dimacs_records.specs.Ranges.{IsWide}
-use Rattle.dimacs_claims.specs.{declared.block.Label.{Label}, Labels.{BlockValue, label}}
+use Rattle.dimacs_claims.specs.{declared.label_list.Label.{Label}, Labels.{BlockValue, label}}
 use Rattle.dimacs_judging.specs.{declared.node_label.NodeLabel.{NodeLabel}, declared.node_labels.Tables.{Tables}}
 use Rattle.dimacs_judging.specs.{declared.node_labels.Weights.{Weights}, CertificateTests.{negative_row, relax_row}}
 use Rattle.dimacs_judging.specs.{declared.node_labels.Weights.TheVariants.{Untested, NotNegative}, Labels.{HasTightArc}}

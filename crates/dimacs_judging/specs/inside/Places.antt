@@ -2,7 +2,7 @@
 use Rattle.std.specs.Prelude.{List, ℤ, Result, Ok, Err, ◌++◌, ◌∷◌, [], ◌≡◌, ◌<◌, ◌≤◌, ◌^◌, Bool, true, false, length, replicate, if◌then◌else◌, Option, None, Some}
 use Rattle.dimacs_network.specs.{declared.network.ArcView.{ArcView}, declared.arc_index.ArcIndex.{ArcIndex}}
 use Rattle.dimacs_network.specs.ArcOrder.{HasRoom, Indexes}
-use Rattle.dimacs_claims.specs.declared.solution.Entry.{Entry}
+use Rattle.dimacs_claims.specs.declared.place.Entry.{Entry}
 use Rattle.dimacs_records.specs.declared.reasons.Reason.{Reason}
 use Rattle.dimacs_judging.specs.{declared.verdict.Where.{Where}, Claims.{Carries, EntryFails, entry_row}}
 use Rattle.dimacs_judging.specs.{Tests.{Clear, FirstOfRow}, Places.{PlacesValue, HavePlaced}}

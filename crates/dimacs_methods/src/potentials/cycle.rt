@@ -1,8 +1,7 @@
 //! Cycles of residual arcs with negative cost.
 
 use crate::number::Number;
-use crate::potentials::Guess;
-use crate::potentials::claim::Claim;
+use crate::potentials::claim::{Claim, ResidualArc};
 use crate::potentials::groups::GroupPlaces;
 use crate::potentials::step::Step;
 use crate::potentials::tight::Tight;
@@ -25,7 +24,7 @@ pub(crate) fn cycle_over<N: Network, V: Number>(
     claim: &Claim<'_, N>,
     places: &GroupPlaces<V>,
     groups: &[u32],
-) -> Result<Guess, Memory> {
+) -> Result<Vec<ResidualArc>, Memory> {
     let none = Cheapest {
         cost: V::greatest(),
         next: u32::MAX,
@@ -50,7 +49,7 @@ pub(crate) fn cycle_within<N: Network, V: Number>(
     alloc: Global,
     claim: &Claim<'_, N>,
     places: &GroupPlaces<V>,
-) -> Result<Guess, Memory> {
+) -> Result<Vec<ResidualArc>, Memory> {
     let steps = Step::all(alloc, claim)?;
     let mut chosen = Vec::new(alloc);
     for step in &steps {
@@ -97,10 +96,10 @@ fn close<V: Number>(
     steps: Vec<Step<V>>,
     places: &GroupPlaces<V>,
     chosen: &[Step<V>],
-) -> Result<Guess, Memory> {
+) -> Result<Vec<ResidualArc>, Memory> {
     let mut cycle = Vec::new(alloc);
     let Some(last) = chosen.last() else {
-        return Ok(Guess::Cycle(cycle));
+        return Ok(cycle);
     };
     let mut steps = steps;
     steps.retain(|step| step.link(places).is_tight());
@@ -111,5 +110,5 @@ fn close<V: Number>(
         cycle.push(step.arc)?;
         at = step.to;
     }
-    Ok(Guess::Cycle(cycle))
+    Ok(cycle)
 }

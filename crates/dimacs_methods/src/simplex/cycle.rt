@@ -70,6 +70,15 @@ impl<V: Number> BasisCycle<V> {
             steps,
         }
     }
+
+    /// Moves its amount along its tree arcs.
+    pub(crate) fn augment(&self, tree: &mut Tree<V>) {
+        if self.amount.is_zero() {
+            return;
+        }
+        tree.move_up(self.first, self.join, self.amount.negated());
+        tree.move_up(self.second, self.join, self.amount);
+    }
 }
 
 impl<V: Number> Climb<V> {

@@ -1,7 +1,6 @@
 //! The spanning tree.
 
 use crate::number::Number;
-use crate::simplex::cycle::BasisCycle;
 use crate::tables::{count_of, member};
 use dimacs_lines::Memory;
 use std::alloc::Global;
@@ -123,16 +122,8 @@ impl<V: Number> Tree<V> {
         member(&self.threads, node, Thread { after: 0, depth: 0 })
     }
 
-    /// Moves flow along the tree arcs of a cycle.
-    pub(crate) fn augment(&mut self, cycle: &BasisCycle<V>) {
-        if cycle.amount.is_zero() {
-            return;
-        }
-        self.move_up(cycle.first, cycle.join, cycle.amount.negated());
-        self.move_up(cycle.second, cycle.join, cycle.amount);
-    }
-
-    fn move_up(&mut self, from: u32, to: u32, amount: V) {
+    /// Moves an amount up along the tree arcs between a node and one above it.
+    pub(crate) fn move_up(&mut self, from: u32, to: u32, amount: V) {
         let mut at = from;
         for _ in 0..self.nodes.len() {
             if at == to {

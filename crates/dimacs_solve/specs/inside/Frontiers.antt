@@ -2,7 +2,7 @@
 use Rattle.std.specs.Prelude.{ℕ, ◌≡◌, ◌≤◌, ◌<◌, ◌+◌, List, [], ◌∷◌, ◌++◌, All, length, map, flat_map, slice_index_or, IsPermutation}
 use Rattle.std.specs.{Ordering.{nat_cmp, ordering_then}, declared.cmp.Ordering.{Ordering}, BinaryHeap.{IsHeap}}
 use Rattle.std.specs.declared.cmp.Reverse.{Reverse}
-use Rattle.dimacs_solve.specs.{declared.frontier.Walk.{Walk}, declared.piles.Pile.{Pile}}
+use Rattle.dimacs_solve.specs.{declared.piles.Walk.{Walk}, declared.piles.Pile.{Pile}}
 
 -- the shorter walk comes first
 abbrev pub walk_cmp : {D : Type 0} → (D → D → Ordering) → Walk D → Walk D → Ordering

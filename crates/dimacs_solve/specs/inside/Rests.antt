@@ -1,6 +1,6 @@
 -- Inside: rests, stored at the first arc between two nodes.
 use Rattle.std.specs.Prelude.{ℕ, ◌≡◌, ◌≢◌, ◌+◌, ◌*◌, ◌<◌, ◌≤◌, ◌^◌, ◌⊎◌, List, length, Some, ℤ, pos, neg_ℤ, ◌+ℤ◌, ◌≤ℤ◌, ◌<ℤ◌}
-use Rattle.dimacs_claims.specs.declared.solution.Entry.{Entry}
+use Rattle.dimacs_claims.specs.declared.place.Entry.{Entry}
 use Rattle.dimacs_network.specs.{declared.network.ArcView.{ArcView}, Arcs.{IsKthBetween, arc_at}}
 use Rattle.dimacs_records.specs.declared.reasons.Reason.{Reason}
 use Rattle.dimacs_records.specs.declared.reasons.Reason.TheVariants.{BelowLow, AboveCap}

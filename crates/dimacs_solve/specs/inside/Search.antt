@@ -1,9 +1,9 @@
 -- Inside: Dijkstra's search from one source.
 use Rattle.std.specs.Prelude.{ℕ, zero, suc, ◌≡◌, ◌≤◌, ◌+◌, ◌-◌, ◌*◌, ◌⊎◌, cond, List, ◌∷◌, All, Contains, Some, None, length, IsPermutation, ℤ, pos, ◌≤ℤ◌}
 use Rattle.dimacs_lines.specs.Limits.{IsNode}
-use Rattle.dimacs_claims.specs.{declared.block.Label.{Label}, Labels.{BlockValue, IsBlock, label}}
-use Rattle.dimacs_solve.specs.{declared.adjacency.Adjacency.{Adjacency}, declared.adjacency.WeightedArc.{WeightedArc}}
-use Rattle.dimacs_solve.specs.{declared.frontier.Walk.{Walk}, inside.Adjacency.{AreByNode, out, out_arc_to}}
+use Rattle.dimacs_claims.specs.{declared.label_list.Label.{Label}, Labels.{BlockValue, IsBlock, label}}
+use Rattle.dimacs_solve.specs.{declared.adjacency.Adjacency.{Adjacency}, declared.packed_arc.WeightedArc.{WeightedArc}}
+use Rattle.dimacs_solve.specs.{declared.piles.Walk.{Walk}, inside.Adjacency.{AreByNode, out, out_arc_to}}
 use Rattle.dimacs_solve.specs.{inside.Frontiers.{IsNearest}, Paths.{IsNearestFirst}}
 use Rattle.dimacs_solve.specs.inside.NodeStates.{Known, Unknown, Reached, Settled, IsReachedWithin, Sets, is_settled, settled_label}
 

@@ -1,7 +1,7 @@
 use Rattle.std.proofs.{Common.{◌≡◌, ◌≢◌, ◌<◌, [], length, ap, arith, rules, w64}, lemmas.Int.{to_z-of_z}}
 use Rattle.std.proofs.lemmas.List.Elements.{All-get_or}
 use Rattle.std.specs.Int.{w128}
-use Rattle.dimacs_claims.specs.{declared.block.Label.{Label}, Labels.{IsItem, IsLabel, no_label}}
+use Rattle.dimacs_claims.specs.{declared.label_list.Label.{Label}, Labels.{IsItem, IsLabel, no_label}}
 use Rattle.dimacs_claims.proofs.ByIdLemmas.{fresh_apart}
 use Rattle.dimacs_decide.proofs.TightTailLemmas.{not_source}
 use Rattle.dimacs_arrays.proofs.{PredLemmas.{at_place}, LabelDistanceLemmas.{reached_all, reached_more}}

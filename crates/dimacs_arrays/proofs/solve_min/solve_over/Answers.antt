@@ -1,5 +1,5 @@
 use Rattle.dimacs_judging.specs.InfeasibleJudge.{ShowsNoFlow}
-use Rattle.dimacs_solve.specs.{Descending.{Descends}, declared.descend.MinFlowAnswer.TheVariants.{Optimal}}
+use Rattle.dimacs_solve.specs.{Descending.{Descends}, declared.answer.MinFlowAnswer.TheVariants.{Optimal}}
 use Rattle.dimacs_arrays.proofs.SolveLemmas.{infeasible_by}
 use Rattle.dimacs_arrays.proofs.solve_min.solve_over.Goals as goal
 

@@ -1,5 +1,5 @@
 use Rattle.std.proofs.Common.{◌≡◌, ◌≤◌, length, get_or, refl, ap, arith}
-use Rattle.dimacs_claims.specs.{declared.block.Label.{Label}, Labels.{no_label}}
+use Rattle.dimacs_claims.specs.{declared.label_list.Label.{Label}, Labels.{no_label}}
 use Rattle.dimacs_decide.proofs.FewLemmas.{all_passed, first_passed}
 use Rattle.dimacs_decide.proofs.few_labels.leaving_arcs_hold.Goals as goal
 

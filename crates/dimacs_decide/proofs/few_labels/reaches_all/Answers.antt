@@ -1,6 +1,6 @@
 use Rattle.std.proofs.Common.{◌≡◌, ◌≤◌, length, get_or, ap, sym}
 use Rattle.dimacs_network.specs.Tables.{value_of}
-use Rattle.dimacs_claims.specs.{declared.block.Label.{Label}, Labels.{no_label}}
+use Rattle.dimacs_claims.specs.{declared.label_list.Label.{Label}, Labels.{no_label}}
 use Rattle.dimacs_decide.proofs.FewLemmas.{all_reached, reached_more}
 use Rattle.dimacs_decide.proofs.few_labels.reaches_all.Goals as goal
 

@@ -1,6 +1,6 @@
 use Rattle.std.proofs.{Common.{◌≡◌, ◌∷◌, [], refl, pos, arith, rules, w64}, lemmas.Int.{to_z-of_z}}
 use Rattle.std.proofs.{lemmas.List.{length-append, map-append, take_more}, lemmas.Option.{get_or_from_slice_get}}
-use Rattle.dimacs_claims.specs.declared.solution.Entry.{Entry}
+use Rattle.dimacs_claims.specs.declared.place.Entry.{Entry}
 use Rattle.dimacs_judging.specs.Rows.{amount_at}
 use Rattle.dimacs_network.specs.Arcs.{arc_at, no_arc}
 use Rattle.dimacs_decide.proofs.SolutionLemmas.{entries_more}

@@ -1,5 +1,5 @@
 use Rattle.std.proofs.{Common.{List, take, sym, subst, ◌∙◌}, lemmas.List.{take_all, take_more}}
-use Rattle.dimacs_claims.specs.declared.solution.Entry.{Entry}
+use Rattle.dimacs_claims.specs.declared.place.Entry.{Entry}
 use Rattle.dimacs_judging.specs.{Claims.{no_entry}, Places.{ArePlaced}}
 use Rattle.dimacs_judging.proofs.entries.places_of.Goals as goal
 

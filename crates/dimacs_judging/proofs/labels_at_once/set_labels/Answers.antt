@@ -1,5 +1,5 @@
 use Rattle.std.proofs.{Common.{◌≡◌, ◌≤◌, ◌<◌, Some, length, get_or, ◌∙◌, ap, arith, pos, rules}, lemmas.Int.{ints}}
-use Rattle.dimacs_claims.specs.{declared.block.Label.{Label}, Labels.{IsLabel, no_label}}
+use Rattle.dimacs_claims.specs.{declared.label_list.Label.{Label}, Labels.{IsLabel, no_label}}
 use Rattle.dimacs_judging.specs.{inside.LabelsAtOnce.{entries_at}, inside.NodeLabels.{entry_of, is_supported}}
 use Rattle.dimacs_judging.specs.Distances.{below}
 use Rattle.dimacs_judging.proofs.LabelsAtOnce.{is_none_number, is_small_number, none_from, small_all, small_set}

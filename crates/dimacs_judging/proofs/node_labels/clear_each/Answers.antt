@@ -1,5 +1,5 @@
 use Rattle.std.proofs.Common.{◌≡◌, ◌≤◌, length, get_or, ◌∙◌, ap}
-use Rattle.dimacs_claims.specs.{declared.block.Label.{Label}, Labels.{no_label}}
+use Rattle.dimacs_claims.specs.{declared.label_list.Label.{Label}, Labels.{no_label}}
 use Rattle.dimacs_judging.specs.inside.NodeLabels.{entries, entry_of}
 use Rattle.dimacs_judging.proofs.NodeLabelLemmas.{unlabelled_all, defaults_still, unlabelled_more, unlabelled_source}
 use Rattle.dimacs_judging.proofs.node_labels.clear_each.Goals as goal

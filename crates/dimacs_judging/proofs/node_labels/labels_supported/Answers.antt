@@ -1,6 +1,6 @@
 use Rattle.std.proofs.Common.{◌≡◌, ◌∙◌, false, sym, ap, get_or}
 use Rattle.dimacs_judging.specs.inside.NodeLabels.{is_supported, entries, entry_of}
-use Rattle.dimacs_claims.specs.{Labels.{no_label}, declared.block.Label.{Label}}
+use Rattle.dimacs_claims.specs.{Labels.{no_label}, declared.label_list.Label.{Label}}
 use Rattle.dimacs_judging.proofs.NodeLabelLemmas.{label_supported}
 use Rattle.dimacs_judging.proofs.RowLemmas.{support_clear_more, support_first, support_clear_end}
 use Rattle.dimacs_judging.proofs.node_labels.labels_supported.Goals as goal

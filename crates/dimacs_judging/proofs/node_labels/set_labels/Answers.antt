@@ -1,5 +1,5 @@
 use Rattle.std.proofs.Common.{◌≡◌, ◌≤◌, ◌<◌, Some, length, get_or, ◌∙◌, ap, arith}
-use Rattle.dimacs_claims.specs.{declared.block.Label.{Label}, Labels.{IsLabel, no_label}}
+use Rattle.dimacs_claims.specs.{declared.label_list.Label.{Label}, Labels.{IsLabel, no_label}}
 use Rattle.dimacs_judging.specs.inside.NodeLabels.{is_supported, entries, entry_of}
 use Rattle.dimacs_judging.proofs.NodeLabelLemmas.{all_labelled, defaults_still, labelled_source, labelled_more, unsupported_below}
 use Rattle.dimacs_judging.proofs.node_labels.set_labels.Goals as goal

@@ -1,5 +1,5 @@
 use Rattle.std.proofs.Common.{List}
-use Rattle.dimacs_claims.specs.declared.solution.Entry.{Entry}
+use Rattle.dimacs_claims.specs.declared.place.Entry.{Entry}
 use Rattle.dimacs_solve.specs.{inside.Raised.{AreDealtUpTo}, inside.Rests.{AddUp}}
 use Rattle.dimacs_solve.proofs.raise.raise_all.Given as goal
 

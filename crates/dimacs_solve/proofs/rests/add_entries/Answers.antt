@@ -1,7 +1,7 @@
 use Rattle.std.proofs.Common.{rules, ◌≡◌, ◌<◌, ◌+◌, ◌^◌, List, length, take, get_or, set, pos, ◌+ℤ◌, Some, None, SFits, w64, refl, sym, subst, ◌∙◌, arith, below_more}
 use Rattle.std.proofs.{lemmas.Int.{ints, to_z-of_z}, lemmas.List.{take_all, take_more}}
 use Rattle.std.specs.Int.{w128}
-use Rattle.dimacs_claims.specs.declared.solution.Entry.{Entry}
+use Rattle.dimacs_claims.specs.declared.place.Entry.{Entry}
 use Rattle.dimacs_network.specs.Arcs.{IsKthBetween}
 use Rattle.dimacs_judging.specs.Claims.{no_entry, entry_at}
 use Rattle.dimacs_solve.specs.{Spread.{unknown_row}, inside.Rests.{AddUp}}

@@ -1,5 +1,5 @@
 use Rattle.std.proofs.{Common.{All, get_or, subst, sym, ◌∙◌}, lemmas.List.Elements.{All-map}}
-use Rattle.dimacs_claims.specs.{declared.block.Label.{Label}, declared.label_list.Label32.{Label32}}
+use Rattle.dimacs_claims.specs.{declared.label_list.Label.{Label}, declared.label_list.Label32.{Label32}}
 use Rattle.dimacs_claims.specs.{LabelLists.{label_of_32}, ShortDistances.{IsShort}}
 use Rattle.dimacs_claims.proofs.label_list.LabelList.is_short.Goals as goal
 

@@ -2,7 +2,7 @@ use Rattle.std.proofs.{Common.{w64, rules}, lemmas.Int.{to_z-of_z}, lemmas.Resul
 use Rattle.std.specs.Int.{w128}
 use Rattle.dimacs_records.specs.{declared.records.Record.TheVariants.{SolutionValue}, Readings.{records_of}}
 use Rattle.dimacs_records.proofs.OrderLemmas.{refused_by_records}
-use Rattle.dimacs_claims.specs.{declared.solution.Entry.{Entry}, inside.SolutionReading.{value_context}}
+use Rattle.dimacs_claims.specs.{declared.place.Entry.{Entry}, inside.SolutionReading.{value_context}}
 use Rattle.dimacs_claims.proofs.SolutionLemmas.{entry_placed, value_placed, value_by_records}
 use Rattle.dimacs_claims.proofs.solution.SolutionReadingReading.take.Goals as goal
 

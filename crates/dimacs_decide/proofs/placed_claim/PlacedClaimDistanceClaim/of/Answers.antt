@@ -2,7 +2,7 @@ use Rattle.std.proofs.Common.{◌≡◌, ◌≢◌, ◌∙◌, ◌<◌, ◌≤�
 use Rattle.std.proofs.lemmas.Int.{to_z-of_z}
 use Rattle.std.specs.Int.{w128}
 use Rattle.dimacs_network.specs.Tables.{value_of}
-use Rattle.dimacs_claims.specs.{declared.block.Label.{Label}, Labels.{label, no_label}}
+use Rattle.dimacs_claims.specs.{declared.label_list.Label.{Label}, Labels.{label, no_label}}
 use Rattle.dimacs_decide.proofs.FewLemmas.{id_at, label_here, label_none}
 use Rattle.dimacs_decide.proofs.placed_claim.PlacedClaimDistanceClaim.of.Goals as goal
 

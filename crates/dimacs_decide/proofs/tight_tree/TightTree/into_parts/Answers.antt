@@ -1,6 +1,6 @@
 use Rattle.std.proofs.Common.{◌≡◌, ◌≤◌, length, get_or, ap}
 use Rattle.dimacs_network.specs.Tables.{value_of}
-use Rattle.dimacs_claims.specs.{declared.block.Label.{Label}, Labels.{no_label}}
+use Rattle.dimacs_claims.specs.{declared.label_list.Label.{Label}, Labels.{no_label}}
 use Rattle.dimacs_decide.proofs.FewLemmas.{left_more, left_source, none_left}
 use Rattle.dimacs_decide.proofs.tight_tree.TightTree.into_parts.Goals as goal
 

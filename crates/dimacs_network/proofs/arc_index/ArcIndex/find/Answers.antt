@@ -1,5 +1,5 @@
 use Rattle.std.proofs.Common.{sym, ap, ◌∙◌}
-use Rattle.dimacs_network.specs.{declared.arc_order.OutArc.{OutArc}, inside.ArcOrder.{no_out}}
+use Rattle.dimacs_network.specs.{declared.out_arc.OutArc.{OutArc}, inside.ArcOrder.{no_out}}
 use Rattle.dimacs_network.proofs.ArcOrderLemmas.{kth_some, kth_past, kth_other}
 use Rattle.dimacs_network.proofs.arc_index.ArcIndex.find.Goals.{else-out-tail-via-then-out-tail+else-out-head, else-out-tail-via-else-out-tail}
 use Rattle.dimacs_network.proofs.arc_index.ArcIndex.find.Goals as goal

@@ -1,6 +1,6 @@
 use Rattle.std.proofs.{Common.{◌<◌, heap_items, length, refl, ℕ, ◌≤◌, arith}, lemmas.Bool.Decides.{nat_tests}}
 use Rattle.std.proofs.lemmas.List.Sorted.{All-permutation, IsPermutation-map}
-use Rattle.dimacs_solve.specs.{declared.frontier.Walk.{Walk}, declared.piles.Pile.{Pile}, inside.Frontiers.{walk_in}}
+use Rattle.dimacs_solve.specs.{declared.piles.Walk.{Walk}, declared.piles.Pile.{Pile}, inside.Frontiers.{walk_in}}
 use Rattle.dimacs_solve.proofs.PileLemmas.{pile_split, walks_split}
 use Rattle.dimacs_solve.proofs.frontier.Frontier.spill.Goals as goal
 

@@ -2,7 +2,7 @@ use Rattle.std.proofs.{Common.{IsTrue, ◌≡◌, ◌↔◌, ◌∙◌, ap, rule
 use Rattle.dimacs_judging.specs.inside.Distances.{Improves, IsTight}
 use Rattle.dimacs_judging.specs.inside.NodeLabels.{is_supported, entries, entry_of}
 use Rattle.dimacs_judging.proofs.NodeLabelLemmas.{no_improvement, relaxes_put, tight_where}
-use Rattle.dimacs_judging.proofs.node_labels.relax.Goals as goal
+use Rattle.dimacs_judging.proofs.relaxing.relax.Goals as goal
 
 pub returns-in-None-clause-outcome : goal.returns-in-None-clause-outcome
 returns-in-None-clause-outcome g c =

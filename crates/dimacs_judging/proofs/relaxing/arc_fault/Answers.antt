@@ -1,7 +1,7 @@
 use Rattle.std.proofs.{Common.{Some, ◌∙◌, ap, rules, w64}, lemmas.Int.{to_z-of_z}}
 use Rattle.std.specs.Int.{w128}
 use Rattle.dimacs_judging.proofs.NodeLabelLemmas.{fault_between}
-use Rattle.dimacs_judging.proofs.node_labels.arc_fault.Goals as goal
+use Rattle.dimacs_judging.proofs.relaxing.arc_fault.Goals as goal
 
 pub returns : goal.returns
 returns g c =

@@ -1,0 +1,60 @@
+#!/usr/bin/env python3
+"""Tests that the modules of a crate use each other in no circle: tests/module_circles.py
+
+A module uses another if it has a line `use crate::..` that names it or something in it. What a crate's root uses isn't
+counted. A row for each crate; a circle is shown by its modules.
+"""
+import glob
+import os
+import re
+
+import scripts
+
+ROOTS = ["lib.rt", "main.rt"]
+USE = re.compile(r"^use crate::(\w+(?:::\w+)*)", re.MULTILINE)
+
+
+def module_of(path, modules):
+    """The module that a path leads to: the longest beginning of it that is one."""
+    parts = path.split("::")
+    names = ["::".join(parts[:length]) for length in range(len(parts), 0, -1)]
+    return next((it for it in names if it in modules), None)
+
+
+def used_in(crate):
+    """The modules of a crate, each with those that it uses."""
+    sources = f"crates/{crate}/src"
+    files = glob.glob("**/*.rt", root_dir=f"{scripts.TOP}/{sources}", recursive=True)
+    texts = {it.removesuffix(".rt").replace("/", "::"): scripts.read(f"{sources}/{it}") for it in files if it not in ROOTS}
+    return {it: {module_of(path, texts) for path in USE.findall(text)} - {it, None} for it, text in texts.items()}
+
+
+def circle_in(used):
+    """The modules of a shortest circle; none if there is none."""
+    circles = (way_back(used, it) for it in sorted(used))
+    return min((it for it in circles if it), key=len, default=[])
+
+
+def way_back(used, start):
+    """A shortest way from a module to itself."""
+    ways, seen = [[start]], set()
+    while ways:
+        way = ways.pop(0)
+        for module in sorted(used[way[-1]]):
+            if module == start:
+                return way
+            if module not in seen:
+                seen.add(module)
+                ways.append([*way, module])
+    return []
+
+
+def cases():
+    """Yields each crate, and whether it has no circle."""
+    for crate in sorted(os.listdir(f"{scripts.TOP}/crates")):
+        circle = circle_in(used_in(crate))
+        yield crate, not circle, "uses in a circle: " + ", ".join(circle)
+
+
+if __name__ == "__main__":
+    scripts.end_with(cases())
