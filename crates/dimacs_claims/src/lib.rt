@@ -24,6 +24,4 @@ pub use label_list::{Label, LabelList};
 pub use labels::{Labels, LabelsReading, read_labels, read_plain_labels, write_labels};
 pub use place::{Entry, Place, Placed};
 pub use potentials::{Potentials, PotentialsReading, read_potentials, write_potentials};
-pub use solution::{
-    Solution, SolutionReading, read_solution, read_solution_into, write_solution,
-};
+pub use solution::{Solution, SolutionReading, read_solution, read_solution_into, write_solution};

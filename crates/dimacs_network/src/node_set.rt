@@ -1,6 +1,6 @@
 //! Sets of nodes.
 
-ghost use Rattle.std.specs.Prelude.{◌≡◌, ◌≢◌, ◌<◌, ◌≤◌, ◌/◌, ◌%◌, ℕ, IsTrue, IsOk, OnOk, OnErr, false, length, true};
+ghost use Rattle.std.specs.Prelude.{◌≡◌, ◌≢◌, ◌<◌, ◌≤◌, ◌/◌, ◌%◌, ◌^◌, ℕ, IsTrue, IsOk, OnOk, OnErr, false, length, true};
 ghost use Rattle.std.specs.FinSet as set;
 ghost use Rattle.dimacs_network.specs.{Sets.{byte_at, has_bit, has_node}, Skips.{Skips}, inside.Sets.{SameBytes}};
 
@@ -129,7 +129,7 @@ fn next_byte(bytes: &[u8], from: u32, end: u32) -> u32
 /// Makes room up to a place, for bytes without nodes.
 #[inline(always)]
 fn reserve(bytes: &mut Vec<u8>, place: usize) -> Result<(), Memory>
-    requires { place < 4294967296 }
+    requires { place < 2 ^ 32 }
     ensures same { SameBytes bytes.old.items bytes.new.items }
     ensures reached { OnOk result (place < length bytes.new.items) }
     ensures repeats { place < length bytes.old.items → IsOk result }
@@ -143,7 +143,7 @@ fn reserve(bytes: &mut Vec<u8>, place: usize) -> Result<(), Memory>
 #[cold]
 #[inline(never)]
 fn extend(bytes: &mut Vec<u8>, place: usize) -> Result<(), Memory>
-    requires fits { place < 4294967296 }
+    requires fits { place < 2 ^ 32 }
     requires past { length bytes.old.items ≤ place }
     ensures same { SameBytes bytes.old.items bytes.new.items }
     ensures reached { OnOk result (place < length bytes.new.items) }

@@ -1,6 +1,6 @@
 //! A value for each node, blank until it is set.
 
-ghost use Rattle.std.specs.Prelude.{◌≡◌, ◌≢◌, ◌<◌, ◌≤◌, ◌+◌, ◌/◌, ℕ, length, max, pos, slice_index_or, IfOk, IsOk, MatchOption, OnOk, OnErr};
+ghost use Rattle.std.specs.Prelude.{◌≡◌, ◌≢◌, ◌<◌, ◌≤◌, ◌+◌, ◌/◌, ◌^◌, ℕ, length, max, pos, slice_index_or, IfOk, IsOk, MatchOption, OnOk, OnErr};
 ghost use Rattle.dimacs_network.specs.{Skips.{Skips}, Slots.{place_of}, inside.Slots.{IsDirectory, SameNumbers}};
 
 use dimacs_lines::Memory;
@@ -138,7 +138,7 @@ impl<T: Copy> NodeTable<T> {
 
     /// An ID greater than all that were set; at most 2^32.
     pub fn end_of_ids(&self) -> usize
-        ensures within { result ≤ 4294967296 }
+        ensures within { result ≤ 2 ^ 32 }
         ensures blank_after { (id : ℕ) → result ≤ id → value_of self.now id ≡ blank_of self.now }
     {
         self.directory.len() * PAGE
