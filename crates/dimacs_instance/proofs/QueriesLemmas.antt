@@ -14,7 +14,7 @@ use Rattle.dimacs_records.specs.Tests.{plain_context_after, plain_context_of, co
 use Rattle.dimacs_records.proofs.{CanonicalLaws.{canonical_spelled, numbered_all}, SplitLemmas.{image_at}}
 use Rattle.dimacs_records.proofs.ConditionLemmas.{is_allowed, is_complete, allowed_at}
 use Rattle.dimacs_instance.specs.QueryTexts.{QueriesValue, Sources, Pairs, AreIds, AreLawful, GivesQueries, HaveIds, SpellsQueries, canonical_queries, kind_asked, pair_query, query_lines, query_records}
-use Rattle.dimacs_instance.specs.QueriesReading.{QueriesBegun, queries_begun_records, plain_context, are_others, context}
+use Rattle.dimacs_instance.specs.QueriesReading.{QueriesBegun, queries_begun_records, plain_context, is_of_others, context}
 use Rattle.dimacs_records.specs.declared.kinds.TextKind.TheVariants as kinds
 use Rattle.dimacs_records.specs.declared.records.QueryKind.TheVariants as asks
 
@@ -53,11 +53,11 @@ pub plain_context_by_records : (b : QueriesBegun) → plain_context b ≡ plain_
 plain_context_by_records b = ap (plain_context_of (plain_context b).problem) (sym (counted_in-query_lines b.queries))
 
 -- only the problem line announces the kind of query
-source_by_records : (id n : ℕ) (queries : QueriesValue) → list_any (asks_for asks.Pairs) (earlier n queries) ≡ are_others (SourceQuery id) queries
+source_by_records : (id n : ℕ) (queries : QueriesValue) → list_any (asks_for asks.Pairs) (earlier n queries) ≡ is_of_others (SourceQuery id) queries
 source_by_records id n (Sources ids) = no_problem_in_sources ids
 source_by_records id n (Pairs pairs) = refl
 
-pair_by_records : (from to n : ℕ) (queries : QueriesValue) → list_any (asks_for asks.Sources) (earlier n queries) ≡ are_others (PairQuery from to) queries
+pair_by_records : (from to n : ℕ) (queries : QueriesValue) → list_any (asks_for asks.Sources) (earlier n queries) ≡ is_of_others (PairQuery from to) queries
 pair_by_records from to n (Sources ids) = refl
 pair_by_records from to n (Pairs pairs) = no_problem_in_pairs pairs
 

@@ -15,10 +15,10 @@ abbrev pub queries_begun_records : QueriesBegun → List Record
 queries_begun_records begun = QueriesProblem (kind_asked begun.queries) begun.declared ∷ query_lines begun.queries
 
 -- the record is a query of the other kind
-abbrev pub are_others : Record → QueriesValue → Bool
-are_others (SourceQuery id) (Pairs pairs) = true
-are_others (PairQuery from to) (Sources ids) = true
-are_others r queries = false
+abbrev pub is_of_others : Record → QueriesValue → Bool
+is_of_others (SourceQuery id) (Pairs pairs) = true
+is_of_others (PairQuery from to) (Sources ids) = true
+is_of_others r queries = false
 
 -- what the tests need after the problem line and these queries
 abbrev pub plain_context : QueriesBegun → Context
@@ -26,4 +26,4 @@ plain_context begun = plain_context_of (Some (record { nodes = None; count = beg
 
 -- the same for one more record
 abbrev pub context : QueriesBegun → Record → Context
-context begun r = record (plain_context begun) { misplaced = are_others r begun.queries }
+context begun r = record (plain_context begun) { misplaced = is_of_others r begun.queries }

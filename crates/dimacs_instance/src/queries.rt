@@ -6,7 +6,7 @@ ghost use Rattle.dimacs_records.specs.declared.kinds.TextKind.TheVariants as kin
 ghost use Rattle.dimacs_records.specs.{declared.records.Record.TheVariants.{QueriesProblem}, Faults.{Fault}};
 ghost use Rattle.dimacs_records.specs.{Canonical.{canonical_line}, Readings.{CountsRead}, Texts.{Reads}};
 ghost use Rattle.dimacs_instance.specs.QueryTexts.{QueriesValue, AreLawful, GivesQueries, SpellsQueries, asked, canonical_queries, kind_asked, query_lines, shown_queries};
-ghost use Rattle.dimacs_instance.specs.QueriesReading.{queries_begun_records, plain_context, are_others, context};
+ghost use Rattle.dimacs_instance.specs.QueriesReading.{queries_begun_records, plain_context, is_of_others, context};
 
 use dimacs_lines::{DeviceFault, Memory, OutputBuffer, Sink, Source};
 use dimacs_records::{
@@ -48,8 +48,8 @@ impl Queries {
 
     /// Whether the record is a query of the other kind.
     #[inline(always)]
-    fn are_others(&self, rec: Record) -> bool
-        ensures { result ≡ are_others rec (asked self.now) }
+    fn is_of_others(&self, rec: Record) -> bool
+        ensures { result ≡ is_of_others rec (asked self.now) }
     {
         match rec {
             Record::SourceQuery { .. } => matches!(self, Queries::Pairs(_)),
@@ -157,7 +157,7 @@ impl Builder for QueriesBuilder {
     #[inline(always)]
     fn context(&self, rec: Record) -> Context {
         Context {
-            misplaced: self.queries.are_others(rec),
+            misplaced: self.queries.is_of_others(rec),
             ..self.end_context()
         }
     }
