@@ -3,8 +3,9 @@ use Rattle.std.proofs.Common.{◌≡◌, ◌≢◌, inl, inr, ℕ, ℤ, pos, ◌
 use Rattle.std.proofs.lemmas.Int.{ints, by_lt_z}
 use Rattle.std.specs.List.{All, AllZip}
 use Rattle.dimacs_network.specs.{declared.network.ArcView.{ArcView}, Arcs.{JoinsNodes}}
-use Rattle.dimacs_judging.specs.{Flows.{sum_arcs, sum_nodes, when, net}, Feasible.{FeasibleMax, FeasibleMin, value}}
-use Rattle.dimacs_judging.specs.{Optimum.{Maximum, Least, NoFlow}, Cuts.{CutTight}, Potentials.{reduced_cost, Slack}}
+use Rattle.dimacs_judging.specs.{Flows.{cost, sum_arcs, sum_nodes, when, net}, Optimum.{Maximum, Least, NoFlow}}
+use Rattle.dimacs_judging.specs.{Feasible.{FeasibleMax, FeasibleMin, value}, Cuts.{CutTight}}
+use Rattle.dimacs_judging.specs.Potentials.{reduced_cost, Slack}
 use Rattle.dimacs_judging.specs.ViolatedSets.{supply_in, most_out, least_out, Violated}
 use Rattle.dimacs_instance.specs.{MaxFlows.{MaxValue}, MinFlows.{MinValue, supply_of}}
 use Rattle.dimacs_lines.specs.Limits.{IsNode}
@@ -53,19 +54,24 @@ tight_is_maximum i ends source x c f cut = record {
 }
 
 -- ---- least cost
-abbrev pub priced : (ℕ → ℤ) → List ArcView → List ℤ → ℤ
-priced p arcs y = sum_arcs (λ a x. x *ℤ (p a.tail -ℤ p a.head)) arcs y
+-- what the reduced cost of an arc adds
+abbrev pub paid : (ℕ → ℤ) → ArcView → ℤ → ℤ
+paid p a x = reduced_cost p a *ℤ x
 
-priced_is : (i : MinValue) (p : ℕ → ℤ) (y : List ℤ) → All (JoinsNodes i.nodes) i.arcs → FeasibleMin i y → priced p i.arcs y ≡ sum_nodes (λ v. p v *ℤ supply_of i v) i.nodes
+priced_is : (i : MinValue) (p : ℕ → ℤ) (y : List ℤ) → All (JoinsNodes i.nodes) i.arcs → FeasibleMin i y → sum_arcs (λ a x. x *ℤ (p a.tail -ℤ p a.head)) i.arcs y ≡ sum_nodes (λ v. p v *ℤ supply_of i v) i.nodes
 priced_is i p y ends f = sym (sums_exchange p i.nodes i.arcs y ends) ∙ sum_nodes-same _ _ i.nodes (λ v h. ap (λ (z : ℤ). p v *ℤ z) (f.balanced v h))
 
 priced_term : (x c s t : ℤ) → c *ℤ x ≡ ((c -ℤ s) +ℤ t) *ℤ x +ℤ x *ℤ (s -ℤ t)
 priced_term x c s t = omega (arith, ints, mul_comm ((c -ℤ s) +ℤ t) x, mul_add x (c -ℤ s) t, mul_sub x c s, mul_sub x s t)
 
-cost_term : (p : ℕ → ℤ) (a : ArcView) (x : ℤ) → a.cost *ℤ x ≡ reduced_cost p a *ℤ x +ℤ x *ℤ (p a.tail -ℤ p a.head)
-cost_term p a x = priced_term x a.cost (p a.tail) (p a.head)
+-- the cost of a feasible flow: what the reduced costs add, and what is the same for each flow
+pub cost_is : (i : MinValue) (p : ℕ → ℤ) (y : List ℤ) → All (JoinsNodes i.nodes) i.arcs → FeasibleMin i y → cost i.arcs y ≡ sum_arcs (paid p) i.arcs y +ℤ sum_nodes (λ v. p v *ℤ supply_of i v) i.nodes
+cost_is i p y ends f =
+    let parts = sum_arcs-same (λ a q. a.cost *ℤ q) (λ a q. paid p a q +ℤ q *ℤ (p a.tail -ℤ p a.head)) (λ a x. priced_term x a.cost (p a.tail) (p a.head)) i.arcs y in
+    let sums = sum_arcs-add (paid p) (λ a q. q *ℤ (p a.tail -ℤ p a.head)) i.arcs y in
+    omega (arith, ints, parts, sums, priced_is i p y ends f)
 
-slack_term : (r x z low cap : ℤ) → (pos 0 <ℤ r → x ≡ low) × (r <ℤ pos 0 → x ≡ cap) → (low ≤ℤ z) × (z ≤ℤ cap) → (r *ℤ x) ≤ℤ (r *ℤ z)
+pub slack_term : (r x z low cap : ℤ) → (pos 0 <ℤ r → x ≡ low) × (r <ℤ pos 0 → x ≡ cap) → (low ≤ℤ z) × (z ≤ℤ cap) → (r *ℤ x) ≤ℤ (r *ℤ z)
 slack_term r x z low cap s w =
     by_lt_z (pos 0) r (λ h. mul_le r x z (omega (arith, ints)) (omega (arith, ints, s.0 h))) (λ h.
     by_lt_z r (pos 0) (λ k. mul_ge r z x (omega (arith, ints)) (omega (arith, ints, s.1 k))) (λ k.
@@ -75,10 +81,8 @@ pub slack_is_least : (i : MinValue) → All (JoinsNodes i.nodes) i.arcs → (x :
 slack_is_least i ends x p f slack = record {
   feasible = f;
   least = λ y g.
-      let le = sum_arcs-le (λ a z. reduced_cost p a *ℤ z) _ _ (λ a q z s w. slack_term (reduced_cost p a) q z a.low a.cap s w) i.arcs x y slack g.within in
-      let parts = λ (z : List ℤ). sum_arcs-same (λ a q. a.cost *ℤ q) (λ a q. reduced_cost p a *ℤ q +ℤ q *ℤ (p a.tail -ℤ p a.head)) (cost_term p) i.arcs z in
-      let sums = λ (z : List ℤ). sum_arcs-add (λ a q. reduced_cost p a *ℤ q) (λ a q. q *ℤ (p a.tail -ℤ p a.head)) i.arcs z in
-      omega (arith, ints, le, parts x, parts y, sums x, sums y, priced_is i p x ends f, priced_is i p y ends g);
+      let le = sum_arcs-le (paid p) _ _ (λ a q z s w. slack_term (reduced_cost p a) q z a.low a.cap s w) i.arcs x y slack g.within in
+      omega (arith, ints, le, cost_is i p x ends f, cost_is i p y ends g);
 }
 
 -- ---- a violated set

@@ -1,6 +1,7 @@
 pub mod Products
 pub mod Sums
 pub mod Duality
+mod SameCost
 pub mod Distances
 pub mod RowLemmas
 pub mod StepLemmas

@@ -1,11 +1,11 @@
 -- The theorems: what certificates show of flows and of walks.
-use Rattle.std.specs.Prelude.{ℕ, ◌≡◌, Bool, List, All, ℤ, ◌-ℤ◌, ◌*ℤ◌}
-use Rattle.dimacs_network.specs.{declared.network.ArcView.{ArcView}, Arcs.{JoinsNodes, NetworkValue}}
+use Rattle.std.specs.Prelude.{ℕ, ◌≡◌, ◌≢◌, ◌<◌, Bool, List, All, length, ℤ, pos, ◌-ℤ◌, ◌*ℤ◌, ◌≤ℤ◌}
+use Rattle.dimacs_network.specs.{declared.network.ArcView.{ArcView}, Arcs.{JoinsNodes, NetworkValue, arc_at}}
 use Rattle.dimacs_instance.specs.{QueryTexts.{QueriesValue}, MaxFlows.{MaxValue}, MinFlows.{MinValue}}
-use Rattle.dimacs_judging.specs.{Flows.{net, sum_arcs, sum_nodes}, Feasible.{FeasibleMax, FeasibleMin}, Cuts.{CutTight}}
-use Rattle.dimacs_judging.specs.{Optimum.{Maximum, Least, NoFlow}, Potentials.{Slack}, ViolatedSets.{Violated}}
-use Rattle.dimacs_judging.specs.{Walks.{IsDistance}, Labels.{LabelsOk, StaysNear}}
-use Rattle.dimacs_judging.specs.PathsJudge.{PassesPaths, ShowsDistances}
+use Rattle.dimacs_judging.specs.{Flows.{cost, net, sum_arcs, sum_nodes}, Feasible.{FeasibleMax, FeasibleMin}}
+use Rattle.dimacs_judging.specs.{Cuts.{CutTight}, Optimum.{Maximum, Least, NoFlow}, Potentials.{Slack, reduced_cost}}
+use Rattle.dimacs_judging.specs.{ViolatedSets.{Violated}, Rows.{amount_at}, Walks.{IsDistance}}
+use Rattle.dimacs_judging.specs.{Labels.{LabelsOk, StaysNear}, PathsJudge.{PassesPaths, ShowsDistances}}
 use Rattle.dimacs_lines.specs.Limits.{IsNode}
 use Rattle.dimacs_claims.specs.Labels.{AreLabels, BlockValue, LabelsValue, PredsAreEarlier, label}
 
@@ -24,6 +24,12 @@ TightCutLaw =
 -- a feasible flow with slack potentials costs least
 abbrev pub SlacknessLaw : Type 0
 SlacknessLaw = (i : MinValue) → All (JoinsNodes i.nodes) i.arcs → (x : List ℤ) (p : ℕ → ℤ) → FeasibleMin i x → Slack i.arcs x p → Least i x
+
+-- a flow that costs as little as one with slack potentials carries the same on each arc whose reduced cost isn't 0
+abbrev pub SameCostLaw : Type 0
+SameCostLaw =
+    (i : MinValue) → All (JoinsNodes i.nodes) i.arcs → (x y : List ℤ) (p : ℕ → ℤ) → FeasibleMin i x → Slack i.arcs x p → FeasibleMin i y → cost i.arcs y ≤ℤ cost i.arcs x
+    → (k : ℕ) → k < length i.arcs → reduced_cost p (arc_at i.arcs k) ≢ pos 0 → amount_at x k ≡ amount_at y k
 
 -- if a set is violated, no flow is feasible
 abbrev pub ViolatedSetLaw : Type 0

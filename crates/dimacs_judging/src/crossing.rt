@@ -1,7 +1,6 @@
 //! Whether a set of nodes is violated: its supply can't be met.
 
-ghost use Rattle.std.specs.Prelude.{◌≡◌, ◌≤◌, ◌^◌, ◌+ℤ◌, ◌-ℤ◌, ◌<ℤ◌, ◌⊎◌, ◌↔◌, IsTrue, length};
-ghost use Rattle.dimacs_lines.specs.Limits.{most_count};
+ghost use Rattle.std.specs.Prelude.{◌≡◌, ◌^◌, ◌+ℤ◌, ◌-ℤ◌, ◌<ℤ◌, ◌⊎◌, ◌↔◌, IsTrue};
 ghost use Rattle.dimacs_instance.specs.MinFlows.{supply_of};
 ghost use Rattle.dimacs_judging.specs.{CertificateTests.{violated_row}, Cuts.{members, leaves, enters}, Flows.{when}};
 ghost use Rattle.dimacs_judging.specs.{inside.Ranges.{IsOfSize}, Tests.{TestsRow}};
@@ -16,9 +15,9 @@ use dimacs_records::Reason;
 
 /// The most and the least that can flow out of a set, less what flows into it.
 #[derive(Clone, Copy)]
-struct Crossing {
-    most: i128,
-    least: i128,
+pub struct Crossing {
+    pub most: i128,
+    pub least: i128,
 }
 
 /// Tests whether the set's supply is more than can flow out of it, or less than must.
@@ -28,7 +27,7 @@ pub(crate) fn set_is_violated<N: Network>(
 ) -> Result<(), (Where, Reason)>
     ensures { TestsRow (violated_row instance.now (members set.now)) result }
 {
-    let crossing = bounds_across(instance.network(), set);
+    let crossing = bounds_across(instance, set);
     let supply = supply_in(instance, set);
     if crossing.excludes(supply) {
         Ok(())
@@ -37,7 +36,8 @@ pub(crate) fn set_is_violated<N: Network>(
     }
 }
 
-fn supply_in<N: Network>(instance: &MinInstance<N>, set: &Cut) -> i128
+/// The supplies of the set's nodes together.
+pub fn supply_in<N: Network>(instance: &MinInstance<N>, set: &Cut) -> i128
     ensures { result ≡ theory.supply_in instance.now.nodes (supply_of instance.now) (members set.now) }
 {
     let mut sum: i128 = 0;
@@ -61,11 +61,11 @@ fn supply_at<N: Network>(node: u32, instance: &MinInstance<N>, set: &Cut) -> i64
 }
 
 /// The bounds of all arcs together.
-fn bounds_across<N: Network>(network: &N, set: &Cut) -> Crossing
-    requires arc_limit { length (N.list network.now) ≤ most_count }
-    ensures most { result.most ≡ most_out (N.list network.now) (members set.now) }
-    ensures least { result.least ≡ least_out (N.list network.now) (members set.now) }
+pub fn bounds_across<N: Network>(instance: &MinInstance<N>, set: &Cut) -> Crossing
+    ensures most { result.most ≡ most_out instance.now.arcs (members set.now) }
+    ensures least { result.least ≡ least_out instance.now.arcs (members set.now) }
 {
+    let network = instance.network();
     let mut crossing = Crossing { most: 0, least: 0 };
     for i in 0..network.arcs() {
         crossing = crossing.with(network.arc(i), set);

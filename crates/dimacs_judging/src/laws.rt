@@ -2,7 +2,7 @@
 //!
 //! The contract of a function here states the theorem. The body is empty on purpose: there is nothing to compute.
 
-ghost use Rattle.dimacs_judging.specs.Laws.{ExchangeLaw, TightCutLaw, SlacknessLaw, ViolatedSetLaw, LabelsLaw, PassingShowsLaw};
+ghost use Rattle.dimacs_judging.specs.Laws.{ExchangeLaw, TightCutLaw, SlacknessLaw, SameCostLaw, ViolatedSetLaw, LabelsLaw, PassingShowsLaw};
 
 /// The sum exchange behind weak duality: balances times weights of nodes, summed over the nodes, are amounts times
 /// differences of these weights, summed over the arcs.
@@ -18,6 +18,11 @@ pub fn tight_cut_is_maximum()
 /// A feasible flow with slack potentials costs least.
 pub fn slack_is_least()
     ensures { SlacknessLaw }
+{}
+
+/// A flow that costs as little as one with slack potentials carries the same on each arc whose reduced cost isn't 0.
+pub fn same_cost_is_same_flow()
+    ensures { SameCostLaw }
 {}
 
 /// If a set of nodes is violated, no flow is feasible.

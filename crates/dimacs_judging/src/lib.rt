@@ -44,6 +44,7 @@ mod verdict;
 
 pub use balances::Balances;
 pub use costs::cost_within;
+pub use crossing::{Crossing, bounds_across, supply_in};
 pub use cuts::cut_tests;
 pub use distance::{Distance, distance_in};
 pub use entries::{flow_of, placed};
@@ -53,8 +54,8 @@ pub use flow_judges::{judge_max_flow, judge_min_flow};
 pub use infeasible::judge_infeasible;
 pub use labels::label_tests;
 pub use laws::{
-    exchange, labels_give_distances, passing_shows, slack_is_least, tight_cut_is_maximum,
-    violated_has_no_flow,
+    exchange, labels_give_distances, passing_shows, same_cost_is_same_flow, slack_is_least,
+    tight_cut_is_maximum, violated_has_no_flow,
 };
 pub use least::{judge_min, judge_min_placed};
 pub use lightest::{LightestArcs, lightest_arcs};

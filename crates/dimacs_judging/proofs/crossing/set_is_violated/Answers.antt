@@ -4,12 +4,12 @@ use Rattle.dimacs_judging.proofs.crossing.set_is_violated.Goals as goal
 
 pub returns-then-excludes : goal.returns-then-excludes
 returns-then-excludes g c =
-    let violated = rw (to_z-of_z w128 c.supply_in-supply.result (search rules), c.supply_in-supply.ensures, c.bounds_across-crossing.ensures.most, c.bounds_across-crossing.ensures.least, c.network.ensures.arcs) at (c.if-excludes.ensures.0 refl) in
+    let violated = rw (to_z-of_z w128 c.supply_in-supply.result (search rules), c.supply_in-supply.ensures, c.bounds_across-crossing.ensures.most, c.bounds_across-crossing.ensures.least) at (c.if-excludes.ensures.0 refl) in
     λ k place reason f. f.3 violated
 
 pub returns-else-excludes : goal.returns-else-excludes
 returns-else-excludes g c =
-    let allowed = rw (to_z-of_z w128 c.supply_in-supply.result (search rules), c.supply_in-supply.ensures, c.bounds_across-crossing.ensures.most, c.bounds_across-crossing.ensures.least, c.network.ensures.arcs) at c.if-excludes.ensures.1 in
+    let allowed = rw (to_z-of_z w128 c.supply_in-supply.result (search rules), c.supply_in-supply.ensures, c.bounds_across-crossing.ensures.most, c.bounds_across-crossing.ensures.least) at c.if-excludes.ensures.1 in
     record {
       number = 0;
       fails = (refl, refl, refl, λ violated. let f : IsTrue false = allowed violated in cc);
