@@ -1,8 +1,8 @@
 //! Certifies that a claimed flow is maximum.
 
 ghost use Rattle.std.specs.Prelude.{◌≡◌};
-ghost use Rattle.dimacs_claims.specs.{SolutionReading.{IsPlaced}, SolutionTexts.{SolutionValue, claimed}};
-ghost use Rattle.dimacs_judging.specs.{MaxJudge.{max_claim_rows}, Places.{ArePlaced}, Tests.{Settles}};
+ghost use Rattle.dimacs_claims.specs.SolutionTexts.{SolutionValue, claimed};
+ghost use Rattle.dimacs_judging.specs.{MaxJudge.{max_claim_rows}, Places.{StandsFor}, Tests.{Settles}};
 ghost use Rattle.dimacs_decide.specs.CertifiedMax.{CertifiesMax};
 
 use crate::maximum::{MaxDecision, decide_from};
@@ -36,7 +36,7 @@ pub fn certify_max_placed<N: Network>(
     placed: &Placed<FlowPlaces<'_, N>>,
 ) -> Result<MaxDecision, JudgeError>
     requires network { placed.now.place.arcs ≡ instance.now.arcs }
-    ensures { (s : SolutionValue) → IsPlaced placed.now.value placed.now.value_line (ArePlaced placed.now.place) s
+    ensures { (s : SolutionValue) → StandsFor placed.now s
         → Settles (CertifiesMax instance.now s) (max_claim_rows instance.now s) result }
 {
     match claimed_guess(alloc, instance, placed)? {
@@ -64,7 +64,7 @@ fn certify_from<N: Network>(
     guess: Cut,
 ) -> Result<MaxDecision, JudgeError>
     requires network { placed.now.place.arcs ≡ instance.now.arcs }
-    ensures { (s : SolutionValue) → IsPlaced placed.now.value placed.now.value_line (ArePlaced placed.now.place) s
+    ensures { (s : SolutionValue) → StandsFor placed.now s
         → Settles (CertifiesMax instance.now s) (max_claim_rows instance.now s) result }
 {
     if let Some(_verdict) = max_in_one_pass(alloc, instance, placed, &guess) {
@@ -80,7 +80,7 @@ fn decide_claim<N: Network>(
     guess: Option<Cut>,
 ) -> Result<MaxDecision, JudgeError>
     requires network { placed.now.place.arcs ≡ instance.now.arcs }
-    ensures { (s : SolutionValue) → IsPlaced placed.now.value placed.now.value_line (ArePlaced placed.now.place) s
+    ensures { (s : SolutionValue) → StandsFor placed.now s
         → Settles (CertifiesMax instance.now s) (max_claim_rows instance.now s) result }
 {
     let flow = max_claim_tests(alloc, instance, placed)?;

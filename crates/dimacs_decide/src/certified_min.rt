@@ -1,8 +1,8 @@
 //! Certifies that a claimed flow costs least.
 
 ghost use Rattle.std.specs.Prelude.{◌≡◌};
-ghost use Rattle.dimacs_claims.specs.{SolutionReading.{IsPlaced}, SolutionTexts.{SolutionValue, claimed}};
-ghost use Rattle.dimacs_judging.specs.{MinJudge.{min_claim_rows}, Places.{ArePlaced}, Tests.{Settles}};
+ghost use Rattle.dimacs_claims.specs.SolutionTexts.{SolutionValue, claimed};
+ghost use Rattle.dimacs_judging.specs.{MinJudge.{min_claim_rows}, Places.{StandsFor}, Tests.{Settles}};
 ghost use Rattle.dimacs_decide.specs.CertifiedMin.{CertifiesMin};
 
 use crate::least::{MinDecision, decide_min};
@@ -34,7 +34,7 @@ pub fn certify_min_placed<N: Network>(
     placed: &Placed<FlowPlaces<'_, N>>,
 ) -> Result<MinDecision, JudgeError>
     requires network { placed.now.place.arcs ≡ instance.now.arcs }
-    ensures { (s : SolutionValue) → IsPlaced placed.now.value placed.now.value_line (ArePlaced placed.now.place) s
+    ensures { (s : SolutionValue) → StandsFor placed.now s
         → Settles (CertifiesMin instance.now s) (min_claim_rows instance.now s) result }
 {
     let flow = min_claim_tests(alloc, instance, placed)?;

@@ -84,14 +84,14 @@ fn ending<N: Network>(network: &N, residual: ResidualArc) -> u32
 /// The residual arcs by which the nodes of a cycle were raised, in the order of the cycle.
 pub(crate) fn raised_along<N: Network>(
     alloc: Global,
-    network: &N,
-    flow: &Flow,
+    _network: &N,
+    _flow: &Flow,
     labels: &NodeTable<HeightLabel>,
     cycle: &Cycle,
 ) -> Result<Vec<ResidualArc>, Memory>
-    requires heights { AreHeights (N.list network.now) flow.now (value_of labels.now) }
-    requires cycle { IsCycle (N.list network.now) (value_of labels.now) cycle.now.path.items cycle.now.first (length cycle.now.path.items - 1) }
-    ensures { IfOk result (λ residuals. IsSaving (N.list network.now) flow.now residuals.items) }
+    requires heights { AreHeights (N.list _network.now) _flow.now (value_of labels.now) }
+    requires cycle { IsCycle (N.list _network.now) (value_of labels.now) cycle.now.path.items cycle.now.first (length cycle.now.path.items - 1) }
+    ensures { IfOk result (λ residuals. IsSaving (N.list _network.now) _flow.now residuals.items) }
 {
     let mut residuals = Vec::new(alloc);
     let last = cycle.path.len() - 1;

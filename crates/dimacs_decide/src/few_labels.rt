@@ -157,22 +157,22 @@ pub(crate) fn few_block<N: Network>(
 /// The tree of tight arcs to all labelled nodes, if no arc fails. `network` has the lightest arcs of the graph.
 fn few_tree<N: Network, M: Network>(
     alloc: Global,
-    graph: &Graph<N>,
+    _graph: &Graph<N>,
     network: &M,
     lists: &AdjacencyLists,
     claimed: &Block,
     claim: &PlacedClaim<'_>,
     reached: NodeTable<bool>,
 ) -> Result<Option<TightTree>, Memory>
-    requires graph { IsGraph graph.now }
-    requires nodes { M.node_count network.now ≡ graph.now.nodes }
-    requires lightest { AreLightest graph.now.arcs (M.list network.now) }
+    requires graph { IsGraph _graph.now }
+    requires nodes { M.node_count network.now ≡ _graph.now.nodes }
+    requires lightest { AreLightest _graph.now.arcs (M.list network.now) }
     requires lists { AreAdjacencyLists Tail (M.list network.now) lists.now }
-    requires lawful { IsBlock graph.now.nodes claimed.now }
+    requires lawful { IsBlock _graph.now.nodes claimed.now }
     requires claimed { claim.now.block.now ≡ claimed.now }
     requires unreached { IsUnreached (value_of reached) }
-    ensures distances { IfOk result (λ found. IfSome found (λ tree. AreDistancesFrom graph.now claimed.now.source (label claimed.now))) }
-    ensures block { IfOk result (λ found. IfSome found (λ tree. IsBlockFor graph.now claimed.now tree.block)) }
+    ensures distances { IfOk result (λ found. IfSome found (λ tree. AreDistancesFrom _graph.now claimed.now.source (label claimed.now))) }
+    ensures block { IfOk result (λ found. IfSome found (λ tree. IsBlockFor _graph.now claimed.now tree.block)) }
     ensures marked { IfOk result (λ found. IfSome found (λ tree. (v : ℕ) → value_of tree.reached v ≡ is_some (label tree.block v))) }
 {
     if !leaving_arcs_hold(network, lists, claimed, claim) {

@@ -34,7 +34,7 @@ pub fn decide_infeasible<N: Network>(
     ensures { IfOk result (DecidesInfeasible instance.now) }
 {
     let mut flow = start_flow(alloc, instance)?;
-    'asking: loop {
+    loop {
         match decide_feasible(alloc, instance, &flow)? {
             FeasibilityDecision::Balanced => return Ok(Feasibility::Feasible(flow)),
             FeasibilityDecision::Infeasible(set) => return Ok(Feasibility::Infeasible(set)),

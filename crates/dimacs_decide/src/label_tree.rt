@@ -39,7 +39,7 @@ pub fn labelled_block<C: DistanceClaim>(
     ensures order { IfOk result (λ block. EachAfter (IsNext source (C.claimed claim.now) (pred_by_node predecessors.now)) block.labels) }
     ensures first { IfErr result (Refuses (FirstOfRow (back_row nodes source (C.claimed claim.now) (pred_by_node predecessors.now)))) }
 {
-    let mut tree = LabelTree::new(alloc, nodes, source, claim, predecessors)?;
+    let mut tree = LabelTree::new(alloc, source, claim, predecessors)?;
     for v in 1..nodes + 1 {
         if !tree.label_from(nodes, v)? {
             return Err(JudgeError::Refused(Where::Node(v), Reason::PredUnknown));
@@ -63,17 +63,15 @@ impl<'a, C: DistanceClaim> LabelTree<'a, C> {
     /// The block without labels.
     fn new(
         alloc: Global,
-        nodes: u32,
         source: u32,
         claim: &'a C,
         predecessors: &'a [u32],
     ) -> Result<LabelTree<'a, C>, Memory>
-        requires source { IsNode nodes source }
-        requires distance { C.claimed claim.now source ≡ Some (pos 0) }
+        requires { C.claimed claim.now source ≡ Some (pos 0) }
         ensures claim { IfOk result (λ tree. tree.claim.now ≡ claim.now) }
         ensures predecessors { IfOk result (λ tree. tree.predecessors.now ≡ predecessors.now) }
-        ensures tree { IfOk result (λ tree. IsLabelTree nodes source (C.claimed claim.now) (pred_by_node predecessors.now)
-            tree.block (value_of tree.labelled)) }
+        ensures tree { IfOk result (λ tree. (nodes : ℕ) → IsNode nodes source
+            → IsLabelTree nodes source (C.claimed claim.now) (pred_by_node predecessors.now) tree.block (value_of tree.labelled)) }
     {
         let mut labelled = NodeTable::new(alloc, false);
         labelled.set(source, true)?;
@@ -145,9 +143,9 @@ impl<'a, C: DistanceClaim> LabelTree<'a, C> {
 
     /// Adds the label of a node with a distance, if it has none yet. Its predecessor has to be labelled.
     #[inline(always)]
-    fn add_label(&mut self, nodes: u32, node: u32) -> Result<(), Memory>
-        requires proposed { IsProposed nodes (C.claimed self.old.claim.now) (pred_by_node self.old.predecessors.now) }
-        requires tree { IsLabelTree nodes self.old.block.source (C.claimed self.old.claim.now) (pred_by_node self.old.predecessors.now)
+    fn add_label(&mut self, _nodes: u32, node: u32) -> Result<(), Memory>
+        requires proposed { IsProposed _nodes (C.claimed self.old.claim.now) (pred_by_node self.old.predecessors.now) }
+        requires tree { IsLabelTree _nodes self.old.block.source (C.claimed self.old.claim.now) (pred_by_node self.old.predecessors.now)
             self.old.block (value_of self.old.labelled) }
         requires distance { IsSome (C.claimed self.old.claim.now node) }
         requires next { (l : Label) → l.id ≡ node
@@ -155,7 +153,7 @@ impl<'a, C: DistanceClaim> LabelTree<'a, C> {
         requires labelled { value_of self.old.labelled (pred_by_node self.old.predecessors.now node) ≡ true }
         ensures claim { self.new.claim.now ≡ self.old.claim.now }
         ensures predecessors { self.new.predecessors.now ≡ self.old.predecessors.now }
-        ensures tree { OnOk result (IsLabelTree nodes self.old.block.source (C.claimed self.old.claim.now) (pred_by_node self.old.predecessors.now)
+        ensures tree { OnOk result (IsLabelTree _nodes self.old.block.source (C.claimed self.old.claim.now) (pred_by_node self.old.predecessors.now)
             self.new.block (value_of self.new.labelled)) }
         ensures placed { OnOk result (Places (value_of self.old.labelled) (value_of self.new.labelled) node) }
         ensures path { self.new.path ≡ self.old.path }

@@ -136,7 +136,7 @@ fn decide_by_rounds<N: Network>(
     while changed {
         changed = round(network, flow, &mut labels)?;
         if changed {
-            if let Some(cycle) = cycle_in(alloc, network, flow, &labels)? {
+            if let Some(cycle) = cycle_in(alloc, network, &labels)? {
                 let cycle = raised_along(alloc, network, flow, &labels, &cycle)?;
                 return better_by(alloc, instance, flow, &cycle);
             }

@@ -1,10 +1,11 @@
 //! A search in breadth over tight arcs: their weight is the difference of the claims of their ends.
 
-ghost use Rattle.std.specs.Prelude.{◌≡◌, ◌<◌, ◌≤◌, ◌+ℤ◌, ◌↔◌, ℕ, is_some, IsTrue, All, length, false, true, Some, IfOk, IfSome, OnOk, MatchOption, pos};
+ghost use Rattle.std.specs.Prelude.{◌≡◌, ◌<◌, ◌≤◌, ◌+ℤ◌, ◌↔◌, ℕ, ℤ, List, Option, is_some, IsTrue, All, length, false, true, Some, IfOk, IfSome, OnOk, MatchOption, pos};
 ghost use Rattle.dimacs_lines.specs.Limits.{most_nodes, IsNode};
 ghost use Rattle.dimacs_records.specs.Ranges.{IsWide};
 ghost use Rattle.dimacs_network.specs.{Arcs.{JoinsNodes, arc_at}, AdjacencyLists.{AreAdjacencyLists}};
 ghost use Rattle.dimacs_network.specs.{declared.adjacency_lists.Side.TheVariants.{Tail}, Tables.{value_of}};
+ghost use Rattle.dimacs_network.specs.declared.network.ArcView.{ArcView};
 ghost use Rattle.dimacs_claims.specs.Labels.{label};
 ghost use Rattle.dimacs_decide.specs.{Distances.{IsTight}, inside.FewLabels.{IsUnreached}};
 ghost use Rattle.dimacs_decide.specs.inside.TightTrees.{IsFollowed, IsTightTree, IsWholeTightTree, TreeGrows, node_at};
@@ -24,19 +25,11 @@ pub(crate) struct TightTree {
 
 impl TightTree {
     /// The search that has reached only its source. No node of the table is reached yet.
-    pub fn new<N: Network, C: DistanceClaim>(
-        alloc: Global,
-        network: &N,
-        source: u32,
-        claim: &C,
-        reached: NodeTable<bool>,
-    ) -> Result<TightTree, Memory>
-        requires source { IsNode (N.node_count network.now) source }
-        requires claimed { C.claimed claim.now source ≡ Some (pos 0) }
-        requires unreached { IsUnreached (value_of reached) }
+    pub fn new(alloc: Global, source: u32, reached: NodeTable<bool>) -> Result<TightTree, Memory>
+        requires { IsUnreached (value_of reached) }
         ensures source { IfOk result (λ tree. tree.block.source ≡ source) }
-        ensures tree { IfOk result (λ tree. IsTightTree (N.node_count network.now) (N.list network.now)
-            (C.claimed claim.now) tree.block (value_of tree.reached)) }
+        ensures tree { IfOk result (λ tree. (nodes : ℕ) (arcs : List ArcView) (claimed : ℕ → Option ℤ)
+            → IsNode nodes source → claimed source ≡ Some (pos 0) → IsTightTree nodes arcs claimed tree.block (value_of tree.reached)) }
     {
         let mut reached = reached;
         reached.set(source, true)?;
@@ -200,7 +193,7 @@ pub(crate) fn tight_tree<N: Network, C: DistanceClaim>(
     ensures tree { IfOk result (λ tree. IsWholeTightTree (N.node_count network.now) (N.list network.now)
         (C.claimed claim.now) tree.block (value_of tree.reached)) }
 {
-    let mut tree = TightTree::new(alloc, network, source, claim, reached)?;
+    let mut tree = TightTree::new(alloc, source, reached)?;
     let mut at = 0;
     while at <= tree.len() {
         let from = tree.node(at);

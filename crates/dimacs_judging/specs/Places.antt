@@ -1,7 +1,8 @@
 -- A flow while entries are put on their arcs, entry by entry.
 use Rattle.std.specs.Prelude.{ℕ, zero, suc, ◌≡◌, Bool, false, List, take, get_or, count_by, ℤ, Option, None, Some}
 use Rattle.dimacs_network.specs.{declared.network.ArcView.{ArcView}, Arcs.{joins, IsKthBetween}}
-use Rattle.dimacs_claims.specs.declared.place.Entry.{Entry}
+use Rattle.dimacs_claims.specs.{declared.place.Entry.{Entry}, declared.place.Placed.{Placed}}
+use Rattle.dimacs_claims.specs.{SolutionReading.{IsPlaced}, SolutionTexts.{SolutionValue}}
 use Rattle.dimacs_records.specs.declared.reasons.Reason.{Reason}
 use Rattle.dimacs_judging.specs.{declared.verdict.Where.{Where}, Claims.{is_between, claimed_flow, entry_row}}
 use Rattle.dimacs_judging.specs.Tests.{Clear, FirstOfRow}
@@ -43,3 +44,7 @@ Hold p entries (Some refusal) = FirstOfRow (entry_row p.arcs entries) refusal.0 
 -- these entries were put
 abbrev pub ArePlaced : PlacesValue → List Entry → Type 0
 ArePlaced p entries = Hold p entries p.refusal
+
+-- the solution has the value that was read, and its entries were put
+abbrev pub StandsFor : Placed PlacesValue → SolutionValue → Type 0
+StandsFor placed s = IsPlaced placed.value placed.value_line (ArePlaced placed.place) s

@@ -1,8 +1,8 @@
 //! The flow that the entries of a solution claim.
 
 ghost use Rattle.std.specs.Prelude.{◌≡◌, ◌∷◌, [], IfOk};
-ghost use Rattle.dimacs_claims.specs.{SolutionReading.{IsPlaced}, SolutionTexts.{claimed}};
-ghost use Rattle.dimacs_judging.specs.{Claims.{Carries, entry_row}, Places.{ArePlaced}, Tests.{Settles}};
+ghost use Rattle.dimacs_claims.specs.SolutionTexts.{claimed};
+ghost use Rattle.dimacs_judging.specs.{Claims.{Carries, entry_row}, Places.{ArePlaced, StandsFor}, Tests.{Settles}};
 
 use crate::flow::Flow;
 use crate::places::FlowPlaces;
@@ -34,7 +34,7 @@ pub fn placed<'a, N: Network>(
     solution: &Solution,
 ) -> Result<Placed<FlowPlaces<'a, N>>, Memory>
     ensures network { IfOk result (λ placed. placed.place.arcs ≡ N.list network.now) }
-    ensures placed { IfOk result (λ placed. IsPlaced placed.value placed.value_line (ArePlaced placed.place) (claimed solution.now)) }
+    ensures placed { IfOk result (λ placed. StandsFor placed (claimed solution.now)) }
 {
     Ok(Placed {
         value: solution.value,

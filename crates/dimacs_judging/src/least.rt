@@ -1,9 +1,9 @@
 //! Judging that a flow costs least.
 
 ghost use Rattle.std.specs.Prelude.{◌≡◌, Ok};
-ghost use Rattle.dimacs_claims.specs.{SolutionReading.{IsPlaced}, SolutionTexts.{SolutionValue, claimed}};
+ghost use Rattle.dimacs_claims.specs.SolutionTexts.{SolutionValue, claimed};
 ghost use Rattle.dimacs_judging.specs.{declared.verdict.Verdict.TheVariants.{Min}, MinJudge.{ShowsLeast, min_rows}};
-ghost use Rattle.dimacs_judging.specs.{Places.{ArePlaced}, Tests.{Judges}};
+ghost use Rattle.dimacs_judging.specs.{Places.{StandsFor}, Tests.{Judges}};
 
 use crate::agreement::nodes_agree;
 use crate::entries::placed;
@@ -46,7 +46,7 @@ pub fn judge_min_placed<N: Network>(
     potentials: &Potentials,
 ) -> Result<Verdict, JudgeError>
     requires network { placed.now.place.arcs ≡ instance.now.arcs }
-    ensures { (s : SolutionValue) → IsPlaced placed.now.value placed.now.value_line (ArePlaced placed.now.place) s
+    ensures { (s : SolutionValue) → StandsFor placed.now s
         → Judges (min_rows instance.now s potentials.now) (ShowsLeast instance.now s potentials.now) (λ verdict. verdict ≡ Min s.value) result }
 {
     if let Some(verdict) = min_in_one_pass(alloc, instance, placed, potentials) {

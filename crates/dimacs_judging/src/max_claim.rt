@@ -1,10 +1,10 @@
 //! The tests of a claimed maximum flow, before the cut or with it in one pass.
 
 ghost use Rattle.std.specs.Prelude.{◌≡◌, IfErr, IfOk, IfSome, Ok};
-ghost use Rattle.dimacs_claims.specs.{SolutionReading.{IsPlaced}, SolutionTexts.{SolutionValue}};
+ghost use Rattle.dimacs_claims.specs.SolutionTexts.{SolutionValue};
 ghost use Rattle.dimacs_judging.specs.{declared.verdict.Verdict.TheVariants.{Max}, Feasible.{FeasibleMax}};
 ghost use Rattle.dimacs_judging.specs.MaxJudge.{IsMaxClaim, ShowsMaximum, max_claim_rows, max_rows};
-ghost use Rattle.dimacs_judging.specs.{Places.{ArePlaced}, Tests.{Judges, Refutes}};
+ghost use Rattle.dimacs_judging.specs.{Places.{StandsFor}, Tests.{Judges, Refutes}};
 
 use crate::agreement::{nodes_agree, value_agrees};
 use crate::flow::Flow;
@@ -24,9 +24,9 @@ pub fn max_claim_tests<'a, N: Network>(
 ) -> Result<&'a Flow, JudgeError>
     requires network { placed.now.place.arcs ≡ instance.now.arcs }
     ensures feasible { IfOk result (λ flow. FeasibleMax instance.now flow.now) }
-    ensures claim { IfOk result (λ flow. (s : SolutionValue) → IsPlaced placed.now.value placed.now.value_line (ArePlaced placed.now.place) s
+    ensures claim { IfOk result (λ flow. (s : SolutionValue) → StandsFor placed.now s
         → IsMaxClaim instance.now s flow.now) }
-    ensures refuted { IfErr result (λ error. (s : SolutionValue) → IsPlaced placed.now.value placed.now.value_line (ArePlaced placed.now.place) s
+    ensures refuted { IfErr result (λ error. (s : SolutionValue) → StandsFor placed.now s
         → Refutes (IsMaxClaim instance.now s) (max_claim_rows instance.now s) error) }
 {
     let network = instance.network();
@@ -45,7 +45,7 @@ pub fn max_in_one_pass<N: Network>(
     cut: &Cut,
 ) -> Option<Verdict>
     requires network { placed.now.place.arcs ≡ instance.now.arcs }
-    ensures { IfSome result (λ verdict. (s : SolutionValue) → IsPlaced placed.now.value placed.now.value_line (ArePlaced placed.now.place) s
+    ensures { IfSome result (λ verdict. (s : SolutionValue) → StandsFor placed.now s
         → Judges (max_rows instance.now s cut.now) (ShowsMaximum instance.now s cut.now) (λ verdict. verdict ≡ Max s.value) (Ok verdict)) }
 {
     let network = instance.network();

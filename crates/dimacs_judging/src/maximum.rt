@@ -1,9 +1,9 @@
 //! Judging that a flow is maximum.
 
 ghost use Rattle.std.specs.Prelude.{◌≡◌, Ok};
-ghost use Rattle.dimacs_claims.specs.{SolutionReading.{IsPlaced}, SolutionTexts.{SolutionValue, claimed}};
+ghost use Rattle.dimacs_claims.specs.SolutionTexts.{SolutionValue, claimed};
 ghost use Rattle.dimacs_judging.specs.{declared.verdict.Verdict.TheVariants.{Max}, Feasible.{value}, Tests.{Judges}};
-ghost use Rattle.dimacs_judging.specs.{MaxJudge.{ShowsMaximum, max_rows}, Places.{ArePlaced}};
+ghost use Rattle.dimacs_judging.specs.{MaxJudge.{ShowsMaximum, max_rows}, Places.{StandsFor}};
 
 use crate::agreement::nodes_agree;
 use crate::cuts::cut_tests;
@@ -44,7 +44,7 @@ pub fn judge_max_placed<N: Network>(
     cut: &Cut,
 ) -> Result<Verdict, JudgeError>
     requires network { placed.now.place.arcs ≡ instance.now.arcs }
-    ensures { (s : SolutionValue) → IsPlaced placed.now.value placed.now.value_line (ArePlaced placed.now.place) s
+    ensures { (s : SolutionValue) → StandsFor placed.now s
         → Judges (max_rows instance.now s cut.now) (ShowsMaximum instance.now s cut.now) (λ verdict. verdict ≡ Max s.value) result }
 {
     if let Some(verdict) = max_in_one_pass(alloc, instance, placed, cut) {

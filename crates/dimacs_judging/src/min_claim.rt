@@ -1,9 +1,9 @@
 //! The tests of a claimed flow of least cost, before the potentials or with them in one pass.
 
 ghost use Rattle.std.specs.Prelude.{◌≡◌, IfErr, IfOk, IfSome, Ok};
-ghost use Rattle.dimacs_claims.specs.{SolutionReading.{IsPlaced}, SolutionTexts.{SolutionValue}};
+ghost use Rattle.dimacs_claims.specs.SolutionTexts.{SolutionValue};
 ghost use Rattle.dimacs_judging.specs.{declared.verdict.Verdict.TheVariants.{Min}, Feasible.{FeasibleMin}};
-ghost use Rattle.dimacs_judging.specs.{MinJudge.{IsMinClaim, ShowsLeast, min_claim_rows, min_rows}, Places.{ArePlaced}};
+ghost use Rattle.dimacs_judging.specs.{MinJudge.{IsMinClaim, ShowsLeast, min_claim_rows, min_rows}, Places.{StandsFor}};
 ghost use Rattle.dimacs_judging.specs.Tests.{Judges, Refutes};
 
 use crate::agreement::{nodes_agree, value_agrees};
@@ -25,9 +25,9 @@ pub fn min_claim_tests<'a, N: Network>(
 ) -> Result<&'a Flow, JudgeError>
     requires network { placed.now.place.arcs ≡ instance.now.arcs }
     ensures feasible { IfOk result (λ flow. FeasibleMin instance.now flow.now) }
-    ensures claim { IfOk result (λ flow. (s : SolutionValue) → IsPlaced placed.now.value placed.now.value_line (ArePlaced placed.now.place) s
+    ensures claim { IfOk result (λ flow. (s : SolutionValue) → StandsFor placed.now s
         → IsMinClaim instance.now s flow.now) }
-    ensures refuted { IfErr result (λ error. (s : SolutionValue) → IsPlaced placed.now.value placed.now.value_line (ArePlaced placed.now.place) s
+    ensures refuted { IfErr result (λ error. (s : SolutionValue) → StandsFor placed.now s
         → Refutes (IsMinClaim instance.now s) (min_claim_rows instance.now s) error) }
 {
     let network = instance.network();
@@ -46,7 +46,7 @@ pub(crate) fn min_in_one_pass<N: Network>(
     potentials: &Potentials,
 ) -> Option<Verdict>
     requires network { placed.now.place.arcs ≡ instance.now.arcs }
-    ensures { IfSome result (λ verdict. (s : SolutionValue) → IsPlaced placed.now.value placed.now.value_line (ArePlaced placed.now.place) s
+    ensures { IfSome result (λ verdict. (s : SolutionValue) → StandsFor placed.now s
         → Judges (min_rows instance.now s potentials.now) (ShowsLeast instance.now s potentials.now) (λ verdict. verdict ≡ Min s.value) (Ok verdict)) }
 {
     let network = instance.network();

@@ -99,7 +99,7 @@ fn is_served(labels: &Labels, numbers: &NodeMap<u32>, queries: &Queries, source:
 {
     match queries {
         Queries::Sources(_) => has_full_block(labels, numbers, source),
-        Queries::Pairs(_) => has_block(labels, numbers, source),
+        Queries::Pairs(_) => numbers.get(source).is_some(),
     }
 }
 
@@ -111,13 +111,6 @@ fn has_full_block(labels: &Labels, numbers: &NodeMap<u32>, source: u32) -> bool
         Some(number) => labels.blocks()[number as usize].radius().is_none(),
         None => false,
     }
-}
-
-fn has_block(labels: &Labels, numbers: &NodeMap<u32>, source: u32) -> bool
-    requires { AreNumbers labels.now.blocks numbers.now }
-    ensures { IsTrue result ↔ HasBlock labels.now.blocks source }
-{
-    numbers.get(source).is_some()
 }
 
 /// The source of the query with this index: its node, or FROM.

@@ -8,11 +8,11 @@ use Rattle.dimacs_decide.proofs.ClaimLemmas.{certified}
 use Rattle.dimacs_decide.proofs.few_labels.few_tree.Goals as goal
 
 pub tight_tree-requires-clause-joined : goal.tight_tree-requires-clause-joined
-tight_tree-requires-clause-joined g c = rw c.requires.nodes (lightest_joined c.args.graph.now.arcs (g.M.Network.list c.args.network.now) (label c.args.claimed.now) c.requires.lightest c.args.graph.now.nodes c.requires.graph.joined)
+tight_tree-requires-clause-joined g c = rw c.requires.nodes (lightest_joined c.args._graph.now.arcs (g.M.Network.list c.args.network.now) (label c.args.claimed.now) c.requires.lightest c.args._graph.now.nodes c.requires.graph.joined)
 
 pub returns : goal.returns
 returns g c =
-    let value = c.args.graph.now in
+    let value = c.args._graph.now in
     let b = c.args.claimed.now in
     let least = g.M.Network.list c.args.network.now in
     let tree = c.in_ok-tree.tree in

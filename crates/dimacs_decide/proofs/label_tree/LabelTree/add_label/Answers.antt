@@ -9,7 +9,7 @@ use Rattle.dimacs_decide.proofs.label_tree.LabelTree.add_label.Goals as goal
 
 pub returns-clause-tree : goal.returns-clause-tree
 returns-clause-tree g c =
-    let nodes = c.args.nodes in
+    let nodes = c.args._nodes in
     let claim = g.C.DistanceClaim.claimed c.args.self.now.claim.now in
     let pred = pred_by_node c.args.self.now.predecessors.now in
     let labelled = value_of c.args.self.now.labelled in

@@ -5,7 +5,7 @@ use Rattle.dimacs_decide.proofs.LabelTreeLemmas.{begun}
 use Rattle.dimacs_decide.proofs.label_tree.LabelTree.new.Goals as goal
 
 pub returns-clause-tree : goal.returns-clause-tree
-returns-clause-tree g c =
-    let lawful = rw c.new-block.ensures.empty at (c.new-block.ensures.lawful c.args.nodes c.requires.source) in
-    rw c.new-block.ensures.empty (begun c.args.nodes (g.C.DistanceClaim.claimed c.args.claim.now) (pred_by_node c.args.predecessors.now) c.args.source (value_of c.set.new.self) c.requires.source c.requires.distance lawful
+returns-clause-tree g c = λ nodes inside.
+    let lawful = rw c.new-block.ensures.empty at (c.new-block.ensures.lawful nodes inside) in
+    rw c.new-block.ensures.empty (begun nodes (g.C.DistanceClaim.claimed c.args.claim.now) (pred_by_node c.args.predecessors.now) c.args.source (value_of c.set.new.self) inside c.requires lawful
     c.in_ok-set.ensures.set (λ v apart. c.in_ok-set.ensures.others v apart ∙ c.new-labelled.ensures.values v))

@@ -42,10 +42,10 @@ loop-self-preserved g c =
     let longer : c.push.new.self.items ≡ path ++ at ∷ [] = c.in_ok-push.ensures.items in
     let here : after at ≡ length path + 1 = c.in_ok-set.ensures.set ∙ c.len.ensures ∙ c.push.new.self.ok.0 ∙ ap length longer ∙ length-append path (at ∷ []) in
     let next : c.below-at.result ≡ below_of arcs (labels at) = c.below-at.ensures ∙ ap (below_of arcs) c.get-in-loop-self.ensures.value in
-    let more = follow_more nodes arcs c.args.flow.now labels c.requires.joined c.requires.bounds c.requires.heights c.args.start c.len-begin.result path places at is none after here c.in_ok-set.ensures.others in
+    let more = follow_more nodes arcs c.requires.heights.0 labels c.requires.joined c.requires.bounds c.requires.heights.1 c.args.start c.len-begin.result path places at is none after here c.in_ok-set.ensures.others in
     record {
       following = rw (longer, next) more;
-      keeps = λ v some. follow_keeps nodes arcs c.args.flow.now labels c.requires.joined c.requires.bounds c.requires.heights c.args.start c.len-begin.result path places at is none after here c.in_ok-set.ensures.others v (c.loop-self.invariant.keeps v some);
+      keeps = λ v some. follow_keeps nodes arcs c.requires.heights.0 labels c.requires.joined c.requires.bounds c.requires.heights.1 c.args.start c.len-begin.result path places at is none after here c.in_ok-set.ensures.others v (c.loop-self.invariant.keeps v some);
     }
 
 pub returns-then-place-begin-clause-followed : goal.returns-then-place-begin-clause-followed
@@ -56,7 +56,7 @@ returns-then-place-begin-clause-followed g c =
     let at = c.loop-self.at in
     let seen : 0 < places at = some_place (places at) (λ e. c.loop-self-test.false (c.get.ensures.value ∙ e)) in
     let within : places at ≤ c.len-begin.result = rw c.get-place.ensures.value at c.if-place-begin.true in
-    follow_over nodes arcs c.args.flow.now (value_of c.args.labels.now) c.requires.joined c.requires.bounds c.requires.heights c.args.start c.len-begin.result c.loop-self.self.path.items places at c.loop-self.invariant.following seen within
+    follow_over nodes arcs c.requires.heights.0 (value_of c.args.labels.now) c.requires.joined c.requires.bounds c.requires.heights.1 c.args.start c.len-begin.result c.loop-self.self.path.items places at c.loop-self.invariant.following seen within
 
 pub returns-clause-followed : goal.returns-clause-followed
 returns-clause-followed g c =
@@ -65,4 +65,4 @@ returns-clause-followed g c =
     let places = value_of c.loop-self.self.places in
     let at = c.loop-self.at in
     let more : c.len-begin.result < places at = rw c.get-place.ensures.value at c.if-place-begin.false in
-    rw (c.in_ok-push-2.ensures.items, c.get-place.ensures.value) (follow_back nodes arcs c.args.flow.now (value_of c.args.labels.now) c.requires.joined c.requires.bounds c.requires.heights c.args.start c.len-begin.result c.loop-self.self.path.items places at c.loop-self.invariant.following more)
+    rw (c.in_ok-push-2.ensures.items, c.get-place.ensures.value) (follow_back nodes arcs c.requires.heights.0 (value_of c.args.labels.now) c.requires.joined c.requires.bounds c.requires.heights.1 c.args.start c.len-begin.result c.loop-self.self.path.items places at c.loop-self.invariant.following more)
