@@ -14,7 +14,7 @@ use std::marker::Model;
 /// How many walks the heap may have before the farther ones leave it.
 const MOST_NEAR: usize = 1024;
 
-/// A node may be in it more than once.
+/// The walks that the search has still to follow. A node may end more than one of them.
 ///
 /// The heap has the walks up to `bound`, so that it stays small. Piles have the longer ones, each pile those that are
 /// longer than all before it: they become the heap in turn.

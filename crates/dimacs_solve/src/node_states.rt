@@ -43,7 +43,7 @@ impl<D: SearchDistance> NodeStates<D> {
     }
 
     pub(crate) fn next_round(&mut self)
-        requires { self.old.round + 1 < 4294967296 }
+        requires { self.old.round + 1 < 2 ^ 32 }
         ensures round { self.new.round ≡ self.old.round + 1 }
         ensures unknown { AreUnknown (known D.value self.new) }
     {

@@ -4,6 +4,9 @@ ghost use Rattle.std.specs.Prelude.{◌≡◌};
 
 use std::marker::Model;
 
+/// How many values a half of a weight can have.
+const HALVES: u64 = 1 << 32;
+
 /// An arc of a known tail.
 #[derive(Clone, Copy)]
 pub(crate) struct WeightedArc {
@@ -20,12 +23,12 @@ pub(crate) struct PackedArc {
 }
 
 impl Model for PackedArc {
-    ghost use Rattle.std.specs.Prelude.{◌+◌, ◌*◌};
+    ghost use Rattle.std.specs.Prelude.{◌+◌, ◌*◌, ◌^◌};
     ghost use Rattle.dimacs_solve.specs.declared.packed_arc.WeightedArc.{WeightedArc};
 
     ghost Value = { WeightedArc };
 
-    ghost view = { λ a. record { weight = a.high * 4294967296 + a.low; head = a.head } };
+    ghost view = { λ a. record { weight = a.high * 2 ^ 32 + a.low; head = a.head } };
 }
 
 impl PackedArc {
@@ -34,8 +37,8 @@ impl PackedArc {
         ensures { result ≡ arc }
     {
         PackedArc {
-            low: (arc.weight % 4294967296) as u32,
-            high: (arc.weight / 4294967296) as u32,
+            low: (arc.weight % HALVES) as u32,
+            high: (arc.weight / HALVES) as u32,
             head: arc.head,
         }
     }
@@ -44,7 +47,7 @@ impl PackedArc {
     pub(crate) fn weight(&self) -> u64
         ensures { result ≡ self.now.weight }
     {
-        u64::from(self.high) * 4294967296 + u64::from(self.low)
+        u64::from(self.high) * HALVES + u64::from(self.low)
     }
 
     #[inline(always)]

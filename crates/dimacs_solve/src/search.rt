@@ -27,7 +27,7 @@ pub(crate) fn search<D: SearchDistance>(
     requires adjacent { AreByNode adjacency.now }
     requires bounded { adjacency.now.nodes * adjacency.now.greatest < D.limit }
     requires source { IsNode adjacency.now.nodes source }
-    requires rounds { node_states.old.round + 1 < 4294967296 }
+    requires rounds { node_states.old.round + 1 < 2 ^ 32 }
     requires empty { frontier.old ≡ [] }
     ensures tree { IfOk result (IsPathTree adjacency.now source) }
     ensures round { OnOk result (node_states.new.round ≡ node_states.old.round + 1) }
