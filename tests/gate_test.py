@@ -58,9 +58,10 @@ def counting():
     for failed, left_out in (1, []), (0, ["it: no tool"]), (1, ["it: no networkx 3.3"]):
         counts = library.Counts()
         counts.passed, counts.left_out = 4, left_out
-        with contextlib.redirect_stdout(io.StringIO()):
-            counts.end("a layer", 5)
-        yield f"too few of a layer, left out {left_out}", counts.failed == failed
+        with contextlib.redirect_stdout(io.StringIO()) as printed:
+            counts.end("a layer")
+        ran = scripts.counted("it", 5, 0, f"{printed.getvalue()}4 passed, 0 failed")
+        yield f"too few of a layer, left out {left_out}", ran.failed == failed
     os.environ["ALL_TOOLS"] = "yes"
     yield "left out with all tools", scripts.counted("it", 1, 0, "left out: it\n1 passed, 0 failed").failed
 

@@ -46,7 +46,9 @@ proved  | 6280   | tests/targets.py --build {build}
 proved  | 60     | tools/dist.py ; tests/packages.py dist
 build   | 120    | tests/library.py --build {build} Python wheel
 build   | 1040   | tests/library.py --build {build} C++
-build   | 7300   | tests/library.py --build {build} --instances 5000 C Rust page arrays
+build   | 2100   | tests/library.py --build {build} C
+build   | 46     | tests/library.py --build {build} Rust page
+build   | 5000   | tests/library.py --build {build} --instances 5000 arrays
 build   | 43     | tests/install.py {build}
 build   | 28     | tests/abi.py {build}
 build   | 13     | tests/version.py {build}
