@@ -282,8 +282,8 @@ impl OutputBuffer {
         ensures appended { self.new.kept ≡ self.old.kept ++ (two_digits (n / 100) ++ two_digits (n % 100)) }
         ensures failed { self.new.failed ≡ self.old.failed }
     {
-        self.append(&two_digits(n / 100));
-        self.append(&two_digits(n % 100));
+        let (high, low) = (two_digits(n / 100), two_digits(n % 100));
+        self.append(&[high[0], high[1], low[0], low[1]]);
     }
 
     /// Appends one or two digits without a branch: it writes two bytes, and counts those of the number.
@@ -295,9 +295,9 @@ impl OutputBuffer {
         ensures failed { self.new.failed ≡ self.old.failed }
     {
         let (digits, count) = first_digits(n);
-        let end = self.length + 2;
-        self.bytes[self.length..end].copy_from_slice(&digits);
-        self.length += count;
+        let start = self.length;
+        self.bytes[start..start + 2].copy_from_slice(&digits);
+        self.length = start + count;
     }
 }
 
