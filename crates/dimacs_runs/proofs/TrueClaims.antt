@@ -58,17 +58,17 @@ max_exactly : (i : MaxValue) (s : SolutionValue) → IsMax i → (status : Statu
     → (status ≡ Done) ↔ IsTrueMax i s
 max_exactly i s law =
     exactly_shown _ _ (max_claim_rows i s) _ _ (IsTrueMax i s)
-    (λ text (c, (x, passes, maximum), canonical, spelled). (x, passes.claim, maximum))
-    (λ (x, claim, maximum). max.claim_clear i s law x claim)
-    (λ text (x, y, improved, better, of, is) (z, claim, maximum). improved.not_maximum (subst (λ (f : List ℤ). Maximum i f) (claim.carries.amounts ∙ sym improved.claim.carries.amounts) maximum))
+    (λ text (c, (x, passes, maximum), canonical, spelled). (x, passes.claim.carries, maximum, passes.claim.value_is))
+    (λ (x, carries, maximum, value_is). max.claim_clear i s law x (record { carries = carries; feasible = maximum.feasible; value_is = value_is }))
+    (λ text (x, y, improved, better, of, is) (z, carries, maximum, value_is). improved.not_maximum (subst (λ (f : List ℤ). Maximum i f) (carries.amounts ∙ sym improved.claim.carries.amounts) maximum))
 
 min_exactly : (i : MinValue) (s : SolutionValue) (status : Status) (out : List (List ℕ)) → CertifiesLeast i s status out
     → (status ≡ Done) ↔ IsTrueMin i s
 min_exactly i s =
     exactly_shown _ _ (min_claim_rows i s) _ _ (IsTrueMin i s)
-    (λ text (p, (x, passes, least), canonical, spelled). (x, passes.claim, least))
-    (λ (x, claim, least). min.claim_clear i s x claim)
-    (λ text (x, y, improved, is) (z, claim, least). improved.not_least (subst (λ (f : List ℤ). Least i f) (claim.carries.amounts ∙ sym improved.claim.carries.amounts) least))
+    (λ text (p, (x, passes, least), canonical, spelled). (x, passes.claim.carries, least, passes.claim.cost_is, passes.claim.costs_wide))
+    (λ (x, carries, least, cost_is, wide). min.claim_clear i s x (record { carries = carries; feasible = least.feasible; costs_wide = wide; cost_is = cost_is }))
+    (λ text (x, y, improved, is) (z, carries, least, cost_is, wide). improved.not_least (subst (λ (f : List ℤ). Least i f) (carries.amounts ∙ sym improved.claim.carries.amounts) least))
 
 set_exactly : (i : MinValue) (status : Status) (out : List (List ℕ)) → CertifiesInfeasible i status out → (status ≡ Done) ↔ NoFlow i
 set_exactly i =

@@ -1,15 +1,16 @@
 -- The theorems: what runs write with `Done`, the judge's run answers yes; a claim is certified exactly if it is true; a
 -- canonical text is converted to itself; and with a great enough limit a solver of maximum flow doesn't give up.
-use Rattle.std.specs.{Prelude.{ℕ, ℤ, pos, ◌≡◌, ◌≢◌, ◌≤◌, ◌<◌, ◌<ℤ◌, ◌⊎◌, ◌↔◌, List, [], ◌∷◌}, List.{All, Contains}}
+use Rattle.std.specs.Prelude.{ℕ, ℤ, pos, ◌≡◌, ◌≢◌, ◌≤◌, ◌<◌, ◌<ℤ◌, ◌⊎◌, ◌↔◌, List, [], ◌∷◌, length}
+use Rattle.std.specs.List.{All, Contains}
 use Rattle.dimacs_claims.specs.{DistanceTexts.{SpellsDistances}, Labels.{BlockValue, LabelsValue}}
 use Rattle.dimacs_claims.specs.{LabelTexts.{FitText, canonical_labels}, SolutionTexts.{SolutionValue, SpellsSolution}}
-use Rattle.dimacs_network.specs.Arcs.{NetworkValue}
+use Rattle.dimacs_network.specs.{Arcs.{NetworkValue}, declared.network.ArcView.{ArcView}}
+use Rattle.dimacs_records.specs.{Ranges.{IsWide}, declared.kinds.TextKind.{TextKind}}
 use Rattle.dimacs_instance.specs.{Graph.{SpellsGraph}, QueryTexts.{QueriesValue, SpellsQueries}, MaxFlows.{MaxValue}}
 use Rattle.dimacs_instance.specs.{MaxTexts.{SpellsMax}, MinFlows.{MinValue}, MinTexts.{SpellsMin}}
-use Rattle.dimacs_judging.specs.{Feasible.{value}, MaxJudge.{IsMaxClaim}, MinJudge.{IsMinClaim}}
+use Rattle.dimacs_judging.specs.{Claims.{Carries}, Feasible.{value}, FlowTests.{cost_through}, Flows.{cost}}
 use Rattle.dimacs_judging.specs.{Optimum.{Least, Maximum, NoFlow}, QueryTests.{nodes_asked, sources_asked}}
 use Rattle.dimacs_decide.specs.CertifiedPaths.{AreAllDistances, sources_of}
-use Rattle.dimacs_records.specs.declared.kinds.TextKind.{TextKind}
 use Rattle.dimacs_runs.specs.{declared.jobs.JudgeKind.{JudgeKind}, declared.jobs.SolveJob.{SolveJob}, Solved.{Solved}}
 use Rattle.dimacs_runs.specs.{declared.text.TextForm.TheVariants.{Canonical}, Runs.{Prints}, Certified.{Certified}}
 use Rattle.dimacs_runs.specs.declared.jobs.JudgeKind.TheVariants.{Max, Min, Infeasible, Paths}
@@ -47,11 +48,16 @@ CertifiedLaw =
 
 -- the solution's flow is maximum, and has the claimed value
 abbrev pub IsTrueMax : MaxValue → SolutionValue → Type 0
-IsTrueMax i s = (x : List ℤ) × IsMaxClaim i s x × Maximum i x
+IsTrueMax i s = (x : List ℤ) × Carries i.arcs s.entries x × Maximum i x × (value i x ≡ s.value)
 
--- the solution's flow costs least, and that much
+-- up to each arc, the sum of the costs is in the range of claimed costs
+abbrev pub SumsStayInRange : List ArcView → List ℤ → Type 0
+SumsStayInRange arcs x = (k : ℕ) → k < length arcs → IsWide (cost_through arcs x k)
+
+-- the solution's flow costs least, and that much; and the sum of its costs stays in range up to each arc: otherwise a
+-- right claim is refused
 abbrev pub IsTrueMin : MinValue → SolutionValue → Type 0
-IsTrueMin i s = (x : List ℤ) × IsMinClaim i s x × Least i x
+IsTrueMin i s = (x : List ℤ) × Carries i.arcs s.entries x × Least i x × (cost i.arcs x ≡ s.value) × SumsStayInRange i.arcs x
 
 -- the claims of all blocks are the distances, in a graph with as many nodes
 abbrev pub AreTrueDistances : NetworkValue → LabelsValue → Type 0
