@@ -11,7 +11,7 @@ pub mod LimitLemmas
 mod MaxLemmas
 mod MinLemmas
 mod OrderLemmas
-mod PathsOverLemmas
+pub mod PathsOverLemmas
 mod PredLemmas
 mod LabelDistanceLemmas
 mod TightPredecessorLemmas

@@ -12,5 +12,5 @@ mod FixedPoint
 pub mod MakingLemmas
 pub mod SpreadLemmas
 mod LabelCounts
-mod SolutionTexts
+pub mod SolutionTexts
 mod JudgedYes

@@ -1,11 +1,11 @@
 -- The texts of solutions with an entry for every arc spell them.
 use Rattle.std.proofs.Common.{◌≡◌, ℕ, suc, ◌+◌, ◌-◌, ◌*◌, ◌^◌, ◌<◌, ◌≤◌, ◌==◌, ◌∷◌, [], List, Bool, true, false, ℤ, pos, ◌≤ℤ◌, length, take, refl, ap, ap₂, sym, ◌∙◌, subst, arith}
 use Rattle.std.proofs.{Math.ListN.{get_or-map}, lemmas.Int.{ints}, lemmas.List.{length-map, take_all}}
-use Rattle.std.proofs.lemmas.List.Elements.{All-cons, All-from_get_or, All-head, All-nil, All-tail}
+use Rattle.std.proofs.lemmas.List.Elements.{All-cons, All-from_get_or, All-head, All-nil, All-tail, All-weaker}
 use Rattle.std.proofs.lemmas.Slice.Zip.{AllZip-long}
 use Rattle.std.specs.List.{All, AllZip}
 use Rattle.dimacs_lines.specs.Limits.{most_count, most_nodes}
-use Rattle.dimacs_records.specs.Ranges.{IsWide}
+use Rattle.dimacs_records.specs.Ranges.{IsWhole, IsWide}
 use Rattle.dimacs_claims.specs.declared.place.Entry.{Entry}
 use Rattle.dimacs_claims.specs.SolutionTexts.{IsLawful, IsLawfulEntry, SolutionValue, SpellsSolution, canonical_solution, on_lines_from, renumbered}
 use Rattle.dimacs_claims.proofs.SolutionLemmas.{solution_round_trip}
@@ -36,6 +36,9 @@ same_lines arcs s of =
 abbrev IsAmount : ℤ → Type 0
 IsAmount z = (pos 0 ≤ℤ z) × (z ≤ℤ pos (2 ^ 63 - 1))
 
+amount_whole : (z : ℤ) → IsAmount z → IsWhole z
+amount_whole z is = (omega (arith, ints, is.0), omega (arith, ints, is.1))
+
 zip_all : {A B : Type 0} (R : A → B → Type 0) (P : A → Type 0) (Q : B → Type 0) → ((a : A) (b : B) → P a → R a b → Q b) → (xs : List A) (ys : List B) → All P xs → AllZip R xs ys → All Q ys
 zip_all R P Q gives [] [] all zip = All-nil Q
 zip_all R P Q gives [] (y ∷ ys) all zip = absurd zip
@@ -63,7 +66,7 @@ net_wide arcs x v all few =
     (omega (arith, ints, out.0, out.1, back.0, back.1, few), omega (arith, ints, out.0, out.1, back.0, back.1, few))
 
 -- ---- solutions
-module _ (nodes : ℕ) (arcs : List ArcView) (s : SolutionValue) (x : List ℤ) (nodes_few : nodes ≤ most_nodes) (arcs_few : length arcs ≤ most_count) (joined : All (JoinsNodes nodes) arcs) (of : IsSolutionOf arcs s) (carries : Carries arcs s.entries x) (amounts : All IsAmount x) (wide : IsWide s.value) where
+module _ (nodes : ℕ) (arcs : List ArcView) (s : SolutionValue) (x : List ℤ) (nodes_few : nodes ≤ most_nodes) (arcs_few : length arcs ≤ most_count) (joined : All (JoinsNodes nodes) arcs) (of : IsSolutionOf arcs s) (carries : Carries arcs s.entries x) (amounts : All IsWhole x) (wide : IsWide s.value) where
   flow_at : (k : ℕ) → (entry_at s.entries k).flow ≡ amount_at x k
   flow_at k = sym (get_or-map (λ (e : Entry). e.flow) s.entries k no_entry) ∙ ap (λ (y : List ℤ). amount_at y k) ((carried arcs s.entries of.all_arcs).amounts ∙ sym carries.amounts)
 
@@ -73,14 +76,15 @@ module _ (nodes : ℕ) (arcs : List ArcView) (s : SolutionValue) (x : List ℤ) 
       let long : length x ≡ length arcs = ap length carries.amounts ∙ (ap length (sym (carried arcs s.entries of.all_arcs).amounts) ∙ (length-map s.entries (λ (e : Entry). e.flow) ∙ of.all_arcs.one_each)) in
       let e = of.all_arcs.in_order k there in
       let ends = joined k no_arc there in
-      let amount : IsAmount (amount_at x k) = amounts k (pos 0) (omega (arith, there, long)) in
+      let amount : IsWhole (amount_at x k) = amounts k (pos 0) (omega (arith, there, long)) in
       record {
         tail = rw e.tail_is (ends.0.0, omega (arith, ends.0.1, nodes_few));
         head = rw e.head_is (ends.1.0, omega (arith, ends.1.1, nodes_few));
-        flow = rw (flow_at k) (omega (arith, ints, amount.0), omega (arith, ints, amount.1));
+        flow = rw (flow_at k) amount;
       }
 
-  spelled : SpellsSolution (canonical_solution s) s
+  --   the text of an entry for every arc
+  pub spelled : SpellsSolution (canonical_solution s) s
   spelled =
       let lawful : IsLawful s = record {
         value = wide;
@@ -95,7 +99,7 @@ max_spelled i law s x of claim =
     let long = AllZip-long _ i.arcs x claim.feasible.within in
     let amounts : All IsAmount x = zip_all (λ (a : ArcView) (z : ℤ). (pos 0 ≤ℤ z) × (z ≤ℤ a.cap)) HasCapacityAlone IsAmount (λ a z has within. (within.0, omega (arith, ints, within.1, has.3.1))) i.arcs x law.capacities claim.feasible.within in
     let wide : IsWide s.value = subst IsWide claim.value_is (net_wide i.arcs x i.source amounts (omega (arith, long, law.arcs_few))) in
-    spelled i.nodes i.arcs s x law.nodes_few law.arcs_few law.joined of claim.carries amounts wide
+    spelled i.nodes i.arcs s x law.nodes_few law.arcs_few law.joined of claim.carries (All-weaker IsAmount IsWhole amount_whole x amounts) wide
 
 cost_wide : (arcs : List ArcView) (x : List ℤ) → length x ≡ length arcs → ((k : ℕ) → k < length arcs → IsWide (cost_through arcs x k)) → IsWide (cost arcs x)
 cost_wide [] x long wide = (omega (arith, ints), omega (arith, ints))
@@ -111,4 +115,4 @@ min_spelled i law s x of claim =
     let long = AllZip-long _ i.arcs x claim.feasible.within in
     let amounts : All IsAmount x = zip_all (λ (a : ArcView) (z : ℤ). (a.low ≤ℤ z) × (z ≤ℤ a.cap)) HasBounds IsAmount (λ a z has within. (omega (arith, ints, within.0, has.0), omega (arith, ints, within.1, has.2.1))) i.arcs x law.bounds claim.feasible.within in
     let wide : IsWide s.value = subst IsWide claim.cost_is (cost_wide i.arcs x long claim.costs_wide) in
-    spelled i.nodes i.arcs s x law.nodes_few law.arcs_few law.joined of claim.carries amounts wide
+    spelled i.nodes i.arcs s x law.nodes_few law.arcs_few law.joined of claim.carries (All-weaker IsAmount IsWhole amount_whole x amounts) wide
