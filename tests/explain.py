@@ -15,7 +15,7 @@ import tempfile
 
 import explained_yes
 import scripts
-from instances import BINARY, MEMORY, Folder
+from instances import BINARY, MEMORY, Folder, text
 from rows import rows
 
 FILES = dict(rows("files"))
@@ -25,6 +25,13 @@ CYCLE, ASKED = (FILES[it] for it in ("cycle", "source"))
 NEAR = "p sp 4 3\na 1 2 5\na 2 3 4\na 3 4 0\n"
 HUGE = 9 * 10**18
 DEAR = "s 15\nf 1 2 2\nf 1 3 2\nf 2 3 1\nf 2 4 1\nf 3 4 3\n"
+
+# Each arc of a path, then arcs from its nodes to a hub, ever lighter, and as many from the hub; all distances but the last.
+LONG_WALK = {
+    "G": text("p sp 8302 24899", *(f"a {k} {k + 1} 1" for k in range(1, 8300)), *(f"a {k} 8301 {30000 - 2 * k}" for k in range(1, 8301)), *["a 8301 8302 0"] * 8300),
+    "D": text("p distances 8302 1", "t 1 8298", *(f"d {k} {k - 1}" for k in range(2, 8300))),
+}
+REVERSED = dict(zip("GD", explained_yes.late_block(1001, lambda arcs: arcs[::-1])))
 
 # Of a pipe that gives more MB nothing is kept.
 MOST_KEPT = 64
@@ -123,15 +130,15 @@ CASES = [
     ("NotShortest", "certify-paths G D", {"G": "p sp 4 4\na 1 2 3\na 2 3 4\na 3 2 -5\na 3 4 1\n", "D": "p distances 4 1\nt 1 3\nd 2 3\nd 3 7\nd 4 8\n"}, ["G:4: a 3 2 -5", "a cycle that the source reaches weighs less than 0; its arcs: 2\n  arc 2: 2 -> 3, WEIGHT 4\n  arc 3: 3 -> 2, WEIGHT -5\n4 - 5 = -1: with each round a walk weighs less, so the nodes that it leads to have no distance\n"]),
     ("NotShortest", "judge-paths G Q L", {"G": "p sp 2 2\na 1 2 3\na 2 1 -4\n", "L": "p dist 2 1\nt 1 1\nd 2 3 1\n"}, ["G:3: a 2 1 -4", "its arcs: 2\n  arc 1: 1 -> 2, WEIGHT 3\n  arc 2: 2 -> 1, WEIGHT -4\n3 - 4 = -1: "]),
     ("Escapes", "certify-paths G D", {"G": "p sp 3 3\na 1 2 3\na 2 3 4\na 3 2 -5\n", "D": "p distances 3 1\nt 1 0\n"}, ["node 2 is at distance 3 at most", "its arcs: 2\n"]),
-    # 5 steps back, one more than there are arcs, end at node 3.
-    ("NotShortest", "certify-paths G D", {"G": "p sp 13 4\na 1 2 3\na 2 3 4\na 3 4 1\na 4 2 -6\n", "D": "p distances 13 1\nt 1 3\nd 2 3\nd 3 7\nd 4 8\n"}, ["its arcs: 3\n  arc 3: 3 -> 4, WEIGHT 1\n  arc 4: 4 -> 2, WEIGHT -6\n  arc 2: 2 -> 3, WEIGHT 4\n1 - 6 + 4 = -1: "]),
+    # 5 steps back from node 3, one more than there are arcs, end at node 4.
+    ("NotShortest", "certify-paths G D", {"G": "p sp 13 4\na 1 2 3\na 2 3 4\na 3 4 1\na 4 2 -6\n", "D": "p distances 13 1\nt 1 3\nd 2 3\nd 3 7\nd 4 8\n"}, ["its arcs: 3\n  arc 4: 4 -> 2, WEIGHT -6\n  arc 2: 2 -> 3, WEIGHT 4\n  arc 3: 3 -> 4, WEIGHT 1\n-6 + 4 + 1 = -1: "]),
     ("NodesDiffer", "certify-paths G D", {"D": "p distances 5 0\n"}, ["G:1: p sp 4 3", "D:1: p distances 5 0", "they are not of one instance\n$"]),
     ("Escapes", "certify-paths G D", {"D": "p distances 4 2\nt 4 1\nd 3 0\nt 1 0\n"}, ["G:2: a 1 2 5", "D:4: t 1 0", "in the block from source 1 (line 4) ", "node 2 is at distance 5 at most, and has no d line\n"]),
     ("NotShortest", "certify-paths G D", {"G": "p sp 3 2\na 1 3 -1\na 3 1 -1\n", "D": "p distances 3 1\nt 1 1\nd 3 -1\n"}, ["node 1 is at distance -2 at most, and is the source, at distance 0\n"]),
     ("NotShortest", "certify-paths G D", {"G": "p sp 2 2\na 1 2 3\na 1 2 1\n", "D": "p distances 2 1\nt 1 1\nd 2 3\n"}, ["G:3: a 1 2 1", "D:3: d 2 3\n", "node 2 is at distance 1 at most, and its d line says 3\n"]),
     ("NoTightArc", "certify-paths G D", {"D": "p distances 4 1\nt 1 1\nd 2 4\n"}, ["D:3: d 2 4", "from source 1 (line 2) no arc leads to node 2 at distance 4: by the claimed distances the nearest leads there at distance 5\n$"]),
-    ("NoTightArc", "certify-paths G D", {"D": "p distances 4 1\nt 1 3\nd 2 5\nd 3 0\nd 4 0\n"}, ["D:4: d 3 0", "in the block from source 1 (line 2) the arcs that lead to the distance of node 3 come from nodes that no walk from the source reaches at theirs\nif no walk leads to node 3, leave its line out\n$"]),
-    ("NoTightArc", "certify-paths G D", {"G": "p sp 4 4\na 1 2 5\na 2 3 0\na 3 2 0\na 1 4 9\n", "D": "p distances 4 2\nt 4 0\nt 1 3\nd 2 4\nd 3 4\nd 4 9\n"}, ["D:4: d 2 4", "in the block from source 1 (line 3) the arcs that lead to the distance of node 2"]),
+    ("NoTightArc", "certify-paths G D", {"D": "p distances 4 1\nt 1 3\nd 2 5\nd 3 0\nd 4 0\n"}, ["D:4: d 3 0", "in the block from source 1 (line 2) node 3 is at distance 0, but no walk from the source weighs as little\nif no walk leads to node 3, leave its line out\n$"]),
+    ("NoTightArc", "certify-paths G D", {"G": "p sp 4 4\na 1 2 5\na 2 3 0\na 3 2 0\na 1 4 9\n", "D": "p distances 4 2\nt 4 0\nt 1 3\nd 2 4\nd 3 4\nd 4 9\n"}, ["D:4: d 2 4", "in the block from source 1 (line 3) node 2 is at distance 4, but no walk from the source weighs as little\n"]),
     ("NoTightArc", "certify-paths G D", {"G": "p sp 3 1\na 3 2 1\n", "D": "p distances 3 1\nt 1 1\nd 2 7\n"}, ["no arc leads to node 2 at distance 7: none comes from a node that has a distance\nif no walk leads to node 2, leave its line out\n$"]),
     # The last of three blocks that label one node.
     ("NoTightArc", "judge-paths G Q L", {"G": "p sp 4 3\na 1 4 1\na 2 4 1\na 3 4 2\n", "L": "p dist 4 3\nt 1 1\nd 4 1 1\nt 2 1\nd 4 1 2\nt 3 1\nd 4 3 3\n"}, ["L:7: d 4 3 3\n", "no arc from 3 to 4 has the WEIGHT 3\nthe lightest arc from 3 to 4 has the WEIGHT 2\nthis certificate doesn't show the claim"]),
@@ -204,7 +211,13 @@ CASES = [
     ("NotTight", "judge-min MI S P", {"S": LEAST, "P": "p pot 4 3\ny 1 -4\ny 2 -2\ny 3 -1\n"}, ["= 2 - (-4) + (-2) = 4, above 0", "with the opposite sign of each VALUE, the potentials show the claim\nthis certificate"]),
     ("NotTight", "judge-min MI S P", {"S": LEAST, "P": "p pot 4 3\ny 1 -4\ny 2 -2\ny 3 -2\n"}, ["= 2 - (-4) + (-2) = 4, above 0, so it has to carry its LOW, 0, and carries 2\nthis certificate"]),
     # A cycle of 0 that the second block's source doesn't reach.
-    ("NoTightArc", "certify-paths G D", {"G": "p sp 4 3\na 1 2 5\na 2 3 0\na 3 2 0\n", "D": "p distances 4 2\nt 1 2\nd 2 5\nd 3 5\nt 4 2\nd 2 1\nd 3 1\n"}, ["D:6: d 2 1\nin the block from source 4 (line 5) the arcs that lead to the distance of node 2 come from nodes that"]),
+    ("NoTightArc", "certify-paths G D", {"G": "p sp 4 3\na 1 2 5\na 2 3 0\na 3 2 0\n", "D": "p distances 4 2\nt 1 2\nd 2 5\nd 3 5\nt 4 2\nd 2 1\nd 3 1\n"}, ["D:6: d 2 1\nin the block from source 4 (line 5) node 2 is at distance 1, but no walk from the source weighs as little\n"]),
+    # The tail's distance is less than 5, that of its only walk, and no walk leads to a tail that has one.
+    ("NotShortest", "certify-paths G D", {"G": "p sp 3 2\na 1 2 5\na 2 3 4\n", "D": "p distances 3 1\nt 1 2\nd 2 3\nd 3 9\n"}, ["G:3: a 2 3 4\nD:3: d 2 3\n", "node 2 is at distance 3, but no walk from the source weighs as little\nso the test of arc 2, from there to node 3, fails\n$"]),
+    ("Escapes", "certify-paths G D", {"D": "p distances 4 1\nt 1 2\nd 2 5\nd 3 1\n"}, ["G:3: a 3 4 0\nD:4: d 3 1\n", "node 3 is at distance 1, but no walk from the source weighs as little\nso the test of arc 2, from there to node 4, fails\n$"]),
+    # A walk of 8,299 arcs, which isn't found in 2^26 steps: a hub that leads nowhere gets nearer each round.
+    ("Escapes", "certify-paths G D", LONG_WALK, ["a 8299 8300 1\n", "d 8299 8298\n", "with the WEIGHT 1: by this distance node 8300 is at 8299 at most, and has no d line\n$"]),
+    ("NoTightArc", "certify-paths G D", REVERSED, ["D:180500: d 1001 800\n", "in the block from source 200 (line 179699) node 1001 is at distance 800, but no walk from the source weighs as little\n"]),
 ]
 
 # The same of a text whose file can't be read again. The command of the package for Python says more of

@@ -4,7 +4,7 @@ It knows the forms of the lines. It computes each number anew by its definition,
 """
 import random
 
-from instances import graph_text, max_text, min_text, network
+from instances import graph_text, max_text, min_text, network, text
 
 SHOWN = 6
 BOUND = (
@@ -189,6 +189,19 @@ def distances_text(labels):
         words = words[:3] if words[0] in "td" else ["p", "distances", *words[2:]]
         lines.append(" ".join(words) + "\n")
     return "".join(lines)
+
+
+def late_block(nodes, order):
+    """A path with its arcs in this order, and after it a cycle without weight; distances from 200 sources, of which the
+    last has the cycle too near.
+    """
+    arcs = [*order([(node, node + 1, 1) for node in range(1, nodes)]), (nodes, nodes + 1, 0), (nodes + 1, nodes, 0)]
+    blocks = []
+    for source in range(1, 201):
+        last = nodes - source - (source == 200)
+        dists = [*range(1, nodes - source), last, last]
+        blocks += [f"t {source} {len(dists)}", *(f"d {node} {dist}" for node, dist in enumerate(dists, source + 1))]
+    return [graph_text(nodes + 1, arcs), text(f"p distances {nodes + 1} 200", *blocks)]
 
 
 def route(arcs, source, labels, to):

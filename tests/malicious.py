@@ -20,7 +20,7 @@ import sys
 import tempfile
 
 import scripts
-from explained_yes import distances_text
+from explained_yes import distances_text, late_block
 from instances import BINARY, Folder, max_text, refusing_library, text
 
 # How much more a malicious text may take than a kind one: of time, and of memory.
@@ -220,6 +220,8 @@ def label_cases(n):
     paths = [[i, *chain] for i in range(1, count)]
     many, few = (claimed(label_texts(nodes, arcs, paths)) for nodes in (chain[-1], 64 * chain[-1]))
     yield "certify-paths: few arcs for each of many blocks", "certify-paths I S shown", many, few, LIMIT
+    late, kind = (late_block(n // 200 + 200, order) for order in (falling, list))
+    yield "certify-paths: the last of many blocks, explained", "explain certify-paths I S", late, kind, LIMIT
 
 
 def queue_cases(n, asked):
@@ -301,7 +303,7 @@ def main():
                 is_small = peak <= most_memory * kind_peak + DIRECTORIES
                 took = f"{time:.2f} s, kind {kind_time:.2f} s, {slower:.1f} times; {peak:.0f} MB, kind {kind_peak:.0f} MB"
                 print(f"{name}: {took}", flush=True)
-                is_so = status == kind_status == 0 and slower <= most_time and is_small
+                is_so = status == kind_status == words.startswith("explain") and slower <= most_time and is_small
                 counts.expect(name, is_so, f"status {status}: {took}")
     counts.end()
 

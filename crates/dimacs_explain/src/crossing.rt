@@ -1,5 +1,7 @@
 //! What crosses the border of a set: a tight cut shows that a flow is maximum, a violated set that none is feasible.
 
+ghost use Rattle.dimacs_judging.specs.Optimum.{NoFlow};
+
 use crate::explanation::Explanation;
 use crate::sums::Sum;
 use dimacs_claims::Cut;
@@ -84,7 +86,9 @@ impl<'a, A: Reopen> Explanation<'a, A> {
     }
 
     /// Explains by a violated set that no flow is feasible.
-    pub(crate) fn explain_infeasible<N: Network>(&mut self, instance: &MinInstance<N>, set: &Cut) {
+    pub(crate) fn explain_infeasible<N: Network>(&mut self, instance: &MinInstance<N>, set: &Cut)
+        requires { NoFlow instance.now }
+    {
         let (alloc, network) = (self.page.alloc, instance.network());
         let supply = supply_of(alloc, instance, set);
         say!(self; "in the set, ");
@@ -93,14 +97,17 @@ impl<'a, A: Reopen> Explanation<'a, A> {
         self.write_sum(&supply);
         say!(self; "\n");
         if set.len() == set.nodes() {
-            return say!(self; "so the supplies of all nodes don't add up to 0, and no arc leads out of them: no flow is feasible\n");
+            say!(self; "so the supplies of all nodes don't add up to 0, and no arc leads out of them");
+            return self.write_no_flow(instance);
         }
         let most = Crossing::most(alloc, network, set);
         if supply.sum() > most.net() {
-            return self.write_crossing(&most, "at most", supply.sum());
+            self.write_crossing(&most, "at most", supply.sum());
+        } else {
+            let least = Crossing::least(alloc, network, set);
+            self.write_crossing(&least, "at least", supply.sum());
         }
-        let least = Crossing::least(alloc, network, set);
-        self.write_crossing(&least, "at least", supply.sum());
+        self.write_no_flow(instance);
     }
 
     /// Writes the arcs that cross, and compares what they carry with the supply.
@@ -112,7 +119,7 @@ impl<'a, A: Reopen> Explanation<'a, A> {
         say!(self; " out of it, and ");
         self.write_sum(&all.entering);
         let (leaving, entering) = (all.leaving.sum(), all.entering.sum());
-        say!(self; " into it\nso what leaves it, less what enters it, is {} {} - {} = {}, but has to be its supply, {}: no flow is feasible\n",
+        say!(self; " into it\nso what leaves it, less what enters it, is {} {} - {} = {}, but has to be its supply, {}",
             limit, leaving, entering, all.net(), supply);
     }
 

@@ -1,5 +1,6 @@
 //! The explanation of an answer.
 
+use dimacs_facts::Steps;
 use dimacs_lines::Memory;
 use dimacs_quote::{Page, Reopen, Texts, Value};
 use std::alloc::Global;
@@ -10,13 +11,16 @@ pub struct Explanation<'a, A> {
     pub(crate) page: Page<'a, A>,
     /// The value or the cost of the solution that the run made in place of a certificate.
     pub(crate) made: Option<i128>,
+    /// What is left of the steps that all its searches share.
+    pub(crate) steps: Steps,
 }
 
 impl<'a, A: Reopen> Explanation<'a, A> {
     /// An empty one, about a run over these texts, which are read again. If it made a solution, `made` is its value or cost.
     pub fn new(alloc: Global, again: &'a A, texts: Texts<'a>, made: Option<i128>) -> Self {
         let page = Page::new(alloc, again, texts);
-        Explanation { page, made }
+        let steps = Steps::all();
+        Explanation { page, made, steps }
     }
 
     /// Writes a sentence, with the next value for each `{}`.

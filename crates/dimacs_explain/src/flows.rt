@@ -4,6 +4,7 @@ use crate::crossing::Crossing;
 use crate::explanation::Explanation;
 use crate::least_cost::{paid_bound, reduced_cost};
 use crate::sums::{bound, number_of};
+use dimacs_facts::{all_nodes, one_node, shows_no_flow};
 use dimacs_network::{ArcView, CapacityArc, Network, WeightArc};
 use dimacs_quote::Value::{Arc, Cap, Node, Operand, Typed};
 use dimacs_quote::{
@@ -289,10 +290,15 @@ impl<'a, A: Reopen> Explanation<'a, A> {
         let all = sums.supplied.saturating_sub(sums.demanded);
         let (least, most) = range_at(min.network(), node);
         let mut why = "to show it by a set";
-        if all != 0 {
-            say!(self; "the supplies add up to {}, and not to 0: no flow is feasible\n", all);
-        } else if supply < least || supply > most {
-            say!(self; "the arcs of node {} can carry {} to {} out of it: no flow is feasible\n", Node(node), least, most);
+        let (alloc, nodes) = (self.page.alloc, min.network().nodes());
+        if all != 0 && shows_no_flow(&min, &all_nodes(alloc, nodes)?) {
+            say!(self; "the supplies add up to {}, and not to 0", all);
+            self.write_no_flow(&min);
+        } else if (supply < least || supply > most)
+            && shows_no_flow(&min, &one_node(alloc, nodes, node)?)
+        {
+            say!(self; "the arcs of node {} can carry {} to {} out of it", Node(node), least, most);
+            self.write_no_flow(&min);
         } else {
             why = "to find out whether any flow is feasible";
         }

@@ -3,6 +3,7 @@
 use crate::explanation::Explanation;
 use crate::sums::{SHOWN, Sum, bound, number_of};
 use dimacs_claims::Potentials;
+use dimacs_facts::opposite_shows;
 use dimacs_instance::MinInstance;
 use dimacs_judging::Flow;
 use dimacs_network::{ArcView, Network};
@@ -100,19 +101,6 @@ fn reduced_sum<N: Network>(alloc: Global, network: &N, potentials: &Potentials) 
     sum
 }
 
-/// Whether potentials of the opposite sign are slack for a flow. By those, the ends of an arc change places.
-fn are_opposite<N: Network>(network: &N, flow: &Flow, potentials: &Potentials) -> bool {
-    for i in 0..network.arcs() {
-        let arc = network.arc(i);
-        let reduced = reduced_cost(arc, potentials.of(arc.head), potentials.of(arc.tail));
-        let paid = number_of(arc, paid_bound(reduced));
-        if reduced != 0 && ArcCost::of(arc, flow, i).amount != paid {
-            return false;
-        }
-    }
-    true
-}
-
 /// The bound at which a reduced cost is paid least.
 pub(crate) fn paid_bound(reduced: i128) -> &'static str {
     if reduced > 0 { "LOW" } else { "CAP" }
@@ -135,8 +123,8 @@ impl<'a, A: Reopen> Explanation<'a, A> {
         let potentials = self.potentials(&mut self.page.source(certificate)?)?;
         let min = self.min_instance()?;
         let flow = self.flow(min.network(), &self.solution()?)?;
-        if are_opposite(min.network(), &flow, &potentials) {
-            say!(self; "with the opposite sign of each VALUE, the potentials show the claim\n");
+        if opposite_shows(self.page.alloc, &min, &flow, &potentials) {
+            self.write_opposite_shows(&min, &flow, &potentials);
         }
         Ok(())
     }

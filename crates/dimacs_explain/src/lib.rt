@@ -10,6 +10,7 @@ mod claims;
 mod crossing;
 mod cycles;
 mod explanation;
+mod facts;
 mod flows;
 mod least_cost;
 mod paths;

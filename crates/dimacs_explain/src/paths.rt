@@ -4,6 +4,7 @@ use crate::blocks::{ArcInto, Unreached, failing_ends, first_unreached, lightest}
 use crate::explanation::Explanation;
 use crate::flows::arc_of;
 use crate::routes::REACHED;
+use dimacs_facts::{first_too_near, walks_from};
 use dimacs_lines::Memory;
 use dimacs_quote::Value::{Arc, Node};
 use dimacs_quote::{OrStop, Reopen, Said, TextFile, Wanted, say};
@@ -36,12 +37,26 @@ impl<'a, A: Reopen> Explanation<'a, A> {
         let arc = self.quote_arc(number)?;
         let text = self.page.texts.tested()?;
         let ends = failing_ends(&self.labels(text)?, arc).ok_or(text.unread())?;
+        let graph = self.graph()?;
+        let network = graph.network();
+        let walks = walks_from(self.page.alloc, network, ends.source, &mut self.steps)?;
+        if walks.lead_beyond(arc.tail, ends.tail) {
+            self.quote_label(text, ends.source, arc.tail)?;
+            self.write_too_near(network, ends.source, arc.tail, ends.tail);
+            say!(self; "so the test of arc {}, from there to node {}, fails\n", Arc(number), Node(arc.head));
+            return Ok(());
+        }
         // A head without a line has to have one, by that of the tail.
         let id = ends.head.map_or(arc.tail, |_| arc.head);
         self.quote_label(text, ends.source, id)?;
         let (tail, head) = (Node(arc.tail), Node(arc.head));
-        say!(self; "arc {} leads from node {}, at distance {}, to node {} with the WEIGHT {}: node {} is at distance {} at most",
-            Arc(number), tail, ends.tail, head, arc.cost, head, ends.sum);
+        say!(self; "arc {} leads from node {}, at distance {}, to node {} with the WEIGHT {}",
+            Arc(number), tail, ends.tail, head, arc.cost);
+        if walks.lead_within(arc.head, ends.sum) {
+            self.write_near(network, ends.source, arc.head, ends.sum);
+        } else {
+            say!(self; ": by this distance node {} is at {} at most", head, ends.sum);
+        }
         if let (None, Some(radius)) = (ends.head, ends.radius) {
             say!(self; ", within the RADIUS, {}", radius);
         }
@@ -56,7 +71,7 @@ impl<'a, A: Reopen> Explanation<'a, A> {
             Some(head) => say!(self; ", and its {} {} {}\n", name, verb, head),
             None => say!(self; ", and has no {}\n", name),
         }
-        self.write_cycle(ends.source)
+        self.write_cycle(network, ends.source, &walks)
     }
 
     fn arcs_into(&self, node: u32) -> OrStop<'a, Vec<ArcInto>> {
@@ -88,11 +103,16 @@ impl<'a, A: Reopen> Explanation<'a, A> {
                 }
             }
             None if is_distance => {
-                if let Some(source) = self.too_near_from(&labels, node)? {
-                    self.quote_label(text, source, node)?;
+                let graph = self.graph()?;
+                let network = graph.network();
+                match first_too_near(self.page.alloc, network, &labels, node, &mut self.steps)? {
+                    Some(it) => {
+                        self.quote_label(text, it.source, node)?;
+                        self.write_too_near(network, it.source, node, it.dist);
+                    }
+                    None =>
+                        say!(self; "no walk was found that gives the distance of node {}\n", Node(node)),
                 }
-                say!(self; "the arcs that lead to the distance of node {} come from nodes that no walk from the source reaches at theirs\n",
-                    Node(node));
             }
             None => return Err(text.unread()),
         }

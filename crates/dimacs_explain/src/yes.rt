@@ -5,10 +5,9 @@ ghost use Rattle.dimacs_instance.specs.QueryTexts.{AreLawful, asked};
 
 use crate::explanation::Explanation;
 use dimacs_claims::{Labels, Potentials, read_labels};
+use dimacs_facts::shows_no_flow;
 use dimacs_instance::{MinInstance, Queries, read_queries};
-use dimacs_judging::{
-    Flow, JudgeError, Verdict, index_for, judge_infeasible, judge_max, judge_min, judge_paths,
-};
+use dimacs_judging::{Flow, JudgeError, Verdict, index_for, judge_max, judge_min, judge_paths};
 use dimacs_lines::Source;
 use dimacs_network::Network;
 use dimacs_quote::{OrStop, Prose, Reopen, Said, Stop, TextFile, Wanted, say};
@@ -99,9 +98,11 @@ impl<'a, A: Reopen> Explanation<'a, A> {
 
     fn infeasible<R: Source>(&mut self, certificate: &mut R) -> OrStop<'a, Verdict> {
         let (set, min) = (self.set(certificate)?, self.min_instance()?);
-        let verdict = judged(judge_infeasible(&min, &set))?;
+        if !shows_no_flow(&min, &set) {
+            return Err(Stop::Done);
+        }
         self.explain_infeasible(&min, &set);
-        Ok(verdict)
+        Ok(Verdict::Infeasible)
     }
 
     fn distances<R: Source>(

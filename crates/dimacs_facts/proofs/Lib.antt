@@ -1,0 +1,3 @@
+mod CycleLemmas
+mod OppositeLemmas
+mod WalkLemmas

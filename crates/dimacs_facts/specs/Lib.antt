@@ -1,0 +1,3 @@
+pub mod Cycles
+pub mod Facts
+pub mod Walks

@@ -1,0 +1,22 @@
+//! What an explanation asserts, beside the answer that it explains: facts about instances, flows and labels. A function
+//! here shows one, and its contract states it; a sentence of `dimacs_explain` that asserts it requires it.
+#![tactic(auto)]
+
+mod cycle;
+mod laws;
+mod least;
+mod no_flow;
+mod opposite;
+mod search;
+mod steps;
+mod too_near;
+mod walks;
+
+pub use cycle::is_negative_cycle;
+pub use laws::negative_cycle_has_no_distance;
+pub use no_flow::{all_nodes, one_node, shows_no_flow};
+pub use opposite::opposite_shows;
+pub use search::walks_from;
+pub use steps::Steps;
+pub use too_near::{TooNear, first_too_near};
+pub use walks::{Walk, Walks};
