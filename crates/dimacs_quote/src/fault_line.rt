@@ -1,12 +1,14 @@
 //! Reads a text up to its fault.
 
+use crate::escape::escape;
 use crate::forms::{field_name, form_of, kind_words};
 use crate::lookups::{Wanted, declared, labelled_node, node_of};
 use crate::oddities::{has_lone_return, kind_of, oddity, unread_kind};
-use crate::page::{OrStop, Page, Reopen};
-use crate::quote::{escape, quote, text_at};
+use crate::page::{Page, Reopen};
+use crate::prose::Prose;
+use crate::quote::{quote, text_at};
 use crate::say;
-use crate::sentence::Prose;
+use crate::stop::OrStop;
 use crate::texts::TextFile;
 use dimacs_lines::{MAX_LINES, Memory, fields};
 use dimacs_records::{At, Reason, Record, TextKind};

@@ -1,7 +1,7 @@
 //! What the lines of texts that stand for arrays say of the items.
 
+use crate::prose::Prose;
 use crate::say;
-use crate::sentence::Prose;
 use crate::sentence::Value::{Arc, Cap, Node};
 use dimacs_records::{End, Record};
 use std::alloc::Global;

@@ -2,6 +2,7 @@
 //! what is written.
 #![tactic(auto)]
 
+mod escape;
 mod fault_line;
 mod faults;
 mod forms;
@@ -11,15 +12,20 @@ mod lookups;
 mod numbers;
 mod oddities;
 mod page;
+mod prose;
 mod quote;
 mod sentence;
+mod shell_word;
+mod stop;
 mod texts;
 
+pub use escape::Shown;
 pub use forms::range_of;
 pub use items::entry_arc;
 pub use lines::TextLines;
 pub use lookups::{Wanted, entry_between};
-pub use page::{FoundLine, OrStop, Page, Reopen, Said, Stop};
-pub use quote::Shown;
-pub use sentence::{Prose, Value, ending};
+pub use page::{FoundLine, Page, Reopen};
+pub use prose::Prose;
+pub use sentence::{Value, ending};
+pub use stop::{OrStop, Said, Stop};
 pub use texts::{Purpose, TextFile, Texts, is_file};

@@ -1,8 +1,8 @@
 //! Words that were meant as whole numbers.
 
+use crate::prose::Prose;
 use crate::quote::repeat;
 use crate::say;
-use crate::sentence::Prose;
 use std::alloc::Global;
 
 /// Numbers of up to this many digits fit all fields but IDs and counts.

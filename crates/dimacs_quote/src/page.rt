@@ -3,9 +3,11 @@
 use crate::items::{entry_arc, item};
 use crate::lines::TextLines;
 use crate::lookups::Wanted;
+use crate::prose::Prose;
 use crate::quote::quote;
 use crate::say;
-use crate::sentence::{Prose, Value};
+use crate::sentence::Value;
+use crate::stop::{OrStop, Stop};
 use crate::texts::{TextFile, Texts};
 use dimacs_lines::{MAX_LINES, Memory, Source};
 use dimacs_records::Record;
@@ -18,29 +20,6 @@ pub trait Reopen {
 
     /// Opens a file for reading; none if that fails.
     fn open(&self, name: &str) -> Option<Self::Input>;
-}
-
-/// Why an explanation ends early.
-#[derive(Clone, Copy)]
-pub enum Stop<'a> {
-    /// Memory ran out.
-    Memory,
-    /// This file can't be read again.
-    Unread(&'a str),
-    /// There is no more to say.
-    Done,
-}
-
-/// A value, or why the explanation ends before it.
-pub type OrStop<'a, T> = Result<T, Stop<'a>>;
-
-/// Nothing, or why the explanation ends.
-pub type Said<'a> = OrStop<'a, ()>;
-
-impl<'a> From<Memory> for Stop<'a> {
-    fn from(_: Memory) -> Stop<'a> {
-        Stop::Memory
-    }
 }
 
 /// A line that was looked for.

@@ -1,11 +1,12 @@
 //! Quotes of lines.
 
+use crate::escape::escape;
+use crate::prose::Prose;
 use crate::say;
-use crate::sentence::{Prose, Value};
+use crate::sentence::Value;
 use dimacs_lines::{Field, fields};
 use dimacs_records::At;
 use std::alloc::Global;
-use std::fmt;
 
 /// The most bytes of a line that a quote shows, around the field in question.
 const SHOWN: usize = 100;
@@ -51,96 +52,5 @@ pub(crate) fn text_at(line: &[u8], field: u32) -> &[u8] {
 pub(crate) fn repeat(out: &mut Prose, what: &str, times: usize) {
     for _ in 0..times {
         out.push(what);
-    }
-}
-
-/// Writes bytes: visible characters unchanged, a tab or a carriage return as a space, others by the codes of their bytes.
-pub(crate) fn escape(out: &mut Prose, bytes: &[u8]) {
-    for chunk in bytes.utf8_chunks() {
-        let written = write!(
-            out.text,
-            "{}{}",
-            Shown(chunk.valid()),
-            Codes(chunk.invalid())
-        );
-        out.is_lost |= written.is_err();
-    }
-}
-
-/// A text as `escape` writes it.
-#[derive(Clone, Copy)]
-pub struct Shown<'a>(pub &'a str);
-
-impl fmt::Display for Shown<'_> {
-    fn fmt<W: fmt::Write>(&self, f: &mut fmt::Formatter<W>) -> fmt::Result {
-        for it in self.0.chars() {
-            match it {
-                '\t' | '\r' => f.write_str(" ")?,
-                _ if is_visible(it) => f.write_str(it.encode_utf8(&mut [0; 4]))?,
-                _ => write!(f, "{}", Codes(it.encode_utf8(&mut [0; 4]).as_bytes()))?,
-            }
-        }
-        Ok(())
-    }
-}
-
-/// Whether a character is seen as itself: it is no control character, and no blank but ' ', and joins or hides no others.
-fn is_visible(it: char) -> bool {
-    !matches!(
-        it,
-        '\0'..='\x1f'
-            | '\x7f'..='\u{a0}'
-            | '\u{ad}'
-            | '\u{61c}'
-            | '\u{1680}'
-            | '\u{2000}'..='\u{200f}'
-            | '\u{2028}'..='\u{202f}'
-            | '\u{205f}'..='\u{206f}'
-            | '\u{3000}'
-            | '\u{feff}'
-            | '\u{fff9}'..='\u{fffb}'
-            | '\u{e0000}'..='\u{e0fff}'
-    )
-}
-
-/// Writes a file's name as a word that a shell takes for it. If not all of it is visible, most of it is in octal.
-pub(crate) fn write_word(out: &mut Prose, name: &str) {
-    let is_plain = |byte: u8| byte.is_ascii_alphanumeric() || b"+-./_".contains(&byte);
-    let is_shown = name.chars().all(is_visible);
-    let (open, close) = match name.bytes().all(is_plain) {
-        true => ("", ""),
-        false if is_shown => ("'", "'"),
-        // `$(..)` drops a line feed at the end.
-        false if name.ends_with('\n') => ("$'", "'"),
-        false => ("\"$(printf '", "')\""),
-    };
-    out.push(if name.starts_with('-') { "./" } else { "" });
-    out.push(open);
-    for it in name.chars() {
-        match it {
-            '\'' if is_shown => out.push("'\\''"),
-            _ if is_shown || it.is_ascii_alphanumeric() => out.push(it.encode_utf8(&mut [0; 4])),
-            _ => write_octal(out, it),
-        }
-    }
-    out.push(close);
-}
-
-fn write_octal(out: &mut Prose, it: char) {
-    for byte in it.encode_utf8(&mut [0; 4]).bytes() {
-        out.is_lost |= write!(out.text, "\\{byte:03o}").is_err();
-    }
-}
-
-/// Bytes by their codes.
-#[derive(Clone, Copy)]
-struct Codes<'a>(&'a [u8]);
-
-impl fmt::Display for Codes<'_> {
-    fn fmt<W: fmt::Write>(&self, f: &mut fmt::Formatter<W>) -> fmt::Result {
-        for byte in self.0 {
-            write!(f, "\\x{byte:02x}")?;
-        }
-        Ok(())
     }
 }

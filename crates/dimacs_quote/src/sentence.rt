@@ -1,9 +1,9 @@
 //! Sentences, written with the values that they name.
 
-use crate::quote::{escape, write_word};
+use crate::escape::escape;
+use crate::prose::{MARKS, Prose};
+use crate::shell_word::write_word;
 use crate::texts::TextFile;
-use dimacs_lines::Memory;
-use std::alloc::Global;
 
 /// Writes a sentence to a page or other text, with the next value for each `{}`.
 #[macro_export]
@@ -12,9 +12,6 @@ macro_rules! say {
         $out.write($sentence, &[$($crate::Value::from($value)),*])
     };
 }
-
-/// The marks before an arc, a node and a capacity, for programs that read a sentence. No quote has such characters.
-const MARKS: [char; 3] = ['\u{1}', '\u{2}', '\u{3}'];
 
 /// What a sentence names.
 #[derive(Clone, Copy)]
@@ -69,26 +66,7 @@ impl<'a> From<i128> for Value<'a> {
     }
 }
 
-/// A text that is written piece by piece. If memory runs out, it is lost.
-#[derive(Drop)]
-pub struct Prose {
-    pub(crate) text: String,
-    /// Memory ran out.
-    pub is_lost: bool,
-}
-
 impl Prose {
-    /// An empty text.
-    pub fn new(alloc: Global) -> Prose {
-        let (text, is_lost) = (String::new(alloc), false);
-        Prose { text, is_lost }
-    }
-
-    /// Adds a text.
-    pub fn push(&mut self, text: &str) {
-        self.is_lost |= self.text.push_str(text).is_err();
-    }
-
     /// Adds a sentence, with the next value for each `{}`. `write!` does so too, but takes three times as long to prove.
     pub fn write(&mut self, sentence: &str, values: &[Value<'_>]) {
         let mut values = values.iter();
@@ -115,34 +93,6 @@ impl Prose {
             Value::Number(number) | Value::Operand(number) => write!(out, "{number}"),
         };
         self.is_lost |= written.is_err();
-    }
-
-    /// Adds another text.
-    pub fn append(&mut self, other: &Prose) {
-        self.is_lost |= other.is_lost;
-        self.push(other.text.as_str());
-    }
-
-    /// Whether nothing was written.
-    pub fn is_empty(&self) -> bool {
-        self.text.is_empty()
-    }
-
-    /// The text with its marks, unless it is lost.
-    pub(crate) fn finish(self) -> Result<String, Memory> {
-        if self.is_lost {
-            return Err(Memory);
-        }
-        Ok(self.text)
-    }
-
-    /// The text without them.
-    pub(crate) fn plain(self, alloc: Global) -> Result<String, Memory> {
-        let mut plain = String::new(alloc);
-        for piece in self.finish()?.split(MARKS) {
-            plain.push_str(piece)?;
-        }
-        Ok(plain)
     }
 }
 

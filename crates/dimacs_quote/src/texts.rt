@@ -1,6 +1,6 @@
 //! The texts of a run, by their files.
 
-use crate::page::{OrStop, Stop};
+use crate::stop::{OrStop, Stop};
 use dimacs_records::TextKind;
 
 /// A text of a run: its kind and its file.
