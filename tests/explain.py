@@ -57,9 +57,10 @@ CASES = [
     ("EndTwice", "convert max T", {"T": "p max 3 1\nn 1 s\nn 2 t\nn 3 s\n"}, ["T:4: n 3 s", "line 2 has the same letter already"]),
     ("EndMissing", "convert max T", {"T": "p max 2 1\nn 1 s\na 1 2 1\n"}, ["`n ID t`, the sink,"]),
     ("ProblemMissing", "convert gr T", {"T": "c\n"}, ["T: ends after line 1\n"]),
-    ("BoundOrder", "convert max T", {"T": "p max 2 1\nn 1 s\nn 2 t\na 1 2 -5\n"}, ["CAP is -5, and has to be 0 or more\n"]),
+    ("BoundOrder", "convert max T", {"T": "p max 2 1\nn 1 s\nn 2 t\na 1 2 -5\n"}, ["CAP is -5, and has to be 0 or more\nno limit? then CAP is 9223372036854775807, the greatest number\n$"]),
+    ("BoundOrder", "convert min T", {"T": "p min 2 1\na 1 2 0 -1 0\n"}, ["CAP is -1, less than LOW, 0\nno limit? then CAP is 9223372036854775807, the greatest number\n$"]),
     ("BoundOrder", "convert min T", {"T": "p min 2 1\na 1 2 -3 2 0\n"}, ["LOW is -3 (and CAP 2), and has to be 0 or more\n"]),
-    ("BoundOrder", "convert min T", {"T": "p min 2 1\na 1 2 3 2 0\n"}, ["CAP is 2, less than LOW, 3"]),
+    ("BoundOrder", "convert min T", {"T": "p min 2 1\na 1 2 3 2 0\n"}, ["CAP is 2, less than LOW, 3\n$"]),
     ("TooMany", "convert gr T", {"T": "p sp 1 1\na 1 1 0\na 1 1 0\n"}, ["line 1 declares 1 arc line, and this is one more"]),
     ("TooFew", "convert gr T", {"T": "p sp 1 7\na 1 1 0\n"}, ["T: ends after line 2", "1 arc line of the 7 that line 1 declares"]),
     ("TooFew", "convert dist T", {"T": "p dist 3 1\nt 1 2\nd 2 5 1\n"}, ["declares 2 d lines, and has 1 before this place\n"]),
@@ -69,7 +70,9 @@ CASES = [
     ("PastRadius", "convert dist T", {"T": "p dist 3 1\nt 1 1 4\nd 2 5 1\n"}, ["DIST is 5, above the RADIUS of the block, 4"]),
     ("UnknownArc", "judge-max I S C", {"S": "s 6\nf 1 2 4\nf 4 3 2\n"}, ["S:3: f 4 3 2", "no arc from 4 to 3", "arc 5 leads from 3 to 4"]),
     ("ArcTwice", "judge-max I S C", {"S": FLOW + "f 3 4 3\n"}, ["S:7: f 3 4 3", "I has 1 arc from 3 to 4", "S:6: f 3 4 3", "the two are the same: remove one\n$"]),
-    ("ArcTwice", "judge-max I S C", {"S": FLOW.replace("f 3 4 3", "f 3 4 2\nf 3 4 1")}, ["S:7: f 3 4 1", "S:6: f 3 4 2", "dimacs spread-max I S OUT\n"]),
+    ("ArcTwice", "judge-max I S C", {"S": FLOW.replace("f 3 4 3", "f 3 4 2\nf 3 4 1")}, ["S:7: f 3 4 1", "S:6: f 3 4 2", "\nif the arc is to carry all of them, have them added up: run dimacs spread-max I S OUT\n$"]),
+    ("ArcTwice", "judge-max I S C", {"S": FLOW.replace("f 3 4 3", "f 3 4 2\nf 3 4 4")}, ["S:6: f 3 4 2\nthe f lines with these ends add up to 6, outside of 0 to 5, what the arc can carry\n$"]),
+    ("ArcTwice", "judge-max I S C", {"I": "p max 2 2\nn 1 s\nn 2 t\na 1 2 1\na 1 2 3\n", "S": "s 5\n" + "f 1 2 1\n" * 2 + "f 1 2 3\n"}, ["as many earlier entries have these ends\nthe f lines with these ends add up to 5, outside of 0 to 4, what these arcs can carry: no order fits\n$"]),
     ("ArcTwice", "judge-max I S C", {"I": "p max 2 2\nn 1 s\nn 2 t\na 1 2 1\na 1 2 3\n", "S": "s 3\n" + "f 1 2 1\n" * 3}, ["I has 2 arcs from 1 to 2", "dimacs spread-max I S OUT\n"]),
     ("BelowLow", "judge-min I S P", {"I": "p min 2 1\na 1 2 1 3 0\n", "S": "s 0\n", "P": "p pot 2 0\n"}, ["I:2: a 1 2 1 3 0", "no entry", "carries 0, less than its LOW, 1"]),
     ("BelowLow", "judge-max I S C", {"S": "s 6\nf 1 2 -1\n"}, ["S:2: f 1 2 -1", "arc 1 carries -1, less than 0\n"]),
@@ -168,6 +171,7 @@ CASES = [
     ("BadNumber", "convert distances T", {"T": "p distances 3 1\nt 1 2\nd 2 5\nd 3 inf\n"}, ["not `inf`\na node that no walk reaches has no line: leave it out\n"]),
     ("BadNumber", "convert dist T", {"T": "p dist 3 1\nt 1 1\nd 2 Infinity 1\n"}, ["not `Infinity`\na node that no walk reaches has no line: leave it out\n"]),
     ("BadNumber", "convert gr T", {"T": "p sp 1 1\na 1 1 1e++6\n"}, ["and not `1e++6`\n"]),
+    ("BadNumber", "convert gr T", {"T": "p sp 9 1\na \u22125 1 1\n"}, ["TAIL is a whole number, digits with a sign or without, and not `\u22125`\n$"]),
     ("BadNumber", "convert gr T", {"T": "p sp 1 1\na 1 1 0." + "0" * 70 + "5\n"}, ["0..`\n"]),
     # Texts of this kind, and files that are no such texts.
     ("FieldCount", "convert max T", {"T": "p max 4\n"}, ["the line has 3 fields"]),
@@ -178,6 +182,8 @@ CASES = [
     ("UnknownLine", "convert gr T", {"T": b"\x7fELF\r\0\0"}, ["no line of a graph (gr) begins with"]),
     ("FieldCount", "convert gr T", {"T": "p sp 1 1\ra 1 1 0\r"}, ["lines end by a carriage return alone"]),
     ("BadWord", "convert gr T", {"T": MAX}, ["that of a maximum flow instance (max), in the place of a graph (gr)"]),
+    ("BadWord", "certify-max I S", {"I": MIN}, ["that of a minimum cost flow instance (min), in the place of a maximum flow instance (max)\nits commands end in -min\n$"]),
+    ("BadWord", "certify-infeasible I", {}, ["in the place of a minimum cost flow instance (min)\nits commands end in -max\n$"]),
     ("ProblemMissing", "convert query T", {"T": "s 1\n"}, ["T:1: s 1\na line `p aux sp ss|p2p K` has to stand first"]),
     # Files in each other's place.
     ("UnknownLine", "judge-max S I C", {}, ["S:1: s 6", "the line is that of a solution (solution), in the place of a maximum flow instance (max)\nthe files S and I are exchanged\n$"]),
@@ -206,7 +212,7 @@ CASES = [
     ("Balance", "judge-min I S P", {"I": "p min 2 1\na 1 2 0 3 1\n", "S": "s 1\nf 1 2 1\n"}, ["1 leaves node 1, 0 enters it: 1 too much leaves\n", "entries into it: 0\n$"]),
     # What decides distances, by their form and by the sign of a WEIGHT.
     ("BadWord", "judge-paths G Q L", {"L": "p distances 4 0\n"}, ["to find out, run dimacs certify-paths G L\n$"]),
-    ("NoTightArc", "judge-paths G Q L", {"G": "p sp 3 2\na 1 2 3\na 2 3 -2\n", "L": "p dist 3 1\nt 1 2\nd 2 3 1\nd 3 2 2\n"}, ["to find out, drop PRED and RADIUS, and run dimacs certify-paths G DISTANCES\n$"]),
+    ("NoTightArc", "judge-paths G Q L", {"G": "p sp 3 2\na 1 2 3\na 2 3 -2\n", "L": "p dist 3 1\nt 1 2\nd 2 3 1\nd 3 2 2\n"}, ["to find out, write `p distances` for `p dist`, drop PRED and RADIUS, and run dimacs certify-paths G DISTANCES\n$"]),
     ("Escapes", "judge-paths G Q L", {"Q": "p aux sp p2p 1\nq 1 2\n", "L": "p dist 4 1\nt 1 0 7\n"}, ["node 2 is at distance 5 at most, within the RADIUS, 7, and has no label\n"]),
     ("NotTight", "judge-min MI S P", {"S": LEAST, "P": "p pot 4 3\ny 1 -4\ny 2 -2\ny 3 -1\n"}, ["= 2 - (-4) + (-2) = 4, above 0", "with the opposite sign of each VALUE, the potentials show the claim\nthis certificate"]),
     ("NotTight", "judge-min MI S P", {"S": LEAST, "P": "p pot 4 3\ny 1 -4\ny 2 -2\ny 3 -2\n"}, ["= 2 - (-4) + (-2) = 4, above 0, so it has to carry its LOW, 0, and carries 2\nthis certificate"]),
@@ -312,30 +318,31 @@ def fault_of(binary, case):
 # Files whose names a shell would take for more.
 NAMES = ["a b", "a'; touch PWNED; '.sol", "$(touch PWNED)", "`touch PWNED`", '"', "-x", "--version", "-'", "\u00e9 \u6c34", "a\nb", "a\n", "\t", "\x1b[31m%d\\", "\x07'!$(touch PWNED)\"", "a\u00a0b", "~", "#", "*", "!x"]
 
-# Runs that name a file N, what they read, and the words of the command that is advised, or of the files to exchange.
+# Runs that name a file N, what they read, the words of the command that is advised, or of the files to exchange, and the
+# word that stands there if no shell can be given the name.
 NAMING = [
-    ("judge-max N S C", {"N": MAX, "C": CUT + "u 2\n"}, "certify-max N S"),
-    ("judge-max I N C", {"N": FLOW, "C": CUT + "u 2\n"}, "certify-max I N"),
-    ("judge-max I N C", {"N": FLOW + "f 3 4 1\n"}, "spread-max I N OUT"),
-    ("judge-min N S P", {"N": MIN, "S": "s 0\n"}, "certify-infeasible N"),
-    ("certify-min N S", {"N": MIN, "S": "s infeasible\n"}, "certify-infeasible N"),
-    ("judge-infeasible N C", {"N": MIN}, "certify-infeasible N"),
-    ("judge-paths G N L", {"N": ASKED, "L": "p dist 5 0\n"}, "solve-paths G N LABELS"),
-    ("judge-paths N Q L", {"N": CYCLE, "L": "p distances 4 0\n"}, "certify-paths N L"),
-    ("judge-paths N Q L", {"N": "p sp 2 1\na 1 2 -1\n", "L": "p dist 5 0\n"}, "certify-paths N DISTANCES"),
-    ("judge-max I C N", {"N": FLOW}, "the files C and N are exchanged"),
+    ("judge-max N S C", {"N": MAX, "C": CUT + "u 2\n"}, "certify-max N S", "INSTANCE"),
+    ("judge-max I N C", {"N": FLOW, "C": CUT + "u 2\n"}, "certify-max I N", "SOLUTION"),
+    ("judge-max I N C", {"N": FLOW.replace("f 3 4 3", "f 3 4 2\nf 3 4 1")}, "spread-max I N OUT", "SOLUTION"),
+    ("judge-min N S P", {"N": MIN, "S": "s 0\n"}, "certify-infeasible N", "INSTANCE"),
+    ("certify-min N S", {"N": MIN, "S": "s infeasible\n"}, "certify-infeasible N", "INSTANCE"),
+    ("judge-infeasible N C", {"N": MIN}, "certify-infeasible N", "INSTANCE"),
+    ("judge-paths G N L", {"N": ASKED, "L": "p dist 5 0\n"}, "solve-paths G N LABELS", "QUERY"),
+    ("judge-paths N Q L", {"N": CYCLE, "L": "p distances 4 0\n"}, "certify-paths N L", "GRAPH"),
+    ("judge-paths N Q L", {"N": "p sp 2 1\na 1 2 -1\n", "L": "p dist 5 0\n"}, "certify-paths N DISTANCES", "GRAPH"),
+    ("judge-max I C N", {"N": FLOW}, "the files C and N are exchanged", "CUT"),
 ]
 
 
-def name_fault(binary, name, words, texts, wanted):
+def name_fault(binary, name, words, texts, wanted, instead):
     """What is wrong with the line that names a file, handed to a shell; none if it gives the words that are wanted."""
     with place_with({**TEXTS, **{name if it == "N" else it: text for it, text in texts.items()}}) as place:
         words = [binary, "explain", *(name if it == "N" else it for it in words.split())]
         printed = subprocess.run(words, capture_output=True, cwd=place.folder, check=False).stdout.decode()
         line = re.search(r"\brun dimacs (.*)$|^(the files .*)$", printed, re.MULTILINE)
-        shell = "bash" if name.endswith("\n") else "sh"
-        ran = subprocess.run([shell, "-c", f"printf '%s\\0' {line and (line[1] or line[2])}"], capture_output=True, cwd=place.folder, check=False)
-        typed = [("./" + name if name.startswith("-") else name) if it == "N" else it for it in wanted.split()]
+        ran = subprocess.run(["sh", "-c", f"printf '%s\\0' {line and (line[1] or line[2])}"], capture_output=True, cwd=place.folder, check=False)
+        typed = instead if name.endswith("\n") else "./" + name if name.startswith("-") else name
+        typed = [typed if it == "N" else it for it in wanted.split()]
         good = ran.stdout.decode().split("\0") == [*typed, ""] and not os.path.exists(place.path("PWNED"))
     return None if good else f"{printed}gives {ran.stdout}"
 
@@ -355,6 +362,12 @@ OF_BETTER = "the flow is feasible, and a better one has the value 6: it goes to 
 # A file whose name has a line feed.
 NAMED = "printf 'p sp 1 1\\n' >$'\u00e9\\nv max 6'; '{}' explain convert gr $'\u00e9\\nv max 6'"
 IN_NAME = "\u00e9\\x0av max 6: ends after line 1\n0 arc lines of the 1 that line 1 declares\n"
+
+# A file whose name begins like a verdict, and texts that a later command can't read.
+LIKE_VERDICT = "printf 'p sp 1 1\\ne 1\\n' >'v max 12'; '{}' explain convert gr 'v max 12' | head -2"
+OF_LIKE = "x instance 2 1 UnknownLine\n./v max 12:2: e 1\n"
+OPEN_HERE = "'{}' explain judge-max <(cat I) S <(echo p cut 4 0) | tail -1"
+OF_OPEN = "this certificate doesn't show the claim, which may be true all the same: to find out, run dimacs certify-max INSTANCE S\n"
 
 # A file that is full after the first line.
 FULL = "trap '' XFSZ; ulimit -f 1; head -c 1010 /dev/zero >out; '{}' explain judge-max I S C 2>&1 >>out; echo $?; tail -c +1011 out"
@@ -382,6 +395,8 @@ def shell_runs(binary):
     yield TWICE.format(binary), 1, f"x solution 1 0 SolutionMissing\n{LEFT_OUT_LINES}"
     yield LONG.format(binary, MOST_KEPT + 6), 1, f"x solution 1 2 NotMaximum\n{LEFT_OUT_LINES}{OF_BETTER}"
     yield GIVEN.format(binary), 1, OF_PIPE
+    yield LIKE_VERDICT.format(binary), 0, OF_LIKE
+    yield OPEN_HERE.format(binary), 0, OF_OPEN
     yield NAMED.format(binary), 1, f"x instance 2 0 TooFew\n{IN_NAME}"
     yield FULL.format(binary), 0, OF_FULL
 

@@ -1,6 +1,7 @@
 //! Explains why a claimed flow isn't one of the instance, or hasn't the claimed value or cost.
 
 use crate::explanation::Explanation;
+use crate::flows::Parallel;
 use crate::least_cost::cost_of;
 use dimacs_quote::Value::{Arc, Node};
 use dimacs_quote::{OrStop, Reopen, Said, Wanted, ending, entry_between, say};
@@ -19,12 +20,12 @@ impl<'a, A: Reopen> Explanation<'a, A> {
         };
         let instance = self.page.texts.instance()?;
         if reason == Reason::ArcTwice {
-            let count = self.parallel(tail, head, 0)?.all;
+            let parallel = self.parallel(tail, head, 0)?;
             say!(self; "{} has {} arc{} from {} to {}, and as many earlier entries have these ends\n",
-                instance, count, ending(count), Node(tail), Node(head));
-            return match count {
-                1 => self.write_repeated(tail, head, flow),
-                _ => self.write_spread(),
+                instance, parallel.all, ending(parallel.all), Node(tail), Node(head));
+            return match parallel.all {
+                1 => self.write_repeated(tail, head, flow, parallel),
+                _ => self.write_spread(tail, head, parallel),
             };
         }
         say!(self; "{} has no arc from {} to {}\n", instance, Node(tail), Node(head));
@@ -36,11 +37,11 @@ impl<'a, A: Reopen> Explanation<'a, A> {
     }
 
     /// Quotes the earlier entry of an arc that has two, and advises to remove one if they are the same.
-    fn write_repeated(&mut self, tail: u32, head: u32, flow: i64) -> Said<'a> {
+    fn write_repeated(&mut self, tail: u32, head: u32, flow: i64, arc: Parallel) -> Said<'a> {
         let solution = self.page.texts.claim()?;
         let first = Wanted::Entry(tail, head, 0);
         if entry_between(self.page.quote_there(solution, first)?, tail, head) != Some(flow) {
-            return self.write_spread();
+            return self.write_spread(tail, head, arc);
         }
         say!(self; "the two are the same: remove one\n");
         Ok(())

@@ -6,7 +6,7 @@ use crate::least_cost::{paid_bound, reduced_cost};
 use crate::sums::{bound, number_of};
 use dimacs_facts::{all_nodes, one_node, shows_no_flow};
 use dimacs_network::{ArcView, CapacityArc, Network, WeightArc};
-use dimacs_quote::Value::{Arc, Cap, Node, Operand, Typed};
+use dimacs_quote::Value::{Arc, Cap, Node, Operand};
 use dimacs_quote::{
     OrStop, Reopen, Said, TextFile, Wanted, ending, entry_between, is_file, range_of, say,
 };
@@ -182,12 +182,24 @@ impl<'a, A: Reopen> Explanation<'a, A> {
         }
         say!(self; "{} arcs lead from {} to {}, and arc {} is the first of them: entries with these ends belong to them in the order of the instance\n",
             parallel.all, Node(arc.tail), Node(arc.head), Arc(parallel.first));
-        let sum = self.entry_sum(arc.tail, arc.head)?;
+        self.write_spread(arc.tail, arc.head, parallel)
+    }
+
+    /// Names the command that deals the entries between two nodes out to the arcs there, or says that no order fits.
+    pub(crate) fn write_spread(&mut self, tail: u32, head: u32, parallel: Parallel) -> Said<'a> {
+        let sum = self.entry_sum(tail, head)?;
         if parallel.low <= sum && sum <= parallel.cap {
-            return self.write_spread();
+            say!(self; match parallel.all {
+                1 => "if the arc is to carry all of them, have them added up: ",
+                _ => "if the entries don't follow the order of the arcs, have them dealt out: ",
+            });
+            return self.write_command("spread", " OUT");
         }
-        say!(self; "the f lines with these ends add up to {}, outside of {} to {}, what these arcs can carry: no order fits\n",
-            sum, parallel.low, parallel.cap);
+        say!(self; "the f lines with these ends add up to {}, outside of {} to {}, what ", sum, parallel.low, parallel.cap);
+        say!(self; match parallel.all {
+            1 => "the arc can carry\n",
+            _ => "these arcs can carry: no order fits\n",
+        });
         Ok(())
     }
 
@@ -221,12 +233,6 @@ impl<'a, A: Reopen> Explanation<'a, A> {
         self.write_opposite(certificate)
     }
 
-    /// Names the command that deals a flow out to parallel arcs.
-    pub(crate) fn write_spread(&mut self) -> Said<'a> {
-        say!(self; "if the entries don't follow the order of the arcs, have them dealt out: ");
-        self.write_command("spread", " OUT")
-    }
-
     /// Writes that a certificate which fails leaves its claim open, and the command that decides it. Distances have none.
     pub(crate) fn write_open(&mut self) -> Said<'a> {
         if self.page.texts.tested()?.kind == TextKind::Distances {
@@ -239,14 +245,14 @@ impl<'a, A: Reopen> Explanation<'a, A> {
     /// Writes a command about a claim; if its texts are in no files, what it does.
     fn write_command(&mut self, verb: &str, last: &str) -> Said<'a> {
         let instance = self.page.texts.instance()?;
-        let name = Typed(instance.file);
+        let name = instance.typed();
         match (instance.kind, self.page.texts.claim()) {
             _ if !is_file(instance.file) => say!(self; "{} it\n", verb),
             (TextKind::Graph, Ok(queries)) => self.write_paths(instance, queries)?,
             (TextKind::Min, Ok(claim)) =>
-                say!(self; "run dimacs {}-min {} {}{}\n", verb, name, Typed(claim.file), last),
+                say!(self; "run dimacs {}-min {} {}{}\n", verb, name, claim.typed(), last),
             (_, Ok(claim)) =>
-                say!(self; "run dimacs {}-max {} {}{}\n", verb, name, Typed(claim.file), last),
+                say!(self; "run dimacs {}-max {} {}{}\n", verb, name, claim.typed(), last),
             _ => say!(self; "run dimacs certify-infeasible {}\n", name),
         }
         Ok(())
@@ -260,11 +266,11 @@ impl<'a, A: Reopen> Explanation<'a, A> {
             file,
         };
         if self.page.has(distances, Wanted::Problem) {
-            say!(self; "run dimacs certify-paths {} {}\n", Typed(graph.file), Typed(file));
+            say!(self; "run dimacs certify-paths {} {}\n", graph.typed(), distances.typed());
         } else if self.page.has(graph, Wanted::NegativeWeight) {
-            say!(self; "drop PRED and RADIUS, and run dimacs certify-paths {} DISTANCES\n", Typed(graph.file));
+            say!(self; "write `p distances` for `p dist`, drop PRED and RADIUS, and run dimacs certify-paths {} DISTANCES\n", graph.typed());
         } else {
-            say!(self; "run dimacs solve-paths {} {} LABELS\n", Typed(graph.file), Typed(queries.file));
+            say!(self; "run dimacs solve-paths {} {} LABELS\n", graph.typed(), queries.typed());
         }
         Ok(())
     }
@@ -303,7 +309,7 @@ impl<'a, A: Reopen> Explanation<'a, A> {
             why = "to find out whether any flow is feasible";
         }
         if is_file(instance.file) && self.page.has(instance, Wanted::NotMetBy0) {
-            say!(self; "{}, run dimacs certify-infeasible {}\n", why, Typed(instance.file));
+            say!(self; "{}, run dimacs certify-infeasible {}\n", why, instance.typed());
         }
         Ok(())
     }

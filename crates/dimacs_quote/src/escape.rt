@@ -16,6 +16,17 @@ pub(crate) fn escape(out: &mut Prose, bytes: &[u8]) {
     }
 }
 
+/// Writes a file's name, after `./` if a line that begins with it would look like one of a report.
+pub(crate) fn write_name(out: &mut Prose, name: &str) {
+    if ["v ", "x ", "g "]
+        .iter()
+        .any(|letter| name.starts_with(letter))
+    {
+        out.push("./");
+    }
+    escape(out, name.as_bytes());
+}
+
 /// A text as `escape` writes it.
 #[derive(Clone, Copy)]
 pub struct Shown<'a>(pub &'a str);

@@ -6,7 +6,7 @@ use crate::lookups::{Wanted, declared};
 use crate::numbers::{is_no_distance, meant_number};
 use crate::page::{Page, Reopen};
 use crate::say;
-use crate::sentence::Value::{Node, Typed, Word};
+use crate::sentence::Value::{Node, Word};
 use crate::sentence::ending;
 use crate::stop::{OrStop, Said, Stop};
 use crate::texts::{TextFile, is_file};
@@ -15,6 +15,9 @@ use dimacs_records::{At, Declared, End, Reason, Record, TextKind};
 
 /// The greatest number of 64 bits with a sign.
 const MOST_WHOLE: u64 = 9_223_372_036_854_775_807;
+
+/// What a negative CAP may mean.
+const NO_LIMIT: &str = "no limit? then CAP is 9223372036854775807, the greatest number\n";
 
 fn counted_lines(kind: TextKind) -> &'static str {
     match kind {
@@ -61,22 +64,30 @@ impl<'a, A: Reopen> Page<'a, A> {
         if text.kind == TextKind::Distances && fault.found == Some(TextKind::Labels) {
             say!(self; "distances have no PRED and no RADIUS; to judge labels, run dimacs judge-paths GRAPH QUERY LABELS\n");
         }
-        let Some(file) = self.exchanged(text, fault.found) else {
-            return false;
+        if let Some(file) = self.exchanged(text, fault.found) {
+            say!(self; "the files {} and {} are exchanged\n", text.typed(), file.typed());
+            return true;
+        }
+        let is_instance = self.texts.instance().is_ok_and(|it| is_file(it.file));
+        let ending = match (text.kind, fault.found) {
+            (TextKind::Max, Some(TextKind::Min)) if is_instance => "min",
+            (TextKind::Min, Some(TextKind::Max)) if is_instance => "max",
+            _ => return false,
         };
-        say!(self; "the files {} and {} are exchanged\n", Typed(text.file), Typed(file));
+        say!(self; "its commands end in -{}\n", ending);
         true
     }
 
     /// The file in whose place a text of this kind belongs, if that has one of the kind that is wanted here.
-    fn exchanged(&self, text: TextFile<'a>, kind: Option<TextKind>) -> Option<&'a str> {
-        let file = self.texts.of_kind(kind?).ok()?.file;
+    fn exchanged(&self, text: TextFile<'a>, kind: Option<TextKind>) -> Option<TextFile<'a>> {
+        let other = self.texts.of_kind(kind?).ok()?;
+        let file = other.file;
         let first = match text.kind {
             TextKind::Solution => Wanted::Value,
             _ => Wanted::Problem,
         };
         let has_first = self.has(TextFile { file, ..text }, first);
-        Some(file).filter(|_| has_first && file != text.file)
+        Some(other).filter(|_| has_first && file != text.file)
     }
 
     /// Writes why a line has a fault by itself, or by the lines before it.
@@ -175,11 +186,13 @@ impl<'a, A: Reopen> Page<'a, A> {
             }
             let file = instance
                 .filter(|text| is_file(text.file))
-                .map_or(Word("INSTANCE"), |text| Typed(text.file));
+                .map_or(Word("INSTANCE"), TextFile::typed);
             say!(self; "a solution is a flow; to find out whether none is feasible, run dimacs certify-infeasible {}\n", file);
         } else if name == "DIST" && is_no_distance(word) {
             say!(self; "a node that no walk reaches has no line: leave it out\n");
-        } else if let Some(number) = meant_number(self.alloc, word) {
+        } else if let Some(number) = meant_number(self.alloc, word)
+            && (range_of(name).starts_with('-') || !number.text.starts_with('-'))
+        {
             say!(self; "write ");
             self.out.append(&number);
             say!(self; "\n");
@@ -203,11 +216,11 @@ impl<'a, A: Reopen> Page<'a, A> {
     fn write_bounds(&mut self, record: Option<Record>) {
         match record {
             Some(Record::MaxArc { cap, .. }) =>
-                say!(self; "CAP is {}, and has to be 0 or more\n", cap),
+                say!(self; "CAP is {}, and has to be 0 or more\n{}", cap, NO_LIMIT),
             Some(Record::MinArc { low, cap, .. }) if low < 0 =>
                 say!(self; "LOW is {} (and CAP {}), and has to be 0 or more\n", low, cap),
             Some(Record::MinArc { low, cap, .. }) =>
-                say!(self; "CAP is {}, less than LOW, {}\n", cap, low),
+                say!(self; "CAP is {}, less than LOW, {}\n{}", cap, low, if cap < 0 { NO_LIMIT } else { "" }),
             _ => (),
         }
     }

@@ -1,8 +1,8 @@
 //! Sentences, written with the values that they name.
 
-use crate::escape::escape;
+use crate::escape::write_name;
 use crate::prose::{MARKS, Prose};
-use crate::shell_word::write_word;
+use crate::shell_word::{can_be_typed, write_word};
 use crate::texts::TextFile;
 
 /// Writes a sentence to a page or other text, with the next value for each `{}`.
@@ -48,6 +48,16 @@ impl<'a> From<TextFile<'a>> for Value<'a> {
     }
 }
 
+impl<'a> TextFile<'a> {
+    /// Its file as it is typed in a command; if that can't be, a word for it.
+    pub fn typed(self) -> Value<'a> {
+        match can_be_typed(self.file) {
+            true => Value::Typed(self.file),
+            false => Value::Word(self.word()),
+        }
+    }
+}
+
 impl<'a> From<u64> for Value<'a> {
     fn from(number: u64) -> Value<'a> {
         Value::Number(i128::from(number))
@@ -82,7 +92,7 @@ impl Prose {
         let ([arc, node, mark_of_cap], out) = (MARKS, &mut self.text);
         let written = match value {
             Value::Word(word) => out.push_str(word),
-            Value::File(name) => return escape(self, name.trim_start_matches('\0').as_bytes()),
+            Value::File(name) => return write_name(self, name.trim_start_matches('\0')),
             Value::Typed(name) => return write_word(self, name.trim_start_matches('\0')),
             Value::Arc(number) => write!(out, "{arc}{number}"),
             Value::Node(id) => write!(out, "{node}{id}"),

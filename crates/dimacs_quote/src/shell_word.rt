@@ -3,6 +3,13 @@
 use crate::escape::is_visible;
 use crate::prose::Prose;
 
+/// Whether a name can be typed in a later command: not that of a pipe which this run alone has open, and not one that
+/// ends in a line feed, which no quotes of every shell keep.
+pub(crate) fn can_be_typed(name: &str) -> bool {
+    let is_open_here = ["/dev/fd/", "/dev/stdin", "/proc/self/fd/"];
+    !name.ends_with('\n') && !is_open_here.iter().any(|front| name.starts_with(front))
+}
+
 /// Writes a file's name as a word that a shell takes for it. If not all of it is visible, most of it is in octal.
 pub(crate) fn write_word(out: &mut Prose, name: &str) {
     let is_plain = |byte: u8| byte.is_ascii_alphanumeric() || b"+-./_".contains(&byte);
@@ -10,8 +17,6 @@ pub(crate) fn write_word(out: &mut Prose, name: &str) {
     let (open, close) = match name.bytes().all(is_plain) {
         true => ("", ""),
         false if is_shown => ("'", "'"),
-        // `$(..)` drops a line feed at the end.
-        false if name.ends_with('\n') => ("$'", "'"),
         false => ("\"$(printf '", "')\""),
     };
     out.push(if name.starts_with('-') { "./" } else { "" });

@@ -18,6 +18,20 @@ impl<'a> TextFile<'a> {
         Stop::Unread(self.file)
     }
 
+    /// Its word in the forms of commands.
+    pub(crate) fn word(self) -> &'static str {
+        match self.kind {
+            TextKind::Max | TextKind::Min => "INSTANCE",
+            TextKind::Graph => "GRAPH",
+            TextKind::Queries => "QUERY",
+            TextKind::Solution => "SOLUTION",
+            TextKind::Cut => "CUT",
+            TextKind::Potentials => "POTENTIALS",
+            TextKind::Labels => "LABELS",
+            TextKind::Distances => "DISTANCES",
+        }
+    }
+
     /// Whether it stands for arrays of a caller.
     pub fn is_of_arrays(self) -> bool {
         self.file.starts_with("\0\0")
