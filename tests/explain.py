@@ -7,6 +7,7 @@ same lines after a yes, also of COUNT random instances, 150 by default, that are
 the built program; crates/dimacs/out/dimacs by default.
 """
 import contextlib
+import glob
 import os
 import re
 import subprocess
@@ -18,6 +19,8 @@ import scripts
 from instances import BINARY, MEMORY, Folder, text
 from rows import rows
 
+CRATES = os.path.join(os.path.dirname(os.path.abspath(__file__)), "../crates")
+FACTS = "dimacs_explain/src/facts.rt"
 FILES = dict(rows("files"))
 MAX, FLOW, CUT = (FILES[it] for it in ("max", "flow", "cut"))
 MIN, LEAST, POT = (FILES[it] for it in ("min", "least", "pot"))
@@ -94,7 +97,7 @@ CASES = [
     ("NotSaturated", "judge-max I S C", {"C": "p cut 4 2\nu 1\nu 2\n"}, ["I:6: a 2 3 2", "S:4: f 2 3 1", "carries 1 of its CAP, 2", "this certificate doesn't show the claim, which may be true all the same: to find out, run dimacs certify-max I S\n"]),
     ("BackFlow", "judge-max I S C", {"I": "p max 4 5\nn 1 s\nn 4 t\na 1 2 1\na 1 3 1\na 2 3 1\na 2 4 1\na 3 4 1\n", "S": "s 1\nf 1 2 1\nf 2 3 1\nf 3 4 1\n", "C": "p cut 4 2\nu 1\nu 3\n"}, ["arc 3 enters the set", "carries 1, not 0", "this certificate doesn't show the claim, which may be true all the same: to find out, run dimacs certify-max I S\n"]),
     ("NotTight", "judge-min MI S P", {"S": LEAST, "P": POT.replace("y 1 4", "y 1 3")}, ["P:2: y 1 3", "P:3: y 2 2", "= 2 - 3 + 2 = 1, above 0", "its LOW, 0, and carries 2", "may be true all the same: to find out, run dimacs certify-min MI S\n"]),
-    ("NotViolated", "judge-infeasible MI C", {}, ["supplies 4, and its arcs can carry 0 to 6 out of it: it would show that no flow is feasible if it supplied less than 0 or more than 6\n", "may be true all the same: to find out, run dimacs certify-infeasible MI\n"]),
+    ("NotViolated", "judge-infeasible MI C", {}, ["supplies 4, and its arcs can carry 0 to 6 out of it: it would show the claim if it supplied less than 0 or more than 6\n", "may be true all the same: to find out, run dimacs certify-infeasible MI\n"]),
     ("QueryNode", "judge-paths G Q L", {"Q": "p aux sp ss 1\ns 5\n", "L": "p dist 4 1\nt 1 0\n"}, ["Q:2: s 5", "G:1: p sp 4 3"]),
     ("BlockMissing", "judge-paths G Q L", {"L": "p dist 4 0\n"}, ["L has no block\n"]),
     ("BlockMissing", "judge-paths G Q L", {"Q": "p aux sp ss 1\ns 2\n", "L": "p dist 4 1\nt 1 0\n"}, ["Q:2: s 2", "no block from source 2", "are from 1; 1 in all"]),
@@ -433,10 +436,29 @@ def texts_faults(binary, place, kind):
         yield None if printed == plain + lines else f"{words}:\n{printed}instead of\n{plain}{lines}"
 
 
+def source(path):
+    with open(os.path.join(CRATES, path), encoding="utf-8") as it:
+        return it.read()
+
+
 def reasons():
-    source = os.path.join(os.path.dirname(os.path.abspath(__file__)), "../crates/dimacs_records/src/reasons.rt")
-    with open(source, encoding="utf-8") as it:
-        return set(re.findall(r'Reason::\w+ => "(\w+)"', it.read()))
+    return set(re.findall(r'Reason::\w+ => "(\w+)"', source("dimacs_records/src/reasons.rt")))
+
+
+def parts(path):
+    """The parts of sentences, between colons and commas, that have at least four words, in the texts in quotes of a file."""
+    code = re.sub(r"^ *//.*$", "", source(path), flags=re.MULTILINE)
+    said = re.split(r"\\n|[:;,]", "\n".join(re.findall(r'"(.*?)"', code)).replace("\n", ","))
+    said = (re.sub("^ *(so|but|and) ", "", it).strip() for it in said)
+    return {it for it in said if len(it.replace("{}", " ").split()) > 3} - {"node {} is at distance {}"}
+
+
+def asserted_elsewhere():
+    """The files with a part of a sentence that asserts, beside that of the functions which require what it asserts."""
+    asserted = parts(FACTS)
+    others = set(glob.glob("*/src/**/*.rt", root_dir=CRATES, recursive=True)) - {FACTS}
+    found = [(f"{file} asserts", it) for file in others for it in asserted & parts(file)]
+    return found + [("no sentences", "")] * (len(asserted) < 15)
 
 
 def main():
@@ -448,6 +470,7 @@ def main():
     faults += [("explain", fault) for fault in reader_faults(binary, int(count), int(seed))]
     missing = reasons() - {case[0] for case in CASES} - LEFT_OUT
     faults += [(f"no case for {it}", "") for it in sorted(missing)]
+    faults += asserted_elsewhere() or [("sentences that assert", None)]
     scripts.end_with((f"{words}: {fault}", fault is None) for words, fault in faults)
 
 

@@ -2,9 +2,10 @@
 
 use crate::explanation::Explanation;
 use crate::flows::Parallel;
-use crate::least_cost::cost_of;
+use dimacs_facts::{cost_of, flow_value};
+use dimacs_network::Network;
 use dimacs_quote::Value::{Arc, Node};
-use dimacs_quote::{OrStop, Reopen, Said, Wanted, ending, entry_between, say};
+use dimacs_quote::{OrStop, Reopen, Said, Stop, Wanted, ending, entry_between, say};
 use dimacs_records::{At, End, Reason, Record, TextKind};
 
 impl<'a, A: Reopen> Explanation<'a, A> {
@@ -64,18 +65,20 @@ impl<'a, A: Reopen> Explanation<'a, A> {
     fn write_cost_of(&mut self, claimed: i128) -> OrStop<'a, i128> {
         let min = self.min_instance()?;
         let flow = self.flow(min.network(), &self.solution()?)?;
-        let cost = cost_of(min.network(), &flow);
-        say!(self; "{} is claimed, and the flow costs {}\n", claimed, cost);
+        let cost = cost_of(min.network(), &flow).ok_or(Stop::Done)?;
+        self.write_cost_claim(min.network(), &flow, claimed, cost);
         self.write_cost(min.network(), &flow);
         Ok(cost)
     }
 
     fn write_value_of(&mut self, claimed: i128) -> OrStop<'a, i128> {
-        let source = self.end_of(End::Source)?;
-        let flow = self.node_flow(source)?;
-        say!(self; "{} is claimed, and the flow has the value {}: {} leaves the source, node {}, and {} enters it\n",
-            claimed, flow.net(), flow.leaving.sum(), Node(source), flow.entering.sum());
-        Ok(flow.net())
+        let max = self.max_instance()?;
+        let flow = self.flow(max.network(), &self.solution()?)?;
+        let value = flow_value(&max, &flow).ok_or(Stop::Done)?;
+        self.write_value_claim(&max, &flow, claimed, value);
+        let (source, at) = (max.source(), self.node_flow(max.source())?);
+        say!(self; ": {} leaves the source, node {}, and {} enters it\n", at.leaving.sum(), Node(source), at.entering.sum());
+        Ok(value)
     }
 
     pub(crate) fn end_of(&self, end: End) -> OrStop<'a, u32> {

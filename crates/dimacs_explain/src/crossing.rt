@@ -1,11 +1,12 @@
 //! What crosses the border of a set: a tight cut shows that a flow is maximum, a violated set that none is feasible.
 
-ghost use Rattle.dimacs_judging.specs.Optimum.{NoFlow};
+ghost use Rattle.dimacs_claims.specs.SolutionTexts.{claimed};
+ghost use Rattle.dimacs_judging.specs.{MaxJudge.{ShowsMaximum}, Optimum.{NoFlow}};
 
 use crate::explanation::Explanation;
 use crate::sums::Sum;
-use dimacs_claims::Cut;
-use dimacs_instance::MinInstance;
+use dimacs_claims::{Cut, Solution};
+use dimacs_instance::{MaxInstance, MinInstance};
 use dimacs_network::Network;
 use dimacs_quote::Value::Node;
 use dimacs_quote::{Reopen, Said, Wanted, say};
@@ -72,17 +73,25 @@ fn supply_of<N: Network>(alloc: Global, instance: &MinInstance<N>, set: &Cut) ->
 
 impl<'a, A: Reopen> Explanation<'a, A> {
     /// Explains a maximum flow by a cut that is tight for it.
-    pub(crate) fn explain_maximum<N: Network>(&mut self, network: &N, cut: &Cut) {
-        let all = Crossing::of(self.page.alloc, network, cut, "CAP", "FLOW");
+    pub(crate) fn explain_maximum<N: Network>(
+        &mut self,
+        max: &MaxInstance<N>,
+        solution: &Solution,
+        cut: &Cut,
+    )
+        requires { ShowsMaximum max.now (claimed solution.now) cut.now }
+    {
+        let all = Crossing::of(self.page.alloc, max.network(), cut, "CAP", "FLOW");
         say!(self; "on the source's side of the cut, ");
         self.write_set(cut);
         self.write_lines("arcs into it, all empty", &all.entering);
         self.write_lines("arcs out of it, all full", &all.leaving);
-        if all.leaving.count == 0 {
-            return say!(self; "no flow reaches the sink, so none has a value above 0\n");
+        if all.leaving.count == 0 && solution.value == 0 {
+            self.write_none_above_0(max, solution, cut);
+        } else {
+            self.write_sum(&all.leaving);
+            self.write_greatest(max, solution, cut);
         }
-        self.write_sum(&all.leaving);
-        say!(self; ", the value of the flow: all flow to the sink has to cross these arcs, so none has a greater value\n");
     }
 
     /// Explains by a violated set that no flow is feasible.
@@ -150,7 +159,7 @@ impl<'a, A: Reopen> Explanation<'a, A> {
         let supply = supply_of(alloc, &min, &set).sum();
         let least = Crossing::least(alloc, min.network(), &set).net();
         let most = Crossing::most(alloc, min.network(), &set).net();
-        say!(self; "the set supplies {}, and its arcs can carry {} to {} out of it: it would show that no flow is feasible if it supplied less than {} or more than {}\n",
+        say!(self; "the set supplies {}, and its arcs can carry {} to {} out of it: it would show the claim if it supplied less than {} or more than {}\n",
             supply, least, most, least, most);
         self.write_open()
     }

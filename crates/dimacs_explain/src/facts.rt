@@ -1,18 +1,122 @@
 //! The sentences that are verdicts of their own. Each is written by one function here, which requires its fact.
 
+ghost use Rattle.std.specs.Prelude.{◌≡◌, pos};
+ghost use Rattle.dimacs_claims.specs.SolutionTexts.{claimed};
 ghost use Rattle.dimacs_facts.specs.{Cycles.{HasNegativeCycle}, Facts.{OppositeShows}, Walks.{IsNear}};
-ghost use Rattle.dimacs_judging.specs.{Optimum.{NoFlow}, Walks.{Beyond}};
+ghost use Rattle.dimacs_judging.specs.{Feasible.{value}, Flows.{cost}, Labels.{AreDistances}, Optimum.{NoFlow}};
+ghost use Rattle.dimacs_judging.specs.{MaxJudge.{ShowsMaximum}, MinJudge.{ShowsLeast}, Walks.{Beyond}};
 
 use crate::explanation::Explanation;
 use crate::sums::Sum;
-use dimacs_claims::Potentials;
-use dimacs_instance::MinInstance;
+use dimacs_claims::{Cut, Labels, Potentials, Solution};
+use dimacs_instance::{Graph, MaxInstance, MinInstance};
 use dimacs_judging::Flow;
 use dimacs_network::Network;
 use dimacs_quote::Value::Node;
 use dimacs_quote::{Reopen, say};
 
 impl<'a, A: Reopen> Explanation<'a, A> {
+    /// Ends a sentence on the arcs that a cut crosses.
+    pub(crate) fn write_greatest<N: Network>(
+        &mut self,
+        _max: &MaxInstance<N>,
+        _solution: &Solution,
+        _cut: &Cut,
+    )
+        requires { ShowsMaximum _max.now (claimed _solution.now) _cut.now }
+    {
+        say!(self; ", the value of the flow: all flow to the sink has to cross these arcs, so none has a greater value\n");
+    }
+
+    pub(crate) fn write_none_above_0<N: Network>(
+        &mut self,
+        _max: &MaxInstance<N>,
+        _solution: &Solution,
+        _cut: &Cut,
+    )
+        requires shown { ShowsMaximum _max.now (claimed _solution.now) _cut.now }
+        requires zero { _solution.now.value ≡ pos 0 }
+    {
+        say!(self; "no flow reaches the sink, so none has a value above 0\n");
+    }
+
+    /// Ends a sentence on the cost that potentials show.
+    pub(crate) fn write_least<N: Network>(
+        &mut self,
+        _min: &MinInstance<N>,
+        _solution: &Solution,
+        _potentials: &Potentials,
+    )
+        requires { ShowsLeast _min.now (claimed _solution.now) _potentials.now }
+    {
+        say!(self; ": no flow costs less\n");
+    }
+
+    pub(crate) fn write_value_claim<N: Network>(
+        &mut self,
+        _max: &MaxInstance<N>,
+        _flow: &Flow,
+        claim: i128,
+        found: i128,
+    )
+        requires { found ≡ value _max.now _flow.now }
+    {
+        say!(self; "{} is claimed, and the flow has the value {}", claim, found);
+    }
+
+    pub(crate) fn write_cost_claim<N: Network>(
+        &mut self,
+        _network: &N,
+        _flow: &Flow,
+        claim: i128,
+        found: i128,
+    )
+        requires { found ≡ cost (N.list _network.now) _flow.now }
+    {
+        say!(self; "{} is claimed, and the flow costs {}\n", claim, found);
+    }
+
+    /// Writes that no walk leads from the source to a node, or without one to any other; with a radius, that none within it
+    /// does.
+    pub(crate) fn write_no_walk<N: Network>(
+        &mut self,
+        _graph: &Graph<N>,
+        _labels: &Labels,
+        source: u32,
+        to: Option<u32>,
+        radius: Option<i128>,
+    )
+        requires { AreDistances _graph.now.arcs _labels.now.blocks }
+    {
+        let from = Node(source);
+        match (to, radius) {
+            (Some(to), None) =>
+                say!(self; "no walk from {} to {}: no arc leads out of the nodes that {} reaches", from, Node(to), from),
+            (Some(to), Some(radius)) =>
+                say!(self; "no walk from {} to {} weighs at most {}, the RADIUS: each arc from a node with a label to one without leads past it, and no WEIGHT is negative\n",
+                from, Node(to), radius),
+            (None, None) =>
+                say!(self; "{} reaches no other node: no arc leads from it to another\n", from),
+            (None, Some(radius)) =>
+                say!(self; "no other node is within {}, the RADIUS, of {}: each arc from it to another leads past it\n", radius, from),
+        }
+    }
+
+    /// Writes that no walk leads to nodes without a label, beside those of a block without a radius.
+    pub(crate) fn write_others_unreached<N: Network>(&mut self, _graph: &Graph<N>, _labels: &Labels)
+        requires { AreDistances _graph.now.arcs _labels.now.blocks }
+    {
+        say!(self; "the other nodes can't be reached: no arc leads to them from these\n");
+    }
+
+    pub(crate) fn write_shortest<N: Network>(&mut self, _graph: &Graph<N>, _labels: &Labels)
+        requires { AreDistances _graph.now.arcs _labels.now.blocks }
+    {
+        let name = self.page.words("label", "distance");
+        say!(self; "no walk is shorter: from the source, whose {} is 0, each arc raises the {} by its WEIGHT at most\n",
+            name, name);
+    }
+
     pub(crate) fn write_no_flow<N: Network>(&mut self, _min: &MinInstance<N>)
         requires { NoFlow _min.now }
     {

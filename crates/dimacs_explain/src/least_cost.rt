@@ -1,9 +1,12 @@
 //! Why a flow costs least: by the potentials, each feasible flow costs at least as much.
 
+ghost use Rattle.dimacs_claims.specs.SolutionTexts.{claimed};
+ghost use Rattle.dimacs_judging.specs.MinJudge.{ShowsLeast};
+
 use crate::explanation::Explanation;
 use crate::sums::{SHOWN, Sum, bound, number_of};
-use dimacs_claims::Potentials;
-use dimacs_facts::opposite_shows;
+use dimacs_claims::{Potentials, Solution};
+use dimacs_facts::{cost_of, opposite_shows};
 use dimacs_instance::MinInstance;
 use dimacs_judging::Flow;
 use dimacs_network::{ArcView, Network};
@@ -50,14 +53,6 @@ fn next_cost<N: Network>(network: &N, flow: &Flow, last: Option<ArcCost>) -> Opt
         }
     }
     next
-}
-
-pub(crate) fn cost_of<N: Network>(network: &N, flow: &Flow) -> i128 {
-    let mut sum = 0i128;
-    for i in 0..network.arcs() {
-        sum = sum.saturating_add(ArcCost::of(network.arc(i), flow, i).cost);
-    }
-    sum
 }
 
 /// The sum of a potential times a supply, over the nodes.
@@ -110,11 +105,16 @@ impl<'a, A: Reopen> Explanation<'a, A> {
     pub(crate) fn explain_least<N: Network>(
         &mut self,
         min: &MinInstance<N>,
+        solution: &Solution,
         potentials: &Potentials,
-    ) {
+    )
+        requires { ShowsLeast min.now (claimed solution.now) potentials.now }
+    {
         let fixed = supply_sum(self.page.alloc, min, potentials);
         let least = reduced_sum(self.page.alloc, min.network(), potentials);
-        self.write_bound(&fixed, &least);
+        if self.write_bound(&fixed, &least) {
+            self.write_least(min, solution, potentials);
+        }
         self.write_tight(min.network(), potentials);
     }
 
@@ -148,7 +148,9 @@ impl<'a, A: Reopen> Explanation<'a, A> {
             next = next_cost(network, flow, next);
         }
         if next.is_some() {
-            let rest = cost_of(network, flow).saturating_sub(sum.sum());
+            let rest = cost_of(network, flow)
+                .unwrap_or(0)
+                .saturating_sub(sum.sum());
             say!(self; "  all others: {}\n", rest);
             sum.add(Some(rest));
         }
@@ -156,7 +158,8 @@ impl<'a, A: Reopen> Explanation<'a, A> {
         say!(self; ", the cost\n");
     }
 
-    fn write_bound(&mut self, fixed: &Sum, least: &Sum) {
+    /// Writes what each feasible flow costs at least. Returns whether the numbers fit.
+    fn write_bound(&mut self, fixed: &Sum, least: &Sum) -> bool {
         let mut bound = Sum::new(self.page.alloc);
         bound.add(fixed.total);
         bound.add(least.total);
@@ -164,7 +167,8 @@ impl<'a, A: Reopen> Explanation<'a, A> {
         say!(self; "with potentials y{} and r = COST - y(TAIL) + y(HEAD), a feasible flow costs the sum of y * SUPPLY over the nodes plus that of r * FLOW over the arcs\n",
             zero);
         if bound.total.is_none() {
-            return say!(self; "some of these numbers don't fit 128 bits, so they are left out\n");
+            say!(self; "some of these numbers don't fit 128 bits, so they are left out\n");
+            return false;
         }
         self.write_lines(
             "y * SUPPLY, the same for each flow; nodes where it isn't 0",
@@ -178,7 +182,7 @@ impl<'a, A: Reopen> Explanation<'a, A> {
         self.write_sum(least);
         say!(self; "\n");
         self.write_sum(&bound);
-        say!(self; ": no flow costs less\n");
+        true
     }
 
     /// Writes on which arcs another flow of this cost can differ: the others carry the bound that is paid least.

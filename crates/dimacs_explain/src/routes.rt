@@ -1,10 +1,13 @@
 //! Why distances are right: a route for each, with its weights.
 
+ghost use Rattle.dimacs_judging.specs.Labels.{AreDistances};
+
 use crate::explanation::Explanation;
 use crate::sums::{SHOWN, Sum};
 use dimacs_claims::{Block, Label, Labels};
-use dimacs_instance::Queries;
+use dimacs_instance::{Graph, Queries};
 use dimacs_lines::Memory;
+use dimacs_network::Network;
 use dimacs_quote::Value::Node;
 use dimacs_quote::{OrStop, Reopen, Said, say};
 use std::alloc::Global;
@@ -60,15 +63,22 @@ fn route_to(alloc: Global, block: &Block, to: u32) -> Result<Vec<Label>, Memory>
 impl<'a, A: Reopen> Explanation<'a, A> {
     /// Explains distances by labels that pass the judge's tests: of each pair that is asked for, of the farthest node
     /// from each source that is, or, without queries, of the farthest in each block.
-    pub(crate) fn explain_distances(&mut self, queries: &Queries, labels: &Labels) -> Said<'a> {
+    pub(crate) fn explain_distances<N: Network>(
+        &mut self,
+        graph: &Graph<N>,
+        queries: &Queries,
+        labels: &Labels,
+    ) -> Said<'a>
+        requires { AreDistances graph.now.arcs labels.now.blocks }
+    {
         let mut has_route = false;
         for k in 0..ROUTES {
             if let Some((from, to)) = ends_at(queries, labels, k)
                 && let Some(block) = block_from(labels, from)
             {
                 has_route |= match to {
-                    Some(to) => self.write_pair(block, to)?,
-                    None => self.write_farthest(block, labels.nodes())?,
+                    Some(to) => self.write_pair(graph, labels, block, to)?,
+                    None => self.write_farthest(graph, labels, block)?,
                 };
             }
         }
@@ -83,15 +93,21 @@ impl<'a, A: Reopen> Explanation<'a, A> {
             say!(self; "..\n");
         }
         if has_route {
-            let name = self.page.words("label", "distance");
-            say!(self; "no walk is shorter: from the source, whose {} is 0, each arc raises the {} by its WEIGHT at most\n",
-                name, name);
+            self.write_shortest(graph, labels);
         }
         Ok(())
     }
 
     /// Writes the route to a node, or why there is none. Returns whether there is one.
-    fn write_pair(&mut self, block: &Block, to: u32) -> OrStop<'a, bool> {
+    fn write_pair<N: Network>(
+        &mut self,
+        graph: &Graph<N>,
+        labels: &Labels,
+        block: &Block,
+        to: u32,
+    ) -> OrStop<'a, bool>
+        requires { AreDistances graph.now.arcs labels.now.blocks }
+    {
         let source = block.source();
         if to == source {
             say!(self; "{} to itself, without an arc: 0\n", Node(to));
@@ -102,20 +118,16 @@ impl<'a, A: Reopen> Explanation<'a, A> {
             self.write_route(source, &route);
             return Ok(true);
         }
-        say!(self; "no walk from {} to {}", Node(source), Node(to));
-        match block.radius() {
-            None => self.write_reached(block),
-            Some(radius) =>
-                say!(self; " weighs at most {}, the RADIUS: each arc from a node with a label to one without leads past it, and no WEIGHT is negative\n",
-                radius),
+        self.write_no_walk(graph, labels, source, Some(to), block.radius());
+        if block.radius().is_none() {
+            self.write_reached(block);
         }
         Ok(false)
     }
 
     fn write_reached(&mut self, block: &Block) {
-        let (source, labels) = (block.source(), block.labels());
-        say!(self; ": no arc leads out of the nodes that {} reaches, {}: {}",
-            Node(source), labels.len().saturating_add(1) as u64, Node(source));
+        let labels = block.labels();
+        say!(self; ", {}: {}", labels.len().saturating_add(1) as u64, Node(block.source()));
         for label in labels.into_iter().take(REACHED) {
             say!(self; " {}", Node(label.id));
         }
@@ -123,9 +135,16 @@ impl<'a, A: Reopen> Explanation<'a, A> {
     }
 
     /// Writes the route to the node with the greatest label. Returns whether there is one.
-    fn write_farthest(&mut self, block: &Block, nodes: u32) -> OrStop<'a, bool> {
+    fn write_farthest<N: Network>(
+        &mut self,
+        graph: &Graph<N>,
+        labels: &Labels,
+        block: &Block,
+    ) -> OrStop<'a, bool>
+        requires { AreDistances graph.now.arcs labels.now.blocks }
+    {
         let Some(farthest) = farthest(block) else {
-            self.write_alone(block);
+            self.write_no_walk(graph, labels, block.source(), None, block.radius());
             return Ok(false);
         };
         let count = block.labels().len();
@@ -136,21 +155,10 @@ impl<'a, A: Reopen> Explanation<'a, A> {
         }
         let route = route_to(self.page.alloc, block, farthest.id)?;
         self.write_route(block.source(), &route);
-        if block.radius().is_none() && count.saturating_add(1) < nodes as usize {
-            say!(self; "the other nodes can't be reached: no arc leads to them from these\n");
+        if block.radius().is_none() && count.saturating_add(1) < labels.nodes() as usize {
+            self.write_others_unreached(graph, labels);
         }
         Ok(true)
-    }
-
-    fn write_alone(&mut self, block: &Block) {
-        let source = block.source();
-        match block.radius() {
-            None =>
-                say!(self; "{} reaches no other node: no arc leads from it to another\n", Node(source)),
-            Some(radius) =>
-                say!(self; "no other node is within {}, the RADIUS, of {}: each arc from it to another leads past it\n",
-                radius, Node(source)),
-        }
     }
 
     /// Writes the first nodes of a route, the last, and the sum of the weights.

@@ -14,10 +14,6 @@ use dimacs_quote::{OrStop, Prose, Reopen, Said, Stop, TextFile, Wanted, say};
 
 const LEFT_OUT: &str = "a text has changed, can't be read twice, or memory ran out";
 
-fn judged<'a>(answer: Result<Verdict, JudgeError>) -> OrStop<'a, Verdict> {
-    answer.map_err(|_| Stop::Done)
-}
-
 impl<'a, A: Reopen> Explanation<'a, A> {
     /// Explains a yes by its certificate. Without a verdict it is that of a run that certifies distances.
     pub fn explain_yes<R: Source + Drop>(
@@ -73,27 +69,32 @@ impl<'a, A: Reopen> Explanation<'a, A> {
 
     fn maximum<R: Source>(&mut self, certificate: &mut R) -> OrStop<'a, Verdict> {
         let (cut, max) = (self.set(certificate)?, self.max_instance()?);
-        let verdict = judged(judge_max(self.page.alloc, &max, &self.solution()?, &cut))?;
-        self.explain_maximum(max.network(), &cut);
+        let solution = self.solution()?;
+        let Ok(verdict) = judge_max(self.page.alloc, &max, &solution, &cut) else {
+            return Err(Stop::Done);
+        };
+        self.explain_maximum(&max, &solution, &cut);
         Ok(verdict)
     }
 
     fn least<R: Source>(&mut self, certificate: &mut R) -> OrStop<'a, Verdict> {
         let (potentials, min) = (self.potentials(certificate)?, self.min_instance()?);
-        let (verdict, flow) = self.judged_flow(&min, &potentials)?;
-        self.write_cost(min.network(), &flow);
-        self.explain_least(&min, &potentials);
-        Ok(verdict)
+        self.least_by(&min, &potentials)
     }
 
-    fn judged_flow<N: Network>(
-        &self,
+    fn least_by<N: Network>(
+        &mut self,
         min: &MinInstance<N>,
         potentials: &Potentials,
-    ) -> OrStop<'a, (Verdict, Flow)> {
+    ) -> OrStop<'a, Verdict> {
         let solution = self.solution()?;
-        let verdict = judged(judge_min(self.page.alloc, min, &solution, potentials))?;
-        Ok((verdict, self.flow(min.network(), &solution)?))
+        let Ok(verdict) = judge_min(self.page.alloc, min, &solution, potentials) else {
+            return Err(Stop::Done);
+        };
+        let flow = self.flow(min.network(), &solution)?;
+        self.write_cost(min.network(), &flow);
+        self.explain_least(min, &solution, potentials);
+        Ok(verdict)
     }
 
     fn infeasible<R: Source>(&mut self, certificate: &mut R) -> OrStop<'a, Verdict> {
@@ -112,9 +113,11 @@ impl<'a, A: Reopen> Explanation<'a, A> {
     ) -> OrStop<'a, Verdict>
         requires lawful { AreLawful (asked queries.now) }
     {
-        let labels = self.labels_for(queries, certificate)?;
-        let verdict = judged(judge_paths(self.page.alloc, &self.graph()?, queries, &labels))?;
-        self.explain_distances(queries, &labels)?;
+        let (labels, graph) = (self.labels_for(queries, certificate)?, self.graph()?);
+        let Ok(verdict) = judge_paths(self.page.alloc, &graph, queries, &labels) else {
+            return Err(Stop::Done);
+        };
+        self.explain_distances(&graph, queries, &labels)?;
         Ok(verdict)
     }
 

@@ -9,6 +9,7 @@ mod no_flow;
 mod opposite;
 mod search;
 mod steps;
+mod sums;
 mod too_near;
 mod walks;
 
@@ -18,5 +19,6 @@ pub use no_flow::{all_nodes, one_node, shows_no_flow};
 pub use opposite::opposite_shows;
 pub use search::walks_from;
 pub use steps::Steps;
+pub use sums::{cost_of, flow_value};
 pub use too_near::{TooNear, first_too_near};
 pub use walks::{Walk, Walks};
