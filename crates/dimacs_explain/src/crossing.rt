@@ -7,6 +7,7 @@ use crate::explanation::Explanation;
 use crate::sums::Sum;
 use dimacs_claims::{Cut, Solution};
 use dimacs_instance::{MaxInstance, MinInstance};
+use dimacs_judging::{bounds_across, supply_in};
 use dimacs_network::Network;
 use dimacs_quote::Value::Node;
 use dimacs_quote::{Reopen, Said, Wanted, say};
@@ -38,20 +39,6 @@ impl Crossing {
             }
         }
         all
-    }
-
-    /// The least that arcs can carry out of a set, and then the most.
-    fn least<N: Network>(alloc: Global, network: &N, set: &Cut) -> Crossing {
-        Crossing::of(alloc, network, set, "LOW", "CAP")
-    }
-
-    fn most<N: Network>(alloc: Global, network: &N, set: &Cut) -> Crossing {
-        Crossing::of(alloc, network, set, "CAP", "LOW")
-    }
-
-    /// What leaves the set, less what enters it.
-    pub(crate) fn net(&self) -> i128 {
-        self.leaving.sum().saturating_sub(self.entering.sum())
     }
 }
 
@@ -86,12 +73,7 @@ impl<'a, A: Reopen> Explanation<'a, A> {
         self.write_set(cut);
         self.write_lines("arcs into it, all empty", &all.entering);
         self.write_lines("arcs out of it, all full", &all.leaving);
-        if all.leaving.count == 0 && solution.value == 0 {
-            self.write_none_above_0(max, solution, cut);
-        } else {
-            self.write_sum(&all.leaving);
-            self.write_greatest(max, solution, cut);
-        }
+        self.write_greatest(max, solution, cut, &all.leaving);
     }
 
     /// Explains by a violated set that no flow is feasible.
@@ -109,27 +91,27 @@ impl<'a, A: Reopen> Explanation<'a, A> {
             say!(self; "so the supplies of all nodes don't add up to 0, and no arc leads out of them");
             return self.write_no_flow(instance);
         }
-        let most = Crossing::most(alloc, network, set);
-        if supply.sum() > most.net() {
-            self.write_crossing(&most, "at most", supply.sum());
-        } else {
-            let least = Crossing::least(alloc, network, set);
-            self.write_crossing(&least, "at least", supply.sum());
-        }
+        let (across, supply) = (bounds_across(instance, set), supply_in(instance, set));
+        let (limit, net, out, into) = match supply > across.most {
+            true => ("at most", across.most, "CAP", "LOW"),
+            false => ("at least", across.least, "LOW", "CAP"),
+        };
+        let all = Crossing::of(alloc, network, set, out, into);
+        self.write_bounds(&all);
+        say!(self; "so what leaves it, less what enters it, is {} {} - {} = {}, but has to be its supply, {}",
+            limit, all.leaving.sum(), all.entering.sum(), net, supply);
         self.write_no_flow(instance);
     }
 
-    /// Writes the arcs that cross, and compares what they carry with the supply.
-    fn write_crossing(&mut self, all: &Crossing, limit: &str, supply: i128) {
+    /// Writes the arcs that cross, and the sums of their bounds.
+    fn write_bounds(&mut self, all: &Crossing) {
         self.write_lines("arcs out of it", &all.leaving);
         self.write_lines("arcs into it", &all.entering);
         say!(self; "these bounds add up to ");
         self.write_sum(&all.leaving);
         say!(self; " out of it, and ");
         self.write_sum(&all.entering);
-        let (leaving, entering) = (all.leaving.sum(), all.entering.sum());
-        say!(self; " into it\nso what leaves it, less what enters it, is {} {} - {} = {}, but has to be its supply, {}",
-            limit, leaving, entering, all.net(), supply);
+        say!(self; " into it\n");
     }
 
     /// Explains that the cut lacks the source, or has the sink.
@@ -153,14 +135,14 @@ impl<'a, A: Reopen> Explanation<'a, A> {
     }
 
     pub(crate) fn explain_violation(&mut self) -> Said<'a> {
-        let (alloc, text) = (self.page.alloc, self.page.texts.certificate()?);
-        let set = self.set(&mut self.page.source(text)?)?;
-        let min = self.min_instance()?;
-        let supply = supply_of(alloc, &min, &set).sum();
-        let least = Crossing::least(alloc, min.network(), &set).net();
-        let most = Crossing::most(alloc, min.network(), &set).net();
+        let text = self.page.texts.certificate()?;
+        let (set, min) = (
+            self.set(&mut self.page.source(text)?)?,
+            self.min_instance()?,
+        );
+        let (supply, across) = (supply_in(&min, &set), bounds_across(&min, &set));
         say!(self; "the set supplies {}, and its arcs can carry {} to {} out of it: it would show the claim if it supplied less than {} or more than {}\n",
-            supply, least, most, least, most);
+            supply, across.least, across.most, across.least, across.most);
         self.write_open()
     }
 }

@@ -1,6 +1,6 @@
 //! The sentences that are verdicts of their own. Each is written by one function here, which requires its fact.
 
-ghost use Rattle.std.specs.Prelude.{◌≡◌, pos};
+ghost use Rattle.std.specs.Prelude.{◌≡◌};
 ghost use Rattle.dimacs_claims.specs.SolutionTexts.{claimed};
 ghost use Rattle.dimacs_facts.specs.{Cycles.{HasNegativeCycle}, Facts.{OppositeShows}, Walks.{IsNear}};
 ghost use Rattle.dimacs_judging.specs.{Feasible.{value}, Flows.{cost}, Labels.{AreDistances}, Optimum.{NoFlow}};
@@ -16,28 +16,21 @@ use dimacs_quote::Value::Node;
 use dimacs_quote::{Reopen, say};
 
 impl<'a, A: Reopen> Explanation<'a, A> {
-    /// Ends a sentence on the arcs that a cut crosses.
+    /// Writes that no flow has a greater value than the claimed one, by the capacities of the arcs out of a cut.
     pub(crate) fn write_greatest<N: Network>(
         &mut self,
         _max: &MaxInstance<N>,
-        _solution: &Solution,
+        solution: &Solution,
         _cut: &Cut,
+        out: &Sum,
     )
-        requires { ShowsMaximum _max.now (claimed _solution.now) _cut.now }
+        requires { ShowsMaximum _max.now (claimed solution.now) _cut.now }
     {
+        if out.count == 0 && solution.value == 0 {
+            return say!(self; "no flow reaches the sink, so none has a value above 0\n");
+        }
+        self.write_sum(out);
         say!(self; ", the value of the flow: all flow to the sink has to cross these arcs, so none has a greater value\n");
-    }
-
-    pub(crate) fn write_none_above_0<N: Network>(
-        &mut self,
-        _max: &MaxInstance<N>,
-        _solution: &Solution,
-        _cut: &Cut,
-    )
-        requires shown { ShowsMaximum _max.now (claimed _solution.now) _cut.now }
-        requires zero { _solution.now.value ≡ pos 0 }
-    {
-        say!(self; "no flow reaches the sink, so none has a value above 0\n");
     }
 
     /// Ends a sentence on the cost that potentials show.
@@ -50,6 +43,24 @@ impl<'a, A: Reopen> Explanation<'a, A> {
         requires { ShowsLeast _min.now (claimed _solution.now) _potentials.now }
     {
         say!(self; ": no flow costs less\n");
+    }
+
+    /// Writes how many arcs have the reduced cost 0. By `SameCostLaw` another flow of this cost carries the same on the
+    /// others.
+    pub(crate) fn write_same_cost<N: Network>(
+        &mut self,
+        min: &MinInstance<N>,
+        _solution: &Solution,
+        _potentials: &Potentials,
+        count: u64,
+    )
+        requires { ShowsLeast min.now (claimed _solution.now) _potentials.now }
+    {
+        if count == 0 {
+            return say!(self; "no arc has r = 0: no other flow costs as little");
+        }
+        say!(self; "another flow of this cost can differ only on arcs with r = 0, {} of {}:",
+            count, u64::from(min.network().arcs()));
     }
 
     pub(crate) fn write_value_claim<N: Network>(

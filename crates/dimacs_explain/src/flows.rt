@@ -5,6 +5,7 @@ use crate::explanation::Explanation;
 use crate::least_cost::{paid_bound, reduced_cost};
 use crate::sums::{bound, number_of};
 use dimacs_facts::{all_nodes, one_node, shows_no_flow};
+use dimacs_judging::{bounds_across, supply_in};
 use dimacs_network::{ArcView, CapacityArc, Network, WeightArc};
 use dimacs_quote::Value::{Arc, Cap, Node, Operand};
 use dimacs_quote::{
@@ -56,21 +57,6 @@ impl Parallel {
         self.low = self.low.saturating_add(i128::from(arc.low));
         self.cap = self.cap.saturating_add(i128::from(arc.cap));
     }
-}
-
-/// The least and the most that arcs can carry out of a node, less what they carry into it.
-fn range_at<N: Network>(network: &N, node: u32) -> (i128, i128) {
-    let (mut least, mut most) = (0i128, 0i128);
-    for i in 0..network.arcs() {
-        let arc = network.arc(i);
-        let (low, cap) = (i128::from(arc.low), i128::from(arc.cap));
-        if arc.tail == node && arc.head != node {
-            (least, most) = (least.saturating_add(low), most.saturating_add(cap));
-        } else if arc.head == node && arc.tail != node {
-            (least, most) = (least.saturating_sub(cap), most.saturating_sub(low));
-        }
-    }
-    (least, most)
 }
 
 impl<'a, A: Reopen> Explanation<'a, A> {
@@ -195,11 +181,12 @@ impl<'a, A: Reopen> Explanation<'a, A> {
             });
             return self.write_command("spread", " OUT");
         }
-        say!(self; "the f lines with these ends add up to {}, outside of {} to {}, what ", sum, parallel.low, parallel.cap);
-        say!(self; match parallel.all {
-            1 => "the arc can carry\n",
-            _ => "these arcs can carry: no order fits\n",
-        });
+        let (what, so) = match parallel.all {
+            1 => ("the arc", ""),
+            _ => ("these arcs", ": no order fits"),
+        };
+        say!(self; "the f lines with these ends add up to {}, outside of {} to {}, what {} can carry{}\n",
+            sum, parallel.low, parallel.cap, what, so);
         Ok(())
     }
 
@@ -292,18 +279,15 @@ impl<'a, A: Reopen> Explanation<'a, A> {
     /// Writes whether the supplies or a node's arcs show that no flow is feasible, and what decides it if the flow 0 isn't.
     fn write_feasible(&mut self, instance: TextFile<'a>, node: u32) -> Said<'a> {
         let min = self.min_instance()?;
-        let (sums, supply) = (min.supply_sums(), i128::from(min.supply(node)));
-        let all = sums.supplied.saturating_sub(sums.demanded);
-        let (least, most) = range_at(min.network(), node);
-        let mut why = "to show it by a set";
         let (alloc, nodes) = (self.page.alloc, min.network().nodes());
-        if all != 0 && shows_no_flow(&min, &all_nodes(alloc, nodes)?) {
-            say!(self; "the supplies add up to {}, and not to 0", all);
+        let (every, one) = (all_nodes(alloc, nodes)?, one_node(alloc, nodes, node)?);
+        let mut why = "to show it by a set";
+        if shows_no_flow(&min, &every) {
+            say!(self; "the supplies add up to {}, and not to 0", supply_in(&min, &every));
             self.write_no_flow(&min);
-        } else if (supply < least || supply > most)
-            && shows_no_flow(&min, &one_node(alloc, nodes, node)?)
-        {
-            say!(self; "the arcs of node {} can carry {} to {} out of it", Node(node), least, most);
+        } else if shows_no_flow(&min, &one) {
+            let across = bounds_across(&min, &one);
+            say!(self; "the arcs of node {} can carry {} to {} out of it", Node(node), across.least, across.most);
             self.write_no_flow(&min);
         } else {
             why = "to find out whether any flow is feasible";

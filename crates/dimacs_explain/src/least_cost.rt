@@ -115,7 +115,7 @@ impl<'a, A: Reopen> Explanation<'a, A> {
         if self.write_bound(&fixed, &least) {
             self.write_least(min, solution, potentials);
         }
-        self.write_tight(min.network(), potentials);
+        self.write_tight(min, solution, potentials);
     }
 
     /// Writes that a flow costs least by the opposite of potentials that don't show it, if that is so.
@@ -185,8 +185,16 @@ impl<'a, A: Reopen> Explanation<'a, A> {
         true
     }
 
-    /// Writes on which arcs another flow of this cost can differ: the others carry the bound that is paid least.
-    fn write_tight<N: Network>(&mut self, network: &N, potentials: &Potentials) {
+    /// Writes on which arcs another flow of this cost can differ.
+    fn write_tight<N: Network>(
+        &mut self,
+        min: &MinInstance<N>,
+        solution: &Solution,
+        potentials: &Potentials,
+    )
+        requires { ShowsLeast min.now (claimed solution.now) potentials.now }
+    {
+        let network = min.network();
         let mut list = Prose::new(self.page.alloc);
         let mut count = 0u64;
         for i in 0..network.arcs() {
@@ -198,11 +206,7 @@ impl<'a, A: Reopen> Explanation<'a, A> {
                 }
             }
         }
-        if count == 0 {
-            return say!(self; "no arc has r = 0: no other flow costs as little\n");
-        }
-        say!(self; "another flow of this cost can differ only on arcs with r = 0, {} of {}:",
-            count, u64::from(network.arcs()));
+        self.write_same_cost(min, solution, potentials, count);
         self.page.out.append(&list);
         say!(self; if count > SHOWN { " ..\n" } else { "\n" });
     }

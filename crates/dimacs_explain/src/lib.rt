@@ -1,5 +1,5 @@
-//! Explains answers: prints the numbers that a failed test compares, or those that show a yes. Nothing is proved about the
-//! content of these lines.
+//! Explains answers: prints the numbers that a failed test compares, or those that show a yes. A sentence that asserts
+//! more is written by a function of `facts`, which requires what it asserts. Nothing else is proved of these lines.
 //!
 //! For `dimacs_runs`, which runs `dimacs explain COMMAND FILE...`.
 #![tactic(auto)]
@@ -8,7 +8,6 @@ mod better;
 mod blocks;
 mod claims;
 mod crossing;
-mod cycles;
 mod explanation;
 mod facts;
 mod flows;

@@ -1,11 +1,15 @@
 //! Explains the tests of labels, distances and queries.
 
+ghost use Rattle.dimacs_facts.specs.Walks.{AreWalksFrom};
+
 use crate::blocks::{ArcInto, Unreached, failing_ends, first_unreached, lightest};
 use crate::explanation::Explanation;
 use crate::flows::arc_of;
 use crate::routes::REACHED;
-use dimacs_facts::{first_too_near, walks_from};
+use crate::sums::Sum;
+use dimacs_facts::{Walks, first_too_near, is_negative_cycle, walks_from};
 use dimacs_lines::Memory;
+use dimacs_network::Network;
 use dimacs_quote::Value::{Arc, Node};
 use dimacs_quote::{OrStop, Reopen, Said, TextFile, Wanted, say};
 use dimacs_records::TextKind;
@@ -72,6 +76,24 @@ impl<'a, A: Reopen> Explanation<'a, A> {
             None => say!(self; ", and has no {}\n", name),
         }
         self.write_cycle(network, ends.source, &walks)
+    }
+
+    /// Writes the negative cycle that was found with walks from a source, if one was.
+    fn write_cycle<N: Network>(&mut self, network: &N, source: u32, walks: &Walks) -> Said<'a>
+        requires { AreWalksFrom (N.list network.now) source walks.now }
+    {
+        let cycle = walks.cycle(self.page.alloc, network)?;
+        if !is_negative_cycle(network, walks, &cycle) {
+            return Ok(());
+        }
+        let mut weights = Sum::new(self.page.alloc);
+        for index in cycle {
+            if index < network.arcs() {
+                weights.add_arc(index, network.arc(index), "WEIGHT");
+            }
+        }
+        self.write_negative_cycle(network, source, &weights);
+        Ok(())
     }
 
     fn arcs_into(&self, node: u32) -> OrStop<'a, Vec<ArcInto>> {

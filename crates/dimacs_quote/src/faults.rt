@@ -57,7 +57,7 @@ impl<'a, A: Reopen> Page<'a, A> {
         }
     }
 
-    /// Names the kind of a text that isn't of the kind that is wanted. Returns whether its file is exchanged with another.
+    /// Names the kind of a text that isn't of the kind that is wanted. Returns whether there is no more to say.
     fn write_other_kind(&mut self, fault: &FaultLine<'a>, other: &str) -> bool {
         let (text, wanted) = (fault.text, kind_words(fault.text.kind));
         say!(self; "the line is that of {}, in the place of {}\n", other, wanted);
