@@ -8,10 +8,12 @@ the bytes.
 
 Prints and writes what the judge does, and ends with its status; with 5 also if the answer isn't accepted, and says so.
 """
+import contextlib
 import hashlib
 import os
 import re
 import shutil
+import signal
 import subprocess
 import sys
 import tempfile
@@ -24,17 +26,16 @@ SEARCHES = {"max": "(_ : max_instance) (_ : flow)", "min": "(_ : min_instance) (
 SEARCHES |= {"infeasible": "(_ : min_instance)", "paths": "(_ : network) (_ : labelling)"}
 COUNTS = {"max": 3, "min": 3, "infeasible": 2, "paths": 3} | {f"certify-{it}": 2 for it in SEARCHES} | {"certify-infeasible": 1}
 
-# What a yes means, and how that follows from the judge's promise. Of the judge's paths, and of a no, the promise says it.
-FLOW = "exists i s, read {0}_texts first = inr i /\\ read solution_texts second = inr s\n  /\\ {1} i (claimed_flow i s) /\\ {2} = claimed s"
+# What a yes means. Of the judge's paths, and of a no, the promise says it.
+FLOW = "exists i s, read {0}_texts first = inr i /\\ read solution_texts second = inr s\n  /\\ {1} i (claimed_flow i s) /\\ {2} = NUMBER"
 MEANT = {
     "max": FLOW.format("max", "maximum", "value i (claimed_flow i s)"),
     "min": FLOW.format("min", "least", "total_cost (claimed_flow i s)"),
     "infeasible": "exists i, read min_texts first = inr i /\\ no_flow i",
-    "certify-paths": "exists g l, read graph_texts first = inr g /\\ read distances_texts second = inr l\n"
-    "  /\\ forall c, In c (blocks l) -> are_distances g (start c) (label_in c)",
 }
-PROVED = {"max": "(i & s & ? & R & S & ? & M & V & ?). exists i, s. exact (conj R (conj S (conj M V)))"}
-PROVED |= {"min": PROVED["max"], "infeasible": "(i & ? & R & ? & N & ?). exists i. exact (conj R N)"}
+MEANT |= {f"certify-{command}": meant for command, meant in MEANT.items()}
+MEANT["certify-paths"] = """exists g l, read graph_texts first = inr g /\\ read distances_texts second = inr l
+  /\\ forall c, In c (blocks l) -> are_distances g (start c) (label_in c)"""
 
 # The first line of a file that is kept: no other file is replaced.
 MARK = "(* kernel.py of dimacs has written this file, and Coq has accepted it. *)\n"
@@ -43,7 +44,8 @@ HEAD = """(* It is about these files, by their SHA-256:
    To check it, with the sources of dimacs: make referee; coqc -R build/referee Dimacs {name}
    Coq prints what the theorem `meaning` below says, and on which axioms it rests: none, but for primitive integers
    where a text is long or has odd bytes. To believe it read referee/proof/Flows.v, what it says of an instance, and
-   referee/proof/Texts.v, which instance bytes spell. *)
+   referee/proof/Texts.v, which instance bytes spell. If another gave you this file, have kernel.py make it again
+   from your own texts. *)
 
 From Coq Require Import Uint63.
 From Dimacs Require Import Kernel.
@@ -56,10 +58,14 @@ Open Scope string_scope.
 PLAIN, PIECE, LINES = 20_000, 3_500, 200
 is_plain = re.compile(rb"[\t\n -~]*").fullmatch
 
-# What a report is made of: only that goes into the file. And what may be assumed.
-is_report = re.compile(rb"(?:(?:[A-Za-z]+|-?[0-9]+)(?: (?:[A-Za-z]+|-?[0-9]+))*\n)*").fullmatch
+# What a report is made of, each number spelt in one way: only that goes into the file. And what may be assumed.
+PART = rb"(?:[A-Za-z]+|0|-?[1-9][0-9]*)"
+is_report = re.compile(rb"(?:%b(?: %b)*\n)*" % (PART, PART)).fullmatch
 NOTHING_ASSUMED = "Closed under the global context\n"
 INTEGERS = {"Axioms:", "lsr : int -> int -> int", "land : int -> int -> int", "int : Set", "PrimInt63.eqb : int -> int -> bool"}
+
+
+SIGNALS = signal.SIGINT, signal.SIGTERM, signal.SIGHUP
 
 
 class Failed(Exception):
@@ -106,28 +112,53 @@ def claim(command, texts, status, output, made, found):
     answer = f"Some ({'false' if status else 'true'}, {said})"
     yield f"Theorem answer : report_of (run_on {function} [{'; '.join([*names, '[]', '[]'][:3])}])\n  = {answer}.\n"
     yield f"Proof. vm_cast_no_check (eq_refl ({answer})). Qed.\n\n"
-    promise = f"{'no' if status and not certified else 'yes' if certified and not status else 'promise'}_{command.replace('-', '_')} {given}answer"
-    meant = MEANT.get(command, MEANT.get(command[len("certify-") :] if certified else ""))
-    if status or not meant:
-        yield f"Definition meaning := {promise}.\n"
+    name = command.replace("-", "_")
+    if status or command not in MEANT:
+        yield f"Definition meaning := {'no' if status and not certified else 'promise'}_{name} {given}answer.\n"
     else:
-        proof = f"exact ({promise})" if certified else f"destruct ({promise}) as {PROVED[command]}"
-        yield f"Theorem meaning : {meant}.\nProof. {proof}. Qed.\n"
+        proof = f"yes_{name} search" if certified else f"yes_judge_{name}"
+        meant = MEANT[command].replace("NUMBER", f"({[b'0', *output.split()][-1].decode()})")
+        yield f"Theorem meaning : {meant}.\nProof. exact ({proof} answer). Qed.\n"
     yield "Check meaning.\n"
 
 
-def content(name):
+@contextlib.contextmanager
+def trying(name, what):
+    """Where this fails, a message that names it."""
     try:
-        with open(name, "rb") as it:
-            return it.read()
+        yield
     except OSError as error:
-        raise Failed(3, f"{name}: cannot be read: {error.strerror} (os error {error.errno})") from error
+        raise Failed(3, f"device fault\nkernel: {name}: cannot be {what}: {error.strerror} (os error {error.errno})") from error
+
+
+def content(name):
+    with trying(name, "read"), open(name, "rb") as it:
+        return it.read()
+
+
+def write(device, data):
+    """Writes all, and keeps nothing that Python would write at its end."""
+    while data:
+        data = data[os.write(device, data) :]
+
+
+def complain(message):
+    """What can't be said changes no status."""
+    with contextlib.suppress(OSError):
+        write(2, os.fsencode(f"kernel: {message}\n"))
+
+
+def answered(name, status, said):
+    """Refuses a program that a signal ended, or that had no memory or no room."""
+    if status < 0 or re.search("Out of memory|Stack overflow|System error", said):
+        raise Failed(4, f"{name} ended without an answer: {signal.strsignal(-status) if status < 0 else said[-500:]}")
 
 
 def run_judge(word, folder, count, made):
     """The judge's status, what it printed, and what it wrote into a file, of the texts in a folder."""
     words = [f"{BUILT}/judge", word, *"123"[:count], *made]
     ran = subprocess.run(words, cwd=folder, stdin=subprocess.DEVNULL, capture_output=True, check=False)
+    answered("the judge", ran.returncode, "")
     wrote = b"".join(content(f"{folder}/{it}") for it in made if os.path.exists(f"{folder}/{it}"))
     if ran.returncode in (3, 4):
         raise Failed(ran.returncode, ran.stderr.decode(errors="replace").strip())
@@ -141,17 +172,19 @@ def run_judge(word, folder, count, made):
 def accepted(folder, size):
     """What Coq says of Claim.v in a folder. From a second on, it is said how long this takes."""
     words = ["coqc", "-q", "-R", BUILT, "Dimacs", "Claim.v"]
-    with subprocess.Popen(words, cwd=folder, stdout=subprocess.PIPE, stderr=subprocess.STDOUT) as ran:
+    with subprocess.Popen(words, cwd=folder, stdin=subprocess.DEVNULL, stdout=subprocess.PIPE, stderr=subprocess.STDOUT) as ran:
         seconds, said = 1, None
-        while said is None:
-            try:
-                said, _ = ran.communicate(timeout=10 if seconds > 1 else 1)
-            except subprocess.TimeoutExpired:
-                print(f"kernel: Coq checks {size:,} bytes: {seconds} s", file=sys.stderr, flush=True)
-                seconds += 10
+        try:
+            while said is None:
+                with contextlib.suppress(subprocess.TimeoutExpired):
+                    said, _ = ran.communicate(timeout=10 if seconds > 1 else 1)
+                if said is None:
+                    complain(f"Coq checks {size:,} bytes: {seconds} s")
+                    seconds += 10
+        finally:
+            ran.kill()
     said = said.decode(errors="replace")
-    if ran.returncode < 0 or re.search("Out of memory|Stack overflow", said):
-        raise Failed(4, f"Coq ended without an answer: {said[-500:]}")
+    answered("Coq", ran.returncode, said)
     if ran.returncode:
         raise Failed(5, f"Coq doesn't accept the answer: {said[-1000:]}")
     return said
@@ -216,24 +249,38 @@ def checked(command, names, certificate, keep, folder):
         raise Failed(status_, f"{message.strip()}\nkernel: the judge ended with {status}, and printed {output[:200]!a}") from failed
     for name, source in ((certificate if made else None, "made"), (keep, "Claim.v")):
         if name:
-            try:
-                shutil.copyfile(f"{folder}/{source}", name)
-            except OSError as error:
-                raise Failed(3, f"{name}: cannot be written: {error.strerror} (os error {error.errno})") from error
-    return status, output.decode()
+            with trying(name, "written"), open(name, "wb") as it:
+                it.write(content(f"{folder}/{source}"))
+    return status, output
+
+
+def ended(number, _):
+    """Ends by a signal, once: what runs is ended, and the folder removed."""
+    for it in SIGNALS:
+        signal.signal(it, signal.SIG_IGN)
+    sys.exit(128 + number)
 
 
 def main():
+    while os.open(os.devnull, os.O_RDONLY) <= 2:
+        pass  # No file that is opened later takes the place of a standard device that is closed.
+    for it in SIGNALS:
+        if signal.getsignal(it) != signal.SIG_IGN:
+            signal.signal(it, ended)
     try:
         with tempfile.TemporaryDirectory() as folder:
             status, output = checked(*parted(sys.argv[1:]), folder)
-        sys.stdout.write(output)
-        sys.stdout.flush()
+        with trying("standard output", "written"):
+            write(1, output)
     except Failed as failed:
         status, message = failed.args
-        print(f"kernel: {message}", file=sys.stderr)
-    except KeyboardInterrupt:
-        status = 130
+        complain(message)
+    except OSError as error:
+        status = 3
+        complain(f"device fault\nkernel: {error}")
+    except MemoryError:
+        status = 4
+        complain("out of memory")
     sys.exit(status)
 
 

@@ -3,6 +3,7 @@
 
 It answers the examples as the program does, each command with a yes and a no. A judge that lies, prints what no report has,
 or rests on an axiom, ends with 5. Of 60 spoiled texts Coq accepts the program's answers. --keep replaces no other's file.
+Without room for files it ends with 3 or 4, and by a signal it leaves nothing. tests/referee.py closes its devices.
 
 BINARY is the built program; crates/dimacs/out/dimacs by default. Without Coq all is left out.
 """
@@ -13,6 +14,7 @@ import shutil
 import subprocess
 import sys
 import tempfile
+import time
 
 import scripts
 from instances import BINARY, MEMORY, Folder
@@ -47,6 +49,8 @@ LIES = [
     ("max", 'v "max 12\n', "", 0, "no report has"),
     ("max", f"v max {AXIOM}\n", "", 0, "no report has"),
     ("max", "v max 12", "", 0, "no report has"),
+    ("max", "v max 0012\n", "", 0, "no report has"),
+    ("max", "", "", 0, "doesn't accept"),
     ("max", "v max 12\n", "", 7, "ends with 7"),
 ]
 
@@ -166,6 +170,7 @@ def keeping():
         yield "a theorem is kept", answer[:2] == (0, "v max 12\n") and is_named, answer
         alone = ran(["coqc", "-R", BUILT, "Dimacs", "Kept.v"], folder)
         yield "it is accepted alone", alone[0] == 0 and "maximum i" in alone[1] and alone[1].endswith(kernel.NOTHING_ASSUMED), alone
+        yield "it says the value", "value i (claimed_flow i s) = 12\n" in alone[1], alone
         yield "it is replaced", checked([*words, "--keep", "Kept.v"], folder)[0] == 0, ""
         files.write("Mine.v", kept[1:])
         os.symlink("nowhere", f"{folder}/Link.v")
@@ -181,8 +186,29 @@ def keeping():
         for wrong in ("", "max", "max a b c d", "certify-max a", "other a b c", "certify-max a b --keep"):
             answer = checked(wrong.split(), folder)
             yield f"usage of {wrong!r}", answer[:2] == (2, ""), answer
+        answer = checked([*words, "/dev/stdout"], folder)
+        yield "the certificate into a pipe", answer[:2] == (0, "p cut 5 3\nu 1\nu 2\nu 3\nv max 12\n"), answer
+        for blocks, status in (0, 3), (10, 4):
+            limited = ["sh", "-c", f'ulimit -f {blocks}; exec "$@"', "sh", sys.executable, kernel.__file__, *words]
+            answer = ran(limited, folder)
+            yield f"files of {blocks} blocks", answer[:2] == (status, ""), answer
         answer = checked(["certify-max", "absent", names[1]], folder)
         yield "a file that isn't there", answer[:2] == (3, "") and "absent: cannot be read" in answer[2], answer
+
+
+def is_ended_by_a_signal():
+    """Whether SIGTERM, sent twice as by timeout, also ends coqc, here a script that waits, and no folder is left."""
+    with tempfile.TemporaryDirectory(dir=MEMORY) as folder, tempfile.TemporaryDirectory(dir=MEMORY) as left:
+        Folder(folder).write("coqc", f"#!/bin/sh\necho $$ >{folder}/new\nmv {folder}/new {folder}/number\nexec sleep 60\n")
+        os.chmod(f"{folder}/coqc", 0o755)
+        how = os.environ | {"PATH": f"{folder}:{os.environ['PATH']}", "TMPDIR": left}
+        with subprocess.Popen([sys.executable, kernel.__file__, "certify-max", *PIPES[:2]], stderr=subprocess.DEVNULL, env=how) as it:
+            while it.poll() is None and not os.path.exists(f"{folder}/number"):
+                time.sleep(0.01)
+            it.terminate()
+            it.terminate()
+        is_running = os.path.exists(f"/proc/{Folder(folder).read('number').strip()}")
+        return (it.returncode, is_running, os.listdir(left)) == (143, False, []), (it.returncode, is_running, os.listdir(left))
 
 
 def main():
@@ -193,7 +219,7 @@ def main():
     with concurrent.futures.ThreadPoolExecutor(4) as pool:
         jobs = [(it, pool.submit(like_the_program, binary, it.split())) for it in EXAMPLES.strip().replace("\n", " | ").split(" | ")]
         jobs += [(str(it), pool.submit(is_caught, *it)) for it in LIES]
-        jobs += [("an axiom", pool.submit(axiom_is_caught))]
+        jobs += [("an axiom", pool.submit(axiom_is_caught)), ("a signal", pool.submit(is_ended_by_a_signal))]
         jobs += [(f"spoiled texts from {it} on", pool.submit(are_accepted, binary, it)) for it in range(4)]
         for name, it in jobs:
             is_right, answer = it.result()

@@ -27,7 +27,8 @@ from instances import BINARY, MEMORY, refusing_library
 from rows import TEXTS, Runs, certifiers, rows
 from second_proof import built_judge
 from spoiled_texts import JUDGES, KINDS, judged_texts
-import referee  # the folder of which spoiled_texts.py adds to the path
+import kernel  # the folder of which spoiled_texts.py adds to the path
+import referee
 
 WORKERS = 4
 
@@ -214,6 +215,7 @@ def ended(words, how, folder):
         os.close(pipe)
     else:
         answer = run([*["sh", "-c", f'"$@" {how}', "sh"], *words] if how else words, folder)
+    answer = *answer[:2], [it for it in answer[2] if not it.startswith("Coq checks")]
     made = Texts(folder).taken("made")
     return answer, made, {name: Texts(folder).read(name) for name in FILES if name != "many"}
 
@@ -230,11 +232,11 @@ def compare_commands(binary, second):
         os.symlink("flow", os.path.join(folder, "linked"))
         for kind, words, how in runs:
             proved = ended([binary, *(f"{kind}-{words}" if words else "").split()], how, folder)
-            plain = ended([sys.executable, referee.__file__, *words.split()], how, folder) if kind == "judge" else proved
-            again = ended([second, *[words, f"certify-{words}"][kind == "certify"].split()], how, folder) if second else plain
-            if not proved == plain == again:
-                answers = f"the program {proved}, the referee {plain}, the judge in Coq {again}"
-                failures.append(f"{kind}-{words!a} {how}: {answers}"[:2000])
+            others = [[sys.executable, referee.__file__, *words.split()]] if kind == "judge" else []
+            programs = [[second], *([[sys.executable, kernel.__file__]] if how else [])] if second else []
+            others += [[*it, *(words if kind == "judge" else f"certify-{words}").split()] for it in programs]
+            answers = [ended(it, how, folder) for it in others]
+            failures += [f"{kind}-{words!a} {how}: the program {proved}, {it}" for it in zip(others, answers) if it[1] != proved]
     return len(runs), failures
 
 
