@@ -211,21 +211,23 @@ def refused_calls(judge, texts):
 
 GONE = 4, "", ["out of memory"]
 PATH = 100_001
-LONG_PATH = f"p min {PATH} {PATH - 1}\nn 1 {PATH - 1}\n" + "".join(f"n {v} -1\n" for v in range(2, PATH + 1))
-LONG_PATH += "".join(f"a {v} {v + 1} 0 {PATH} 1\n" for v in range(1, PATH))
+ARCS = [f"a {v} {v + 1} 0 {PATH} 1\n" for v in range(1, PATH)]
+SPREAD = f"p min {PATH} {PATH - 1}\nn 1 {PATH - 1}\n" + "".join([*(f"n {v} -1\n" for v in range(2, PATH + 1)), *ARCS])
+GATHERED = f"p min {PATH} {PATH - 1}\nn {PATH} {1 - PATH}\n" + "".join([*(f"n {v} 1\n" for v in range(1, PATH)), *reversed(ARCS)])
 LIMITED = [
     ("paths gr many dist", "v 1 1 0\n" * 20_000, "-v", range(12_000, 40_000, 1_000)),
     ("certify-max max flow made", "v max 1\n", "-v", range(12_000, 40_000, 1_000)),
-    ("certify-infeasible path made", "x instance 0 0 Feasible\n", "-t", [30]),
+    ("certify-infeasible spread made", "x instance 0 0 Feasible\n", "-t", [30]),
+    ("certify-infeasible gathered made", "x instance 0 0 Feasible\n", "-t", [30]),
 ]
 
 
 def limited_runs(judge, texts):
     """How many runs there were with these limits, and what was wrong with which: where memory is gone, nothing is printed
-    or written; a path with a deficit at each node isn't walked once for each."""
+    or written; a path with a deficit at each node, or a supply, isn't walked once for each."""
     runs, failures = 0, []
     with tempfile.TemporaryDirectory(dir=MEMORY) as folder:
-        for name, text in (texts | {"path": LONG_PATH}).items():
+        for name, text in (texts | {"spread": SPREAD, "gathered": GATHERED}).items():
             Texts(folder).write(name, text)
         for words, printed, kind, limits in LIMITED:
             whole = (int(printed[0] == "x"), printed, []), "made" in words

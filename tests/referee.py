@@ -236,7 +236,9 @@ def compare_commands(binary, second):
             programs = [[second], *([[sys.executable, kernel.__file__]] if how else [])] if second else []
             others += [[*it, *(words if kind == "judge" else f"certify-{words}").split()] for it in programs]
             answers = [ended(it, how, folder) for it in others]
-            failures += [f"{kind}-{words!a} {how}: the program {proved}, {it}" for it in zip(others, answers) if it[1] != proved]
+            for program, it in zip(others, answers):
+                if it != proved:
+                    failures.append(f"{kind}-{words!a} {how}: the program {proved[:2]}, {program[-2:]} {it[:2]}"[:2000])
     return len(runs), failures
 
 

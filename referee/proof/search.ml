@@ -164,32 +164,60 @@ let min (i : min_instance) (x : flow) =
       ignore (push_all g x (room g x (List.hd path)) path);
       solution_of g x (cost_of g x)
 
-(* One round of Dinic: along shortest paths from the nodes that have to send more to those that send too much. What comes to a
-   node goes on over all arcs to the next level before the rest goes back, so a long path with many ends is walked once. *)
-let push_round g x more (via, nodes) =
-  let level = Array.make (size g) (-1) and next = Array.copy g.first and into = Array.make (size g) (-1) in
-  let most = Array.make (size g) Z.zero and sent = Array.make (size g) Z.zero in
-  Array.iter (fun v -> level.(v) <- if via.(v) = -1 then 0 else level.(from g via.(v)) + 1) nodes;
-  let left v = Z.sub most.(v) sent.(v) in
-  let rec come v r n =
-    let kept = if Z.sign more.(v) < 0 then Z.min n (Z.neg more.(v)) else Z.zero in
-    more.(v) <- Z.add more.(v) kept;
-    most.(v) <- n; sent.(v) <- kept; into.(v) <- r;
-    go_on v
-  and go_on v =
-    if Z.sign (left v) > 0 && next.(v) < g.first.(v + 1) then begin
+(* For each node the least number of residual arcs to a node that sends too much, or n. *)
+let heights_of g x more =
+  let n = size g in
+  let height = Array.make n n and queue = Queue.create () in
+  let reach v it = if height.(v) = n then (height.(v) <- it; Queue.add v queue) in
+  Array.iteri (fun v it -> if Z.sign it < 0 then reach v 0) more;
+  while not (Queue.is_empty queue) do
+    let v = Queue.pop queue in
+    for j = g.first.(v) to g.first.(v + 1) - 1 do
+      let r = g.out.(j) in
+      if has_room g x (r lxor 1) then reach (goal g r) (height.(v) + 1)
+    done
+  done;
+  height
+
+(* Pushes what nodes have to send more along arcs that go down by 1 in height (Goldberg and Tarjan), until no node that sends too
+   much can be reached. Nodes go in waves, each from the highest down, and are raised for the next wave if something is left at
+   them. Heights are counted anew when that takes no more than the work since. *)
+let rec push_down g x more =
+  let n = size g in
+  let height = heights_of g x more and next = Array.sub g.first 0 n and waiting = Array.make n [] in
+  let at = ref (-1) and top = ref (-1) and work = ref 0 in
+  let wait v =
+    let h = height.(v) in
+    if h < n then (waiting.(h) <- v :: waiting.(h); top := Stdlib.max !top h) in
+  let send v r =
+    let w = goal g r and amount = Z.min more.(v) (room g x r) in
+    let is_new = Z.sign more.(w) <= 0 in
+    push x amount r;
+    more.(v) <- Z.sub more.(v) amount;
+    more.(w) <- Z.add more.(w) amount;
+    if is_new && Z.sign more.(w) > 0 then wait w in
+  let above least r = if has_room g x r then Stdlib.min least (height.(goal g r) + 1) else least in
+  let empty v =
+    while Z.sign more.(v) > 0 && next.(v) < g.first.(v + 1) do
       let r = g.out.(next.(v)) in
-      if level.(goal g r) = level.(v) + 1 && has_room g x r then come (goal g r) r (Z.min (left v) (room g x r))
-      else (next.(v) <- next.(v) + 1; go_on v)
-    end
-    else if into.(v) <> -1 then begin
-      let u = from g into.(v) in
-      push x sent.(v) into.(v);
-      sent.(u) <- Z.add sent.(u) sent.(v);
-      if Z.sign (left v) > 0 then next.(u) <- next.(u) + 1;
-      go_on u
+      if height.(v) = height.(goal g r) + 1 && has_room g x r then send v r else next.(v) <- next.(v) + 1
+    done;
+    if Z.sign more.(v) > 0 then begin
+      let degree = g.first.(v + 1) - g.first.(v) in
+      height.(v) <- Array.fold_left above n (Array.sub g.out g.first.(v) degree);
+      next.(v) <- g.first.(v);
+      work := !work + degree;
+      wait v
     end in
-  Array.iter (fun v -> if via.(v) = -1 then (come v (-1) more.(v); more.(v) <- Z.sub more.(v) sent.(v))) nodes
+  Array.iteri (fun v it -> if Z.sign it > 0 then wait v) more;
+  while Stdlib.max !at !top >= 0 && !work <= n + Array.length g.out do
+    incr work;
+    if !at < 0 then (at := !top; top := -1)
+    else match waiting.(!at) with
+    | [] -> decr at
+    | v :: rest -> waiting.(!at) <- rest; empty v
+  done;
+  if Stdlib.max !at !top >= 0 then push_down g x more
 
 (* A feasible flow, or the set of nodes that can be reached from those that have to send more. *)
 let infeasible (i : min_instance) =
@@ -198,16 +226,12 @@ let infeasible (i : min_instance) =
   let add v amount = more.(v) <- Z.add more.(v) amount in
   List.iter (fun (id, supply) -> add (Option.get (number_of g id)) supply) i.supplies;
   Array.iteri (fun k a -> add g.tails.(k) (Z.neg a.low); add g.heads.(k) a.low) g.arcs;
+  push_down g x more;
   let are_sources sign = List.filter (fun v -> Z.sign more.(v) = sign) (List.init (size g) Fun.id) in
-  let rec rounds () =
-    match are_sources 1, are_sources (-1) with
-    | [], [] -> solution_of g x (cost_of g x)
-    | [], _ -> cut_of g i.min_network (Array.init (size g) Fun.id)
-    | sources, _ ->
-        let via, nodes = reached g x sources in
-        if Array.for_all (fun v -> Z.sign more.(v) >= 0) nodes then cut_of g i.min_network nodes
-        else (push_round g x more (via, nodes); rounds ()) in
-  rounds ()
+  match are_sources 1, are_sources (-1) with
+  | [], [] -> solution_of g x (cost_of g x)
+  | [], _ -> cut_of g i.min_network (Array.init (size g) Fun.id)
+  | sources, _ -> cut_of g i.min_network (snd (reached g x sources))
 
 (* ---- Distances *)
 
