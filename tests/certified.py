@@ -214,11 +214,16 @@ PATH = 100_001
 ARCS = [f"a {v} {v + 1} 0 {PATH} 1\n" for v in range(1, PATH)]
 SPREAD = f"p min {PATH} {PATH - 1}\nn 1 {PATH - 1}\n" + "".join([*(f"n {v} -1\n" for v in range(2, PATH + 1)), *ARCS])
 GATHERED = f"p min {PATH} {PATH - 1}\nn {PATH} {1 - PATH}\n" + "".join([*(f"n {v} 1\n" for v in range(1, PATH)), *reversed(ARCS)])
+# A path, each node of which lowers a hub more than the one before, in an order in which the hub's label could fall as often.
+HUB = 40_000
+FALLING = f"p min {2 * HUB - 1} {3 * HUB - 4}\n" + "".join(f"a {v} {v + 1} 0 1 -1\n" for v in range(HUB - 2, 0, -1))
+FALLING += "".join(f"a {v} {HUB} 0 1 {-v}\na {HUB} {HUB + v} 0 1 -1\n" for v in range(1, HUB))
 LIMITED = [
     ("paths gr many dist", "v 1 1 0\n" * 20_000, "-v", range(12_000, 40_000, 1_000)),
     ("certify-max max flow made", "v max 1\n", "-v", range(12_000, 40_000, 1_000)),
     ("certify-infeasible spread made", "x instance 0 0 Feasible\n", "-t", [30]),
     ("certify-infeasible gathered made", "x instance 0 0 Feasible\n", "-t", [30]),
+    ("certify-min falling zero made", "v min 0\n", "-t", [30]),
 ]
 
 
@@ -227,7 +232,7 @@ def limited_runs(judge, texts):
     or written; a path with a deficit at each node, or a supply, isn't walked once for each."""
     runs, failures = 0, []
     with tempfile.TemporaryDirectory(dir=MEMORY) as folder:
-        for name, text in (texts | {"spread": SPREAD, "gathered": GATHERED}).items():
+        for name, text in (texts | {"spread": SPREAD, "gathered": GATHERED, "falling": FALLING}).items():
             Texts(folder).write(name, text)
         for words, printed, kind, limits in LIMITED:
             whole = (int(printed[0] == "x"), printed, []), "made" in words

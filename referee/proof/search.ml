@@ -138,18 +138,34 @@ let labels_of g x =
     label.(v) <- it; via.(v) <- r; depth.(v) <- depth.(u) + 1;
     after.(v) <- after.(u); before.(v) <- u; before.(after.(u)) <- v; after.(u) <- v;
     if not queued.(v) then (queued.(v) <- true; Queue.add v queue) in
-  while not (Queue.is_empty queue) do
-    let u = Queue.pop queue in
-    queued.(u) <- false;
-    if depth.(u) > 0 then
-      for j = g.first.(u) to g.first.(u + 1) - 1 do
-        let r = g.out.(j) in
-        if has_room g x r then begin
-          let v = goal g r and it = Z.add label.(u) (cost r) in
-          if Z.lt it label.(v) then lower r u v it
-        end
-      done
-  done;
+  let lowers u r = has_room g x r && Z.lt (Z.add label.(u) (cost r)) label.(goal g r) in
+  let scan u =
+    for j = g.first.(u) to g.first.(u + 1) - 1 do
+      let r = g.out.(j) in
+      if lowers u r then lower r u (goal g r) (Z.add label.(u) (cost r))
+    done in
+  (* The nodes of the queue, and those that they lower in turn, each before those that it lowers, but on cycles. So without cycles
+     two rounds are enough (Goldberg and Radzik). *)
+  let seen = Array.make n 0 and next = Array.make n 0 in
+  let in_order round =
+    let order = ref [] in
+    let rec visit stack = function
+      | v when seen.(v) < round -> seen.(v) <- round; next.(v) <- g.first.(v); go_on (v :: stack)
+      | _ -> go_on stack
+    and go_on = function
+      | [] -> ()
+      | u :: below when next.(u) = g.first.(u + 1) -> order := u :: !order; go_on below
+      | u :: _ as stack ->
+          let r = g.out.(next.(u)) in
+          next.(u) <- next.(u) + 1;
+          if lowers u r then visit stack (goal g r) else go_on stack in
+    Queue.iter (fun v -> if queued.(v) && depth.(v) > 0 then visit [] v else queued.(v) <- false) queue;
+    Queue.clear queue;
+    !order in
+  let rec rounds k =
+    List.iter (fun u -> if queued.(u) then (queued.(u) <- false; if depth.(u) > 0 then scan u)) (in_order k);
+    if not (Queue.is_empty queue) then rounds (k + 1) in
+  rounds 1;
   label
 
 (* Potentials, or less cost along one cycle. *)
