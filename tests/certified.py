@@ -24,8 +24,10 @@ COMMANDS = ["max", "min", "infeasible", "paths"]
 ANSWERS = ["max: v", "max: NotMaximum", "min: v", "min: NotLeast", "min: CostRange", "infeasible: v", "infeasible: Feasible"]
 ANSWERS += ["paths: v", "paths: NodesDiffer", "paths: NoTightArc", "paths: Escapes", "paths: NotShortest"]
 
-# How the searches of wrong_search.ml are wrong. One of them isn't noticed by any text.
+# How the searches of wrong_search.ml are wrong, and what the judge answers then if it notices.
 WRONG = ["a node less", "off by one", "another flow", "another value", "no flow", "another source", "nothing", "an exception"]
+GONE = 4, "", ["out of memory"]
+NOTICED = {it: (5, "g search\n", []) for it in WRONG} | {"no memory": GONE, "no stack": GONE}
 
 # A certificate that no claim passes, but of no nodes: its own tests come after those of the claim.
 UNFIT = {"max": "p cut 0 0\n", "min": "p pot 0 0\n"}
@@ -159,14 +161,14 @@ def wrong_searches(program, count):
             command = COMMANDS[number % 4]
             texts = claim(program, command, f"wrong:{number}", folder)
             right = certified(program, command, texts, folder)[0]
-            for wrong in WRONG:
+            for wrong, given in NOTICED.items():
                 answer, made = certified(judge, command, texts, folder, env=os.environ | {"WRONG": wrong})
-                gave_up = answer == (5, "g search\n", [])
+                gave_up = answer == given
                 noticed[wrong] += gave_up
                 if not gave_up and answer != right or made is not None and (gave_up or unproved(command, texts, answer, made)):
                     failures.append(f"{wrong}: certify-{command}, {number}: {answer}, {made!r} and not {right}, {texts}"[:2000])
-    failures += [f"{wrong}: never noticed" for wrong in WRONG if not noticed[wrong]]
-    return count * len(WRONG), failures
+    failures += [f"{wrong}: never noticed" for wrong in NOTICED if not noticed[wrong]]
+    return count * len(NOTICED), failures
 
 
 # ---- refused calls: what is refused, its error, and runs with what they print and make
@@ -207,9 +209,33 @@ def refused_calls(judge, texts):
     return runs, failures
 
 
+# Has each file a device of its own, with the number 1 there.
+DEVICES = """
+#include <fcntl.h>
+#include <sys/stat.h>
+int stat(const char *name, struct stat *it)
+{
+    int status = fstatat(AT_FDCWD, name, it, 0);
+    it->st_dev = it->st_ino, it->st_ino = 1;
+    return status;
+}
+int stat64(const char *, struct stat64 *) __attribute__((alias("stat")));
+"""
+
+
+def files_on_devices(judge, texts):
+    """How many runs there were with each file on another device, and what was wrong: only what is read isn't written."""
+    with tempfile.TemporaryDirectory(dir=MEMORY) as folder:
+        for name, text in (texts | {"made": "", "devices.c": f"#define _GNU_SOURCE{DEVICES}"}).items():
+            Texts(folder).write(name, text)
+        subprocess.run(["cc", "-w", "-shared", "-fPIC", "devices.c", "-o", "devices.so"], cwd=folder, check=True)
+        how = os.environ | {"LD_PRELOAD": f"{folder}/devices.so"}
+        answers = [run([judge, "certify-max", "max", "flow", it], folder, env=how)[:2] for it in ("made", "./max")]
+    return 2, [f"files on other devices: {answers}"] if answers != [(0, "v max 1\n"), (2, "")] else []
+
+
 # ---- limited runs: what is printed, and the limits: kB of memory, too few and enough, or seconds
 
-GONE = 4, "", ["out of memory"]
 PATH = 100_001
 ARCS = [f"a {v} {v + 1} 0 {PATH} 1\n" for v in range(1, PATH)]
 SPREAD = f"p min {PATH} {PATH - 1}\nn 1 {PATH - 1}\n" + "".join([*(f"n {v} -1\n" for v in range(2, PATH + 1)), *ARCS])
@@ -219,7 +245,7 @@ HUB = 40_000
 FALLING = f"p min {2 * HUB - 1} {3 * HUB - 4}\n" + "".join(f"a {v} {v + 1} 0 1 -1\n" for v in range(HUB - 2, 0, -1))
 FALLING += "".join(f"a {v} {HUB} 0 1 {-v}\na {HUB} {HUB + v} 0 1 -1\n" for v in range(1, HUB))
 LIMITED = [
-    ("paths gr many dist", "v 1 1 0\n" * 20_000, "-v", range(12_000, 40_000, 1_000)),
+    ("paths wide many apart", "v 1 1 0\n" + "".join(f"v 1 {v} unreachable\n" for v in range(2, 20_001)), "-v", range(12_000, 40_000, 1_000)),
     ("certify-max max flow made", "v max 1\n", "-v", range(12_000, 40_000, 1_000)),
     ("certify-infeasible spread made", "x instance 0 0 Feasible\n", "-t", [30]),
     ("certify-infeasible gathered made", "x instance 0 0 Feasible\n", "-t", [30]),

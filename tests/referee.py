@@ -155,7 +155,7 @@ def certify_all(binary, judge, count, seed):
     found, failures = by_workers(certified.compared, certified.COMMANDS, binary, judge, count, seed)
     failures += [f"certify-{it}: never met" for it in certified.ANSWERS if not found[it]]
     parts = [(count, failures), certified.wrong_searches(binary, 24)]
-    parts += [it(judge, FILES) for it in (certified.refused_calls, certified.limited_runs)]
+    parts += [it(judge, FILES) for it in (certified.refused_calls, certified.files_on_devices, certified.limited_runs)]
     return sum(tests for tests, _ in parts), [failure for _, some in parts for failure in some]
 
 
@@ -166,7 +166,9 @@ FILES = {
     "flow": "s 1\nf 1 2 1\n",
     "zero": "s 0\n",
     "gr": "p sp 1 0\n",
-    "many": "p aux sp p2p 20000\n" + "q 1 1\n" * 20_000,
+    "wide": "p sp 20000 0\n",
+    "many": "p aux sp p2p 20000\n" + "".join(f"q 1 {v}\n" for v in range(1, 20_001)),
+    "apart": "p dist 20000 1\nt 1 0\n",
     "dist": "p dist 1 1\nt 1 0\n",
     "cut": "p cut 2 1\nu 1\n",
     "near": "p distances 1 1\nt 1 0\n",
@@ -183,7 +185,7 @@ RUNS = [
     *["max max flow cut\udcff", "max \udcff flow cut", "--help", "max max flow --help"],
     *["max absent flow cut", "max max absent cut", "max faulty flow absent", "max absent absent absent"],
     *["max folder flow cut", "max max folder cut", "max faulty folder cut", "max max faulty folder"],
-    *["max absent1 absent2 cut", "max loop flow cut", "max flow/in flow cut", f"max {'a' * 300} flow cut", "paths gr many dist"],
+    *["max absent1 absent2 cut", "max loop flow cut", "max flow/in flow cut", f"max {'a' * 300} flow cut", "paths wide many apart"],
     # Bytes just outside of UTF-8, and just inside.
     *[f"max {name} flow cut" for name in ["\udce0\udc9f\udcbf", "\udced\udca0\udc80", "\udcf0\udc8f\udcbf\udcbf", "\udcc1\udcbf"]],
     *[f"max {name} flow cut" for name in ["\udcf4\udc90\udc80\udc80", "\u0800", "\ud7ff", "\U00010000", "\U0010ffff"]],

@@ -25,6 +25,8 @@ let wrong lines =
   | "another source" -> changed "t" (function v :: k -> more v :: k | it -> it) lines
   | "nothing" -> []
   | "an exception" -> failwith "wrong"
+  | "no memory" -> raise Out_of_memory
+  | "no stack" -> raise Stack_overflow
   | _ -> lines
 
 let of_finding = function Shown lines -> Shown (wrong lines) | Better lines -> Better (wrong lines)
