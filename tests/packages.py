@@ -432,6 +432,8 @@ def main():
     words.add_argument("--installed", action="store_true", help=argparse.SUPPRESS)  # inside of that Debian
     asked = words.parse_args()
     dist = os.path.abspath(asked.dist)
+    if not os.path.exists(f"{dist}/SHA256SUMS"):
+        sys.exit(f"there are no packages in {dist}: make dist makes them")
     if asked.root and shutil.which("debootstrap") and os.geteuid() == 0:
         return test_in_root(dist)
     if asked.root:

@@ -22,16 +22,11 @@ RECIPES = [
 ]
 
 
-def printed(words, folder):
-    ran = subprocess.run(words, cwd=folder, capture_output=True, text=True, check=False)
-    return ran.stdout + ran.stderr
-
-
 def main():
     programs = list(filter(None, [os.path.abspath((sys.argv[1:] or [BINARY])[0]), built_judge()]))
     counts = scripts.Counts()
     for recipe, build, asks, verdicts in RECIPES:
-        if subprocess.run(asks, capture_output=True, check=False).returncode:
+        if scripts.ended(asks)[0]:
             print(f"not run: {recipe}: its package isn't there")
             continue
         with tempfile.TemporaryDirectory() as folder:
@@ -40,10 +35,10 @@ def main():
             subprocess.run([*made, *(f"{it}.{command}" for command in verdicts for it in TEXTS)], cwd=folder, check=True)
             for command, verdict in verdicts.items():
                 words = [f"certify-{command}", *(f"{it}.{command}" for it in TEXTS), "made"]
-                answers = [printed([program, *words], folder) for program in programs]
+                answers = [scripts.ended([program, *words], cwd=folder)[1] for program in programs]
                 counts.expect(f"{recipe} {command}", answers == [verdict] * len(programs), answers)
     asked = [sys.executable, "-c", "import sys; sys.modules['dimacs'] = None; import command"]
-    told = printed(asked, f"{scripts.TOP}/recipes")
+    _, told = scripts.ended(asked, cwd=f"{scripts.TOP}/recipes")
     counts.expect("a missing package is a sentence", "Traceback" not in told and "lib/python" in told, told)
     counts.end()
 

@@ -6,6 +6,7 @@ and no promise may use an axiom. In copies of a file a proof is left out, an axi
 weaker statement, a test is left out: each has to be found. The search may do nothing but search. tests/referee.py compares
 what the judge answers.
 """
+import argparse
 import os
 import re
 import shutil
@@ -136,6 +137,7 @@ def built_judge():
 
 
 def main():
+    argparse.ArgumentParser(description=__doc__, formatter_class=argparse.RawDescriptionHelpFormatter).parse_args()
     if not built_judge():
         scripts.finish(1, 0)
     with tempfile.TemporaryDirectory() as folder:
