@@ -506,6 +506,19 @@ class Converted(unittest.TestCase):
         self.assertEqual((found.names[found.source - 1], dimacs.solve_max_arrays(*found).value), (2, 9))
         self.assertEqual(found.to_frame()[["source", "target"]].values.tolist(), [[2, 1], [2, 1], [2, 3], [1, 3]])
 
+    @needs("pandas")
+    def test_columns_by_arc(self):
+        """Items belong to arcs by their places, in each form, and there is one for each."""
+        flows = [8, 3, 1, 0]
+        for form in flows, iter(flows), numpy.array(flows), array("q", flows), pandas.Series(flows, [4, 3, 2, 1]):
+            self.assertEqual(self.most.to_frame(flow=form)["flow"].tolist(), flows)
+        for kind, message, flow in [
+            (ValueError, "flow has 3 items, and there are 4 arcs", pandas.Series([8, 3, 1], [1, 2, 3])),
+            (TypeError, "flow: one number, an array of 4 is wanted", 8),
+            (TypeError, "flow is a dict, whose items have no places as those of an array", {1: 8}),
+        ]:
+            self.assertRaisesRegex(kind, message, self.most.to_frame, flow=flow)
+
 
 if __name__ == "__main__":  # tests/targets.py runs it through node
     unittest.main()

@@ -25,7 +25,8 @@ from typing import Any, ClassVar, Iterator, Sequence, TypeVar, Union
 
 from . import library
 from .answers import Amounts, Ids, Marks, PastLimit
-from .buffers import IDS, MARKS, NUMBERS, Buffer, Items, Numbers, array_of, gone_through, number_of, room_of, unlabelled
+from .buffers import IDS, MARKS, NUMBERS, Buffer, Items, Numbers, array_of, gone_through, is_numpy, number_of, room_of
+from .buffers import test_array, unlabelled
 from .given import DISTANCES, FLOWS, FROMS, GRAPH, INSIDE, MAX, MIN, POTENTIALS, PREDECESSORS, TAILS, TOS, Array, Form, Given
 from .given import Names
 from .scales import ones_of
@@ -265,10 +266,20 @@ class Instance(Value):
             nodes = pandas.Series(list(called), dtype="O").infer_objects().to_numpy()
             columns = {name: nodes.take(it - 1) for name, it in columns.items()}
         columns.update((_COLUMNS[name], it) for name, it in zip(self._fields, self) if name in _COLUMNS)
-        columns.update(by_arc)
+        columns.update((name, _by_place(it, name, len(self))) for name, it in by_arc.items())
         frame = pandas.DataFrame(columns, pandas.RangeIndex(self.base, self.base + len(self), name="arc"))
         frame.attrs.update({UNITS: self.units} if self.units else {})
         return frame
+
+
+def _by_place(column: Any, name: str, arcs: int) -> Any:
+    """An item for each arc, by its place: what labels a Series has says nothing of arcs."""
+    test_array(column, MARKS, name, f"an array of {arcs}")
+    items = unlabelled(column)
+    items = items if is_numpy(items) else gone_through(items, name)
+    if len(items) != arcs:
+        raise ValueError(f"{name} has {len(items)} items, and there are {arcs} arcs")
+    return items
 
 
 #: What the numbers of arcs are called in a frame.
