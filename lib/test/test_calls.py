@@ -2,6 +2,7 @@
 
 import ctypes
 import signal
+import subprocess
 import sys
 import threading
 import time
@@ -155,6 +156,27 @@ class Interrupted(unittest.TestCase):
         done.set()
         while seen() is not None:
             time.sleep(0.01)
+
+
+#: A call over so many arcs that it is a long one, and where Python makes no thread for it, or one with too small a stack.
+LONG_CALL = """import atexit, threading, dimacs
+dimacs.library.LONG = dimacs.library._ARC = 1
+def call(): print(dimacs.solve_max("p max 2 1\\nn 1 s\\nn 2 t\\na 1 2 5\\n").value)
+"""
+NO_THREAD = {
+    "at the end": "atexit.register(call)",
+    "after the end": "class It:\n    __del__ = lambda self, call=call: call()\nit = It()",
+    "a small stack": "threading.stack_size(2**15)\ncall()",
+    "no other thread": "def start(*_, **more): raise RuntimeError\nthreading.Thread.start = start\ncall()",
+}
+
+
+class InPlace(unittest.TestCase):
+    def test_where_no_thread_can_make_it(self):
+        for name, code in NO_THREAD.items():
+            with self.subTest(name):
+                ran = subprocess.run([sys.executable, "-c", LONG_CALL + code], capture_output=True, text=True, timeout=60)
+                self.assertEqual((ran.stdout, ran.stderr, ran.returncode), ("5\n", "", 0))
 
 
 if __name__ == "__main__":  # tests/targets.py runs it through node

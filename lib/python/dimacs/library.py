@@ -174,9 +174,15 @@ def raise_for(status: int, line: bytes, function: _Call, words: Sequence[Any]) -
 LONG, _ARC = 20_000, 16
 
 
+#: The least stack of a thread in which Python makes a call, which needs 64 KB itself.
+_STACK = 2**18
+
+
 def is_long(arcs: int) -> bool:
-    """Whether a call over so many arcs may hold up Ctrl-C, which Python raises in the main thread alone."""
-    return arcs >= LONG and threading.current_thread() is threading.main_thread()
+    """Whether a call over so many arcs may hold up Ctrl-C, which Python raises in the main thread alone, and another thread can
+    make it: none runs any more at the end of the process, nor in a stack that is too small."""
+    can_start = not sys.is_finalizing() and not 0 < threading.stack_size() < _STACK
+    return arcs >= LONG and can_start and threading.current_thread() is threading.main_thread()
 
 
 def _status(function: _Call, words: Sequence[Any], arcs: int, *kept: Any) -> int:
@@ -192,7 +198,10 @@ def _status(function: _Call, words: Sequence[Any], arcs: int, *kept: Any) -> int
         finally:
             ended.set()
 
-    threading.Thread(target=make, args=kept, daemon=True).start()
+    try:
+        threading.Thread(target=make, args=kept, daemon=True).start()
+    except RuntimeError:  # Python refuses it, as in handlers of atexit and in subinterpreters
+        return function(*words)
     while not ended.wait(1):  # Windows raises Ctrl-C between two waits
         pass
     return found[0]
