@@ -82,7 +82,6 @@ class Arrays(Errors):
             ("limit is -1, not a whole number of 0 to 18446744073709551615", dimacs.solve_max, TEXT, -1),
             ("limit is -1, not a whole number of 0 to 18446744073709551615", dimacs.solve_max_arrays, *MAX, -1),
             ("base is 2, and has to be 0 or 1", lambda: certify(*MAX, flows, base=2)),
-            (f"flows[0] is {last}, and has to be below {last}", certify, *changed(MAX, 5, [INF, 4]), [last, 0]),
         )
         no_places = "whose items have no places as those of an array"
         self.rows(

@@ -54,7 +54,7 @@ class MaximumFlow(Networkx):
         message = "arc ('spring', 'mill') NotSaturated: it leaves the cut and carries 6, its capacity is inf"
         self.says(dimacs.Refused, message, dimacs.judge_networkx_max, graph, *ENDS, flow, {"spring"})
         flow["spring"]["mill"] = LAST
-        raised(ValueError, dimacs.certify_networkx_max, graph, *ENDS, flow)
+        raised(dimacs.Refused, dimacs.certify_networkx_max, graph, *ENDS, flow)
 
     def test_forms_of_a_side(self):
         graph = pipes()

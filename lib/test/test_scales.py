@@ -214,6 +214,26 @@ class Limitless(Said):
         no = raised(dimacs.PastLimit, dimacs.solve_max_arrays, 3, 1, 3, [1, 2], [2, 3], [INF, -5])
         self.assertEqual(no.arc, 2)
 
+    def test_an_arc_that_is_full_to_the_library(self):
+        """Without a limit it may carry 2^63 - 1, unless a certificate takes it for full."""
+        most = 2**63 - 1
+        for kind, *words in [
+            ("max", 4, 1, 4, [2, 1, 1, 3], [4, 2, 3, 4], [INF, most, most, 5]),
+            ("min", 2, [1], [2], [0], [INF], [0], [most, -most]),
+        ]:
+            solve, certify, judge = (getattr(dimacs, f"{it}_{kind}_arrays") for it in ("solve", "certify", "judge"))
+            value, flows, shown = solve(*words)
+            self.assertEqual(flows[0], most)
+            self.assertEqual((certify(*words, flows).value, judge(*words, flows, shown).value), (value, value))
+        full, paid = (2, 1, 2, [1], [2], [INF], [most]), (2, [1], [2], [0], [INF], [-1], [most, -most], [most])
+        message = f"arc 1 NotSaturated: it leaves the cut and carries {most}, its capacity is inf"
+        no = self.says(dimacs.Refused, message, dimacs.judge_max_arrays, *full, [1, 0])
+        self.assertEqual(no.explain(), f"x arc 1 NotSaturated\n{message}\n")
+        self.assertRaises(dimacs.GaveUp, dimacs.certify_max_arrays, *full)
+        message = f"arc 1 NotTight: its reduced cost is -1, and it carries {most} of 0 to inf"
+        self.says(dimacs.Refused, message, dimacs.judge_min_arrays, *paid, [0, 0])
+        self.assertEqual(dimacs.judge_min_arrays(*paid, [0, 1]).value, -most)
+
     def test_a_set_that_shows_nothing(self):
         """It is violated by less than 2^63, and not by an arc without a limit."""
         supplies = [2**63 - 1, 2**62, -(2**63) + 1, -(2**62)]

@@ -123,8 +123,8 @@ class Items(NamedTuple):
 IDS = Items("I", 4, 0, 2**32 - 1)
 NUMBERS = Items("q", 8, -(2**63), 2**63 - 1)
 MARKS = Items("B", 1, 0, 2**8 - 1)
-#: The capacity of an arc with inf. A flow has to stay below it there: then the same arcs have room left as if there were
-#: no limit, and so it is as good as it would be then.
+#: The capacity of an arc with inf. If a flow stays below it there, the same arcs have room left as if there were no limit, and
+#: so it is as good as it would be then; else no certificate may take the arc for full.
 UNLIMITED = 2**63 - 1
 CAPACITIES = NUMBERS._replace(infinity=UNLIMITED)
 LENGTHS = NUMBERS._replace(infinity=UNREACHED)

@@ -7,7 +7,7 @@ from typing import Any, Callable, TypeVar, Union
 
 from . import library
 from .answers import UNREACHED, Certified, Feasible, GaveUp, Infeasible, NotOptimal, Refused, Solved, Verdict
-from .buffers import LIMIT, LIMITS, Room, value_of
+from .buffers import LIMIT, LIMITS, UNLIMITED, Room, value_of
 from .explained import AskedOfArrays, kept
 from .given import COSTS, DISTANCES, FLOWS, GRAPH, HEADS, INSIDE, MAX, MIN, POTENTIALS, PREDECESSORS, SUPPLIES, TAILS
 from .given import Array, Given
@@ -38,8 +38,8 @@ def judge(given: Given) -> Verdict[Any]:
         if status == library.REFUSED:
             raise library.refusal(line)
         found = library.verdict(line)
-        if kind == "infeasible" and given.limitless() and not _is_violated(given, given.column(INSIDE)):
-            raise Refused("NotViolated", text="certificate", line=0, field=0)
+        if given.limitless():
+            _test_judged(given, kind)
     value = given.value(found.value) if kind in ("max", "min") else found.value
     given.forget()
     return kept(Verdict(found.kind, value), asked)
@@ -56,6 +56,8 @@ def certify(given: Given, came: Any = ()) -> Certified[Any, Any]:
             raise _refusal(given, library.refusal(line), asked, came, *better)
         if kind == "infeasible":
             _test_found_set(given, shown)
+        elif _taken_for_full(given, kind, shown):
+            raise GaveUp(f"arcs without a limit carry {UNLIMITED}, and may have to carry more")
         value = given.value(library.verdict(line).value) if kind in ("max", "min") else None
         answer = Certified(value, given.shown(certificate, shown, came))
         return kept(answer, _shown_by(given, kind, **{certificate.name: shown}))
@@ -87,8 +89,7 @@ def of_value(certified: _Valued, claimed: Any, name: str) -> _Valued:
 def solve_max(given: Given, came: Any = (), limit: Any = LIMIT) -> Solved[Any, Any, Any]:
     given.add_number("limit", limit, LIMITS)
     found, rooms = _solve_bounded("max", given, _test_bounded_max, FLOWS, INSIDE)
-    inside = rooms[INSIDE]
-    if any(inside[tail - 1] and not inside[head - 1] for tail, head in _limitless_ends(given)):
+    if _taken_for_full(given, "max", rooms[INSIDE]):
         _test_bounded_max(given)
         raise GaveUp("the capacities have a sum that is out of range")
     return _solved(given, "max", given.value(found.value), rooms, came)
@@ -102,11 +103,9 @@ def solve_min(given: Given, came: Any = (), limit: Any = LIMIT) -> Solved[Any, A
         _test_found_set(given, inside)
         no = Infeasible(given.shown(INSIDE, inside, came), _imbalance(given))
         raise kept(no, _shown_by(given, "infeasible", inside=inside))
-    costs, potentials = given.column(COSTS), rooms[POTENTIALS]
-    for arc, (tail, head) in zip(given.limitless(), _limitless_ends(given)):
-        if costs[arc] - potentials[tail - 1] + potentials[head - 1] < 0:
-            _test_bounded_min(given)
-            raise GaveUp("the capacities and supplies have a sum that is out of range")
+    if _taken_for_full(given, "min", rooms[POTENTIALS]):
+        _test_bounded_min(given)
+        raise GaveUp("the capacities and supplies have a sum that is out of range")
     return _solved(given, "min", given.value(found.value), rooms, came)
 
 
@@ -167,6 +166,25 @@ def _limitless_ends(given: Given) -> list[tuple[int, int]]:
         return []
     tails, heads = given.column(TAILS), given.column(HEADS)
     return [(tails[arc], heads[arc]) for arc in limitless]
+
+
+def _taken_for_full(given: Given, kind: str, shown: Any) -> list[int]:
+    """The arcs without a limit that have to be full by a certificate, as they are in the library by what stands for inf."""
+    ends = list(zip(given.limitless(), _limitless_ends(given)))
+    if kind == "max":
+        return [arc for arc, (tail, head) in ends if shown[tail - 1] and not shown[head - 1]]
+    costs = given.column(COSTS) if ends else []
+    return [arc for arc, (tail, head) in ends if costs[arc] - shown[tail - 1] + shown[head - 1] < 0]
+
+
+def _test_judged(given: Given, kind: str) -> None:
+    """Raises Refused for a certificate by which an arc without a limit has one."""
+    shown = given.column(_CERTIFICATES[kind])
+    if kind == "infeasible":
+        if not _is_violated(given, shown):
+            raise Refused("NotViolated", text="certificate", line=0, field=0)
+    elif full := _taken_for_full(given, kind, shown):
+        raise Refused("NotSaturated" if kind == "max" else "NotTight", arc=full[0] + 1)
 
 
 def _test_bounded_max(given: Given) -> None:

@@ -167,7 +167,6 @@ class Given:
                 words += self._buffers[added.name].words()
             else:
                 words.append(self._single(*added))
-        self._test_limitless()
         return words
 
     def instance(self, copied: Callable[[Buffer, Items], Any]) -> list[Any]:
@@ -247,14 +246,6 @@ class Given:
             may_be = caps is not None and _UNLIMITED_BYTES in ctypes.string_at(caps.address, caps.length * CAPACITIES.width)
             self._limitless = infinite(self._raw[CAPS]) if may_be else []
         return self._limitless
-
-    def _test_limitless(self) -> None:
-        if FLOWS not in self._raw or not (limitless := self.limitless()):
-            return
-        flows = self.column(FLOWS)
-        for place in limitless:
-            if flows[place] >= UNLIMITED:
-                raise ValueError(f"{self.names.item('flows', place)} is {flows[place]}, and has to be below {UNLIMITED}")
 
     def bound_limitless(self) -> None:
         """Gives arcs without a limit more than a best flow needs to carry anywhere: without cycles that cost nothing or less
