@@ -452,12 +452,31 @@ class Converted(unittest.TestCase):
         self.assertEqual(dimacs.write(found).split(b"\n")[0], b"c 1 is an amount of 1/10")
         again = found.to_networkx()
         self.assertEqual(MaxInstance.from_networkx(again, "mine", "town"), found)
-        finer = MaxInstance.from_networkx(again, "mine", "town", scale=(10, Decimal("0.5")))
-        self.assertEqual((finer.caps.tolist(), finer.units), ([50, LAST], (Fraction(1, 100), Decimal("0.5"))))
+        for call in MaxInstance.from_networkx, dimacs.solve_networkx_max:
+            message = "scale= comes beside the attribute 'dimacs_units', '1/10 1': delete it if numbers aren't whole by it"
+            self.assertRaisesRegex(ValueError, message, call, again, "mine", "town", scale=10)
+        for unit in "metres", "1", "1 2 3", (1, 2), "1 1/0":
+            other = networkx.DiGraph(again, dimacs_units=unit)
+            message = "the attribute 'dimacs_units' is .*, and has to be two numbers, as '1/100 1'"
+            self.assertRaisesRegex(ValueError, message, MaxInstance.from_networkx, other, "mine", "town")
         again.graph["units"] = "metres"
         self.assertEqual(MaxInstance.from_networkx(again, "mine", "town"), found)
         message = r"capacity of edge \('mine', 'port'\) is 0.5, not a whole number: scale= takes multiples of a unit$"
         self.assertRaisesRegex(ValueError, message, MaxInstance.from_networkx, graph, "mine", "town")
+
+    @needs("networkx")
+    def test_graphs_in_files(self):
+        """Their formats keep the units."""
+        import json
+
+        for units in (Fraction(1, 10), 1), (Decimal("0.01"), Decimal("1E+2")), (3, Fraction(2, 7)):
+            most = MaxInstance(2, 1, 2, [1], [2], [4], ["mine", "port"], units)
+            graph, kept = most.to_networkx(), []
+            kept.append(networkx.node_link_graph(json.loads(json.dumps(networkx.node_link_data(graph)))))
+            kept.append(networkx.parse_graphml("\n".join(networkx.generate_graphml(graph))))
+            kept.append(networkx.parse_gml("\n".join(networkx.generate_gml(graph))))
+            for it in kept:
+                self.assertEqual(MaxInstance.from_networkx(it, "mine", "port"), most)
 
     @needs("scipy")
     def test_scipy(self):
@@ -498,10 +517,12 @@ class Converted(unittest.TestCase):
         frame = dimacs.from_frame(self.most.to_frame(), "source", "target", capacity="capacity")
         scaled = dimacs.from_frame(self.most.to_frame(), "source", "target", capacity="capacity", scale=10).max_instance(2, 3)
         table, tenths = scaled.to_frame(), (Fraction(1, 10), Fraction(1, 10))
-        self.assertEqual((scaled.caps.tolist(), table.attrs), ([50, 30, 10, 90], {"dimacs_units": tenths}))
-        for scale, units in (None, tenths), (10, (Fraction(1, 100), Fraction(1, 100))):
-            again = dimacs.from_frame(table, "source", "target", capacity="capacity", scale=scale)
-            self.assertEqual((again.max_instance(2, 3).units, again.min_instance().units, again.graph().units), (units,) * 3)
+        self.assertEqual((scaled.caps.tolist(), table.attrs), ([50, 30, 10, 90], {"dimacs_units": "1/10 1/10"}))
+        again = dimacs.from_frame(table, "source", "target", capacity="capacity")
+        self.assertEqual((again.max_instance(2, 3).units, again.min_instance().units, again.graph().units), (tenths,) * 3)
+        table["price"] = 2.5  # whole by no unit
+        message = "scale= comes beside the attribute 'dimacs_units', '1/10 1/10'"
+        self.assertRaisesRegex(ValueError, message, dimacs.from_frame, table, "source", "target", cost="price", scale=10)
         found = frame.max_instance(2, 3)
         self.assertEqual((found.names[found.source - 1], dimacs.solve_max_arrays(*found).value), (2, 9))
         self.assertEqual(found.to_frame()[["source", "target"]].values.tolist(), [[2, 1], [2, 1], [2, 3], [1, 3]])

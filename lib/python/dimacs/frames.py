@@ -13,8 +13,9 @@ from . import calls
 from .answers import Certified, Number, Parts, Solved
 from .buffers import LIMIT
 from .explained import like
-from .instances import UNITS, Graph, MaxInstance, MinInstance
+from .instances import Graph, MaxInstance, MinInstance
 from .given import DISTANCES, FLOWS, GRAPH, INSIDE, MAX, MIN, POTENTIALS, Array, Given, Names
+from .scales import units_kept
 
 
 __all__ = ["Frame", "FrameAnswer", "from_frame"]
@@ -144,7 +145,7 @@ class Frame:
         self.nodes = list(self._numbers)
         self._tails, self._heads = ([self._numbers[it] for it in ends] for ends in (tails, heads))
         self._supplies = [supplies.get(node, 0) for node in self.nodes]
-        self._units = edges.attrs.get(UNITS)
+        self._units = units_kept(edges.attrs, scale)
 
     def __repr__(self) -> str:
         return f"Frame of {len(self.edges)} edges between {len(self.nodes)} nodes"

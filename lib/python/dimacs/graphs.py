@@ -21,6 +21,7 @@ from .answers import Certified, Number, Solved, Verdict
 from .buffers import LIMIT, is_bool, unlabelled
 from .explained import like
 from .given import DISTANCES, FLOWS, GRAPH, INSIDE, MAX, MIN, POTENTIALS, Array, Given, Names
+from .scales import units_kept
 
 #: flow[u][v] is an amount, or flow[u][v][key].
 Flow = dict[Any, dict[Any, Any]]
@@ -103,6 +104,7 @@ class NumberedGraph(Names):
             raise TypeError(f"the graph is a {type(graph).__name__}, and has to be a DiGraph or MultiDiGraph of networkx")
         if not graph.is_directed():
             raise ValueError("the graph is undirected: graph.to_directed() has an arc each way")
+        self.units = units_kept(graph.graph, scale)
         self._arcs = Arcs(graph)
         self.nodes, self.edges = self._arcs.nodes, list(self._arcs.names())
         self._ends = self._arcs.tails, self._arcs.heads

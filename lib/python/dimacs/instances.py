@@ -9,7 +9,8 @@ An arc with the capacity inf has no limit: caps has 2^63 - 1 there, and unlimite
 An instance unpacks into the arguments that make it, with inf there, and calls see these. names has what nodes are called where
 it comes from, node 1 first, or is None; calls name them so, and count from the base that the instance was made with. units
 has what 1 stands for in its amounts and in its costs, as (Fraction(1, 100), 1), or is None if numbers are as they came; graphs
-and frames keep them as "dimacs_units". Instances are equal if all of this but the base is; solutions if their instances are.
+and frames keep "1/100 1" as "dimacs_units". Instances are equal if all of this but the base is; solutions if their instances
+are.
 """
 
 from __future__ import annotations
@@ -29,7 +30,7 @@ from .buffers import IDS, MARKS, NUMBERS, Buffer, Items, Numbers, array_of, gone
 from .buffers import test_array, unlabelled
 from .given import DISTANCES, FLOWS, FROMS, GRAPH, INSIDE, MAX, MIN, POTENTIALS, PREDECESSORS, TAILS, TOS, Array, Form, Given
 from .given import Names
-from .scales import ones_of
+from .scales import UNITS, ones_of
 
 #: The nodes by their numbers, from 1; what 1 stands for in amounts, and in costs.
 NodeNames = Union[Sequence[Any], None]
@@ -156,10 +157,6 @@ def _names(given: Any, nodes: int) -> NodeNames:
     return names
 
 
-#: What the attributes of graphs and frames call the units.
-UNITS = "dimacs_units"
-
-
 class Instance(Value):
     """What MaxInstance, MinInstance and Graph have in common."""
 
@@ -184,8 +181,9 @@ class Instance(Value):
             marks[arc] = 1
         unlimited = _copied(Buffer(marks, *marks.buffer_info()), MARKS) if any(marks) else None
         given.forget()
+        ones = ones_of(units) if units is not None else given.units and given.units.ones()
         shown = names if names is not None or base else range(numbers[0])
-        found = {"names": _names(shown, numbers[0]), "units": ones_of(units, given.units), "base": base}
+        found = {"names": _names(shown, numbers[0]), "units": ones, "base": base}
         self._set(*numbers, **found, unlimited=unlimited)
 
     @classmethod
@@ -199,7 +197,7 @@ class Instance(Value):
         from .graphs import NumberedGraph
 
         found = NumberedGraph(graph, scale)
-        return cls._of(getattr(found, form)(*words), found.nodes, graph.graph.get(UNITS))
+        return cls._of(getattr(found, form)(*words), found.nodes, found.units)
 
     def __len__(self) -> int:
         return len(self.tails)
@@ -253,9 +251,12 @@ class Instance(Value):
     def _digraph(self, kind: str) -> Any:
         graph = getattr(importlib.import_module("networkx"), kind)()
         graph.add_nodes_from(self._called())
-        if self.units:
-            graph.graph[UNITS] = self.units
+        graph.graph.update(self._attributes())
         return graph
+
+    def _attributes(self) -> dict[str, str]:
+        """What graphs and frames keep of the units."""
+        return {UNITS: "{} {}".format(*self.units)} if self.units else {}
 
     def to_frame(self, **by_arc: Any) -> Any:
         """The arcs in a DataFrame of pandas, a row each: source, target, their numbers (a capacity may be inf), and others,
@@ -268,7 +269,7 @@ class Instance(Value):
         columns.update((_COLUMNS[name], it) for name, it in zip(self._fields, self) if name in _COLUMNS)
         columns.update((name, _by_place(it, name, len(self))) for name, it in by_arc.items())
         frame = pandas.DataFrame(columns, pandas.RangeIndex(self.base, self.base + len(self), name="arc"))
-        frame.attrs.update({UNITS: self.units} if self.units else {})
+        frame.attrs.update(self._attributes())
         return frame
 
 

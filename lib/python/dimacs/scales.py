@@ -8,7 +8,7 @@ import sys
 from fractions import Fraction
 from functools import partial
 from numbers import Rational, Real
-from typing import Any, Callable, Iterable, NamedTuple, Sequence, cast
+from typing import Any, Callable, Iterable, Mapping, NamedTuple, Sequence, cast
 
 from .buffers import is_bool, is_infinite, rounded, written
 
@@ -173,17 +173,33 @@ class Units(NamedTuple):
         return None if found == (1, 1) else found
 
 
-def ones_of(given: Any, scale: Units | None) -> tuple[Any, Any] | None:
-    """What 1 stands for by a scale, if it stood for two numbers before, or None. Raises TypeError and ValueError for others."""
-    if given is None:
-        return scale and scale.ones()
+#: What attributes of graphs and frames call their units, which are a text, as "1/100 1": each format of these keeps it.
+UNITS = "dimacs_units"
+
+
+def units_kept(attributes: Mapping[Any, Any], scale: Any) -> tuple[Any, Any] | None:
+    """What 1 stands for by the attributes of a graph or frame, which have it if its numbers are whole ones made by a scale.
+    Raises ValueError if there is another scale too: which numbers it would be of isn't known."""
+    text = attributes.get(UNITS)
+    if text is None:
+        return None
+    if scale is not None:
+        raise ValueError(f"scale= comes beside the attribute {UNITS!r}, {text!r}: delete it if numbers aren't whole by it")
+    try:
+        amount, cost = (decimal.Decimal(it) if {*it} & {*".E"} else Fraction(it) for it in text.split())
+    except (AttributeError, ValueError, ArithmeticError):
+        raise ValueError(f"the attribute {UNITS!r} is {text!r}, and has to be two numbers, as '1/100 1'") from None
+    return amount, cost
+
+
+def ones_of(given: Any) -> tuple[Any, Any] | None:
+    """A pair of what 1 stands for, None if it is 1. Raises TypeError and ValueError for others."""
     if not isinstance(given, tuple) or len(given) != 2:
         raise TypeError(f"units is {given!r}, and has to be a pair: what 1 stands for in amounts, and in costs")
     exact = [fraction_of(it, partial("units[{}]".format, k)) for k, it in enumerate(given)]
     if min(exact) <= 0:
         raise ValueError(f"units is {given!r}, and both have to be above 0")
-    before = [Scale(1 / it, isinstance(unit, decimal.Decimal)) for it, unit in zip(exact, given)]
-    return Units(*map(Scale.times, before, scale or (_WHOLE, _WHOLE))).ones()
+    return Units(*(Scale(1 / it, isinstance(unit, decimal.Decimal)) for it, unit in zip(exact, given))).ones()
 
 
 def units_of(scale: Any, groups: Callable[[str], Iterable[tuple[Sequence[Any], Callable[[int], str]]]]) -> Units | None:
