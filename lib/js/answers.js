@@ -101,6 +101,11 @@ export class Infeasible extends Refused {
         super("Infeasible", {}, "no flow is feasible");
         this.certificate = certificate;
     }
+
+    /** The line that the command prints, whose status is that of a yes. */
+    get printed() {
+        return "v infeasible";
+    }
 }
 
 alsoCalled(Infeasible, "certificate", "inside");

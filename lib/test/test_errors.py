@@ -199,7 +199,8 @@ class Arrays(Errors):
         self.says(dimacs.Feasible, "a flow is feasible", dimacs.certify_infeasible_arrays, *MIN)
         words = 2, [1], [2], [0], [9], [1], [5, -3]
         message = "no flow is feasible: supplies add up to 2, and not to 0"
-        self.says(dimacs.Infeasible, message, dimacs.solve_min_arrays, *words)
+        it = self.says(dimacs.Infeasible, message, dimacs.solve_min_arrays, *words)
+        self.assertEqual((it.printed, it.explain().split("\n")[0]), ("v infeasible", "v infeasible"))
         with self.assertRaisesRegex(dimacs.Infeasible, "add up to 1/5, and"):
             dimacs.solve_min_arrays(*words[:3], [0], [1], [1], [0.5, -0.3], scale=10)
 

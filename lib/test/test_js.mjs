@@ -112,7 +112,7 @@ const OF_TEXTS = /\b(block|entr(y|ies)|labels?|lines?|lists?|PREDs?|RADIUS)\b/;
 
 /** What explains an answer or a refusal begins with its line. Over arrays it has no word that only texts have. */
 function explains(name, it) {
-    const told = it.explain(), line = it instanceof dimacs.Infeasible ? "v infeasible" : it.printed ?? "v ";
+    const told = it.explain(), line = it.printed ?? "v ";
     assert.ok(told.startsWith(line), told);
     if (name.endsWith("_arrays")) assert.doesNotMatch(told, OF_TEXTS);
 }

@@ -353,6 +353,9 @@ class Infeasible(Refused):
     no flow is feasible [True, False]
     """
 
+    #: The command's status is that of a yes.
+    printed = "v infeasible"
+
     def __init__(self, certificate: Any, numbers: dict[str, Any] | None = None) -> None:
         super().__init__("Infeasible", numbers=numbers)
         self.certificate = certificate
