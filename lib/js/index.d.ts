@@ -250,26 +250,26 @@ export function show<T extends Text>(kind: Kind, text: T): Made<T>;
 /** A text that is made: a string if what was given is one, else bytes. */
 export type Made<T extends Text> = T extends string ? string : Uint8Array;
 
+/** What texts hold that come alone, by their kinds. */
+interface Values {
+    max: MaxInstance;
+    min: MinInstance;
+    gr: Graph;
+    query: Queries;
+    cut: Cut;
+    pot: Potentials;
+}
+
 /**
  * A text as arrays, which the calls over arrays take: `certifyMaxArrays(instance, solution.flows)`. The k-th entry of a
  * solution with given ends belongs to the k-th arc with them; an arc without one carries 0. Of distances and labels the
  * block of a source is read. Throws Refused if the text has a fault, if an entry belongs to no arc (UnknownArc, ArcTwice), if the source has no block (BlockMissing), or if a
  * number doesn't fit 64 bits (NumberRange).
  */
-export function read(kind: "max", text: Text): Typed<MaxInstance>;
-export function read(kind: "min", text: Text): Typed<MinInstance>;
-export function read(kind: "gr", text: Text): Typed<Graph>;
-export function read(kind: "query", text: Text): Typed<Queries>;
+export function read<Alone extends keyof Values>(kind: Alone, text: Text): Typed<Values[Alone]>;
 export function read(kind: "solution", text: Text, instance: Arcs): Typed<Solution> & {readonly value: bigint};
-export function read(kind: "cut", text: Text): Typed<Cut>;
-export function read(kind: "pot", text: Text): Typed<Potentials>;
 export function read(kind: "dist", text: Text, source: number | bigint): Typed<Required<Labels>>;
 export function read(kind: "distances", text: Text, source: number | bigint): Typed<DistancesFrom>;
-/** Of a kind that is one of these. */
-export function read(
-    kind: "max" | "min" | "gr" | "query" | "cut" | "pot",
-    text: Text,
-): Typed<MaxInstance> | Typed<MinInstance> | Typed<Graph> | Typed<Queries> | Typed<Cut> | Typed<Potentials>;
 
 /**
  * The canonical text of arrays, which read again gives the same. A solution has an entry for each arc. Throws PastLimit if
