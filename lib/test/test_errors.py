@@ -212,6 +212,9 @@ class Arrays(Errors):
         frame, never = (dimacs.from_frame(edges, "u", "v", capacity="capacity", supply={1: it, 3: -it}) for it in (4, 6))
         certify, flow = dimacs.certify_max_arrays, {1: {2: 3}, 2: {3: 3}}
         rows = [("NotO", frame.certify_max, 1, 3, "flow"), ("Infe", never.solve_min), ("NotO", dimacs.certify_networkx_max, graph, 1, 3, flow)]
+        solved = dimacs.solve_max_arrays(*MAX)
+        self.assertEqual(solved, (4, pandas.Index([4, 4]), [True, True, False]))
+        self.assertNotEqual(solved, (4, pandas.Series([4, 4]), [True, True, False]))
         for of in list, numpy.array, pandas.Series:
             rows += [("NotO", certify, *MAX, of([3, 3])), ("Refu", certify, *MAX, of([6, 6]))]
             least = 2, [1], [2], [0], of([9]), [3]

@@ -94,7 +94,8 @@ class Explainable:
 def _items(part: Any) -> Any:
     """A part of an answer that == compares: the items of an array, those of a Series or frame with their index."""
     if hasattr(part, "to_numpy"):
-        return list(part.index), part.to_numpy().tolist()
+        index, items = getattr(part, "index", None), part.to_numpy().tolist()
+        return items if index is None or callable(index) else (list(index), items)
     return part.tolist() if hasattr(part, "tolist") else part
 
 
