@@ -8,11 +8,12 @@ import tempfile
 import unittest
 from decimal import Decimal
 from fractions import Fraction
+from functools import partial
 
 import dimacs
 from shared import Said, networkx, numpy, pandas, raised
 
-INF, NAN = float("inf"), float("nan")
+INF, NAN, LAST = float("inf"), float("nan"), 2**63 - 1
 NOT_WHOLE = "not a whole number: scale= takes multiples of a unit"
 TEXT = "p max 2 1\nn 1 s\nn 2 t\na 1 2 3\n"
 MAX = 3, 1, 3, [1, 2], [2, 3], [5, 4]
@@ -59,7 +60,8 @@ class Arrays(Errors):
         self.assertEqual(repr(it), shown)
 
     def test_numbers(self):
-        flows, certify, judge, last = [0, 4], dimacs.certify_max_arrays, dimacs.judge_max_arrays, 2**63 - 1
+        flows, certify, judge, last = [0, 4], dimacs.certify_max_arrays, dimacs.judge_max_arrays, LAST
+        far = partial(dimacs.certify_paths_arrays, *PATHS, 1, scale=10)
         spread = dimacs.spread_max_arrays
         range_32, range_64 = "not a whole number of 0 to 4294967295", "not a whole number of 64 bits"
         self.rows(
@@ -82,6 +84,7 @@ class Arrays(Errors):
             ("limit is -1, not a whole number of 0 to 18446744073709551615", dimacs.solve_max, TEXT, -1),
             ("limit is -1, not a whole number of 0 to 18446744073709551615", dimacs.solve_max_arrays, *MAX, -1),
             ("base is 2, and has to be 0 or 1", lambda: certify(*MAX, flows, base=2)),
+            (f"distances[1] is {last}/10, not below {last}/10", far, [0, Fraction(last, 10), 9]),
         )
         no_places = "whose items have no places as those of an array"
         self.rows(
@@ -135,10 +138,17 @@ class Arrays(Errors):
         wide[17] = NAN
         graph = 2, 1, 2, [1] * 20, [2] * 20, [3] * 20
         certify, past = dimacs.certify_max_arrays, f"flows[1] is {2**63}, not a whole number of 64 bits"
+        from_zero = "tails[0] is {}, not a whole number of -1 to 4294967294"
+
+        def from_0(tails, source=0):
+            return dimacs.solve_max_arrays(2, source, 1, tails, [1, 0], [3, 3], base=0)
+
         self.rows(
             ValueError,
             ("flows[17] is nan, not a whole number", certify, *graph, wide),
             (past, certify, *MAX, numpy.array([0, 2**63], "uint64")),
+            *((from_zero.format(it), from_0, kind([it, 0])) for kind in (list, numpy.array) for it in (2**32 - 1, LAST, -2)),
+            ("source is 4294967295, not a whole number of 0 to 4294967294", from_0, [0, 1], 2**32 - 1),
             ("flows has 2 dimensions, and not one", certify, *MAX, numpy.zeros((2, 2))),
         )
         single = changed(MAX, 5, numpy.array(5))

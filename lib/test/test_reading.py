@@ -324,6 +324,11 @@ class Values(unittest.TestCase):
         for more in {"base": 0}, {"scale": 10}:
             message = "values have whole numbers, and a base: scale= and base= are for arrays"
             self.assertRaisesRegex(TypeError, message, dimacs.solve_max_arrays, OVER, **more)
+        named, solve = Graph(2, [0], [1], [5], ["mine", "port"], base=0), dimacs.solve_paths_arrays
+        name = "source is 'port', a name: pass its place in names, from 0"
+        self.assertRaisesRegex(TypeError, name, solve, named, "port")
+        self.assertRaisesRegex(ValueError, r"\[0\] is 2.5, not a whole number$", dimacs.certify_max_arrays, OVER, [2.5, 0, 0, 0])
+        self.assertRaisesRegex(dimacs.PastLimit, "numbered from 1, and there are 2$", solve, graph, 0)
         for message, call in [
             ("certify_max_arrays takes no Graph there", lambda: dimacs.certify_max_arrays(graph, [1])),
             ("certify_max_arrays takes no MaxInstance there", lambda: dimacs.certify_max_arrays(OVER, OVER)),

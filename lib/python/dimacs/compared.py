@@ -73,7 +73,7 @@ def _ends(given: Given, arc: int) -> dict[str, Any]:
 
 def _range(given: Given, node: int) -> dict[str, Any]:
     base = given.names.base
-    hint = "; base=0 numbers them from 0" if base and node == 0 else ""
+    hint = "; base=0 numbers them from 0" if base and node == 0 and not given.is_of_value else ""
     return {"base": base, "nodes": given.number("nodes"), "hint": hint}
 
 

@@ -13,7 +13,7 @@ from numbers import Integral
 from typing import Any, Callable, Iterable, Iterator, NamedTuple, Sequence
 
 from .answers import UNREACHED, PastLimit, Refused, Unbounded
-from .buffers import CAPACITIES, IDS, LENGTHS, MARKS, NUMBERS, UNLIMITED, Buffer, Items, Room, array_of, gone_through
+from .buffers import CAPACITIES, IDS, LENGTHS, MARKS, NUMBERS, UNLIMITED, Buffer, Items, Name, Room, array_of, gone_through
 from .buffers import in_form_of, is_bool, is_numpy, is_single, item, number_of, room_of, test_array, unlabelled, written
 from .library import is_long
 from .scales import units_of
@@ -116,7 +116,10 @@ class Given:
 
     def __init__(self, form: Form, *given: Any, scale: Any = UNSCALED, names: Names | int = 1) -> None:
         self.form, self.names = form, names if isinstance(names, Names) else Names(names)
-        self._scale, self._may_be_scaled = (None, False) if scale is UNSCALED else (scale, scale is None)
+        #: A call over a value takes neither scale= nor base=, and no hint names one.
+        self.is_of_value = type(names) is Names
+        self._may_be_scaled = scale is None and not self.is_of_value
+        self._scale = None if scale is UNSCALED else scale
         count = len(form.numbers)
         self._singles = dict(zip(form.numbers, given))
         self._raw: dict[Array, Any] = {}
@@ -183,8 +186,12 @@ class Given:
         self._buffers = {}
 
     def _single(self, name: str, items: Items) -> int:
-        number = number_of(self._singles[name], items, name)
-        return number + 1 - self.names.base if name in ("source", "sink") else number
+        number, is_node = self._singles[name], name in ("source", "sink")
+        if is_node and self.is_of_value and isinstance(number, str):
+            raise TypeError(f"{name} is {number!r}, a name: pass its place in names, from {self.names.base}")
+        if self.names.base or not is_node:
+            return number_of(number, items, name)
+        return number_of(number, items._replace(greatest=items.greatest - 1), name) + 1
 
     def _convert(self, kind: Array) -> None:
         numbers = self._raw[kind]
@@ -206,9 +213,7 @@ class Given:
             items = _DEMANDS._replace(hint=hint)
             found = array("q", (-number_of(it, items, item(name, k)) for k, it in enumerate(numbers)))
         elif kind.items is IDS and self.names.base == 0:
-            if is_numpy(numbers):
-                return array_of(sys.modules["numpy"].add(array_of(numbers, _FROM_ZERO, name).kept, 1), IDS, name)
-            found = array("I", (it + 1 for it in array_of(numbers, _FROM_ZERO, name).listed(_FROM_ZERO)))
+            return _from_one(numbers, name)
         else:
             return array_of(numbers, kind.items._replace(hint=hint), name)
         return Buffer(found, *found.buffer_info())
@@ -217,7 +222,9 @@ class Given:
         """No number says that a node isn't reached."""
         for place, found in enumerate(self.column(kind)):
             if found == UNREACHED and numbers[place] != math.inf:
-                raise ValueError(f"{self.names.item(kind.name, place)} is {numbers[place]}, not below 2^63 - 1")
+                most = self.amount(kind.unit, UNREACHED)
+                limit = most if self.units else "2^63 - 1"
+                raise ValueError(f"{self.names.item(kind.name, place)} is {most}, not below {limit}")
 
     def _namer(self, kind: Array) -> Callable[[int], str] | str:
         if type(self.names) is Names:
@@ -354,6 +361,18 @@ class Given:
                 asked.said = str(it)
             self.forget()
             raise
+
+
+def _from_one(numbers: Any, name: Name) -> Buffer:
+    """IDs that come numbered from 0, or -1 for none, as those from 1."""
+    given = array_of(numbers, _FROM_ZERO, name)
+    ids = sys.modules["numpy"].add(given.kept, 1) if is_numpy(numbers) else [it + 1 for it in given.listed(_FROM_ZERO)]
+    try:
+        return array_of(ids, IDS, name)
+    except ValueError:
+        for place, it in enumerate(given.listed(_FROM_ZERO)):
+            number_of(it, _FROM_ZERO, item(name, place))  # raises, and names the first as it came
+        raise
 
 
 def infinite(numbers: Any) -> list[int]:
