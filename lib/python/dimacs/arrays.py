@@ -95,13 +95,13 @@ def _named(call: str, names: list[str], words: tuple[Any, ...], more: dict[str, 
     """The arguments by their names: a value stands for its fields, and others for what is left, in order."""
     named = {name: it for name, it in more.items() if not isinstance(it, Value)}
     for name, it in [*((None, it) for it in words), *more.items()]:
-        if isinstance(it, Blocks):
-            raise TypeError(f"{call} takes one block: pass blocks[source]")
         if isinstance(it, Value):
             fields = it.numbered(base)
             if fields.keys() - _LEFT_OUT - {*names} or fields.keys() & named or name not in (None, *fields):
                 raise TypeError(f"{call} takes no {type(it).__name__} {'there' if name is None else f'for {name}'}")
             named.update({name: field for name, field in fields.items() if name in names})
+        elif isinstance(it, Blocks):
+            raise TypeError(f"{call} takes one block: pass blocks[source]")
     others, left = [it for it in words if not isinstance(it, Value)], [it for it in names if it not in named]
     if len(others) > len(left):
         raise TypeError(f"{call} takes {len(others) - len(left)} arguments less beside these values")

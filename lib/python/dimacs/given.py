@@ -195,6 +195,10 @@ class Given:
 
     def _convert(self, kind: Array) -> None:
         numbers = self._raw[kind]
+        if isinstance(numbers, Buffer):  # of a value: it was tested, and its nodes count from 1
+            self._buffers[kind.name] = numbers
+            self._count.setdefault(kind.each, numbers.length)
+            return
         wanted = f"an array of {self._count[kind.each]}" if kind.each in self._count else "an array"
         test_array(numbers, kind.items, kind.name, wanted)
         if self.units and kind.unit:
@@ -215,7 +219,7 @@ class Given:
         elif kind.items is IDS and self.names.base == 0:
             return _from_one(numbers, name)
         else:
-            return array_of(numbers, kind.items._replace(hint=hint), name)
+            return array_of(numbers, kind.items._replace(hint=hint) if hint else kind.items, name)
         return Buffer(found, *found.buffer_info())
 
     def _test_reached(self, kind: Array, numbers: Any) -> None:

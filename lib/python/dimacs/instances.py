@@ -106,8 +106,9 @@ class Value(Sized, Iterable[Any]):
         return tuple(it.tobytes() if hasattr(it, "tobytes") else it for it in fields)
 
     def numbered(self, base: int) -> dict[str, Any]:
-        """The fields by their names, with nodes numbered from a base."""
-        return {name: it if base or name not in _NODES else _from_zero(it) for name, it in zip(self._fields, self)}
+        """The fields by their names, as calls take them: source and sink numbered from a base, arrays where they lie."""
+        fields, are_nodes = zip(self._fields, self), ("source", "sink")
+        return {name: it + base - 1 if name in are_nodes else _handed(name, it) for name, it in fields}
 
     def _lines(self) -> int:
         """About as many lines as its text has."""
@@ -118,14 +119,15 @@ class Value(Sized, Iterable[Any]):
         raise NotImplementedError
 
 
-#: What has nodes, or predecessors.
-_NODES = {"source", "sink", "tails", "heads", "predecessors"}
+#: The arrays whose form answers have.
+_FORMS = {"caps", "weights", "flows", "distances"}
 
 
-def _from_zero(nodes: Any) -> Any:
-    if isinstance(nodes, int):
-        return nodes - 1
-    return nodes.astype("q") - 1 if hasattr(nodes, "astype") else [it - 1 for it in nodes]
+def _handed(name: str, field: Any) -> Any:
+    """A field as calls take it: they don't test an array again that comes as it lies in memory."""
+    if name in _FORMS or field is None or isinstance(field, int):
+        return field
+    return Buffer(field, *((field.ctypes.data, len(field)) if hasattr(field, "ctypes") else field.buffer_info()))
 
 
 def _test_limits(given: Given) -> None:
