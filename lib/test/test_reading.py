@@ -287,8 +287,8 @@ class Values(unittest.TestCase):
         found = MaxInstance(3, 1, 3, [1, 2], [2, 3], caps)
         caps[0] = 7
         self.assertEqual(found.caps.tolist(), [5, 4])
-        with self.assertRaises(AttributeError):
-            found.nodes = 4
+        for change in lambda: setattr(found, "nodes", 4), lambda: delattr(found, "caps"):
+            self.assertRaisesRegex(AttributeError, "of a MaxInstance can't be set: a value doesn't change", change)
         for value in found, dimacs.read("max", MAX), dimacs.read("cut", "p cut 2 1\nu 1\n"), dimacs.read("gr", "p sp 2 0\n"):
             for it in value, pickle.loads(pickle.dumps(value)), copy.copy(value), copy.deepcopy(value):
                 self.assertEqual((it, len({value, it})), (value, 1))

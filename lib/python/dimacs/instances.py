@@ -83,6 +83,8 @@ class Value(Sized, Iterable[Any]):
     def __setattr__(self, name: str, *_: Any) -> None:
         raise AttributeError(f"{name!r} of a {type(self).__name__} can't be set: a value doesn't change")
 
+    __delattr__ = __setattr__
+
     def __setstate__(self, state: dict[str, Any]) -> None:
         """A copy, whose arrays can't be written to either."""
         self._set(**{name: fixed(it) if hasattr(it, "flags") else it for name, it in state.items()})
