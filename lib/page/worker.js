@@ -16,8 +16,19 @@ function called({verb, kind, certificate, given}) {
     return {status, printed, files: status === GAVE_UP ? [] : files.filter((it) => it.bytes.length)};
 }
 
-/** A line that advises a command, which nobody has here, and what it says before a colon; never one that quotes a text. */
-const ADVICE = /^(?!\w+:\d+: )(?:(.*): )?[^:\n]*\b(?:dimacs [a-z]|(?:judge|certify|solve|spread)-[a-z]).*\n/gm;
+/** What lines say of commands and files, which nobody has here, and what stands there instead. */
+const SAID_HERE = [
+    [/\bsolve-paths takes/, "Solve takes"],
+    [/^the files /, "the texts "],
+    [/: it is in `\w+`$/, ""],
+    [/(?:^|[:;] )[^:;]*(?:\bdimacs [a-z].*|: spread it)$/, ""],
+];
+
+/** A line as it is said here, where something else decides what a certificate leaves open. One that quotes a text stays. */
+function saidHere(line, decides) {
+    if (/^\w+:\d+: /.test(line)) return line;
+    return SAID_HERE.reduce((said, it) => said.replace(...it), line.replace(/certify it$/, decides));
+}
 
 /** The lines after those that are printed. The judge says the same of what was made, and sooner than who made it. */
 function explained() {
@@ -27,7 +38,9 @@ function explained() {
     const name = status === DONE && !isPaths ? "judge" : verb;
     const better = kind === "infeasible" ? "flow" : "better", isBetter = verb === "certify" && status !== DONE;
     const lines = explanation(`${name}-${kind}`, [...given, ...made], isBetter ? better : "certificate");
-    return lines.slice(printed.length).replace(ADVICE, (line, before) => (before ? `${before}\n` : ""));
+    const decides = kind === "paths" ? "press Solve" : "remove it, and press Check";
+    const said = lines.slice(printed.length).split("\n").map((it) => saidHere(it, decides));
+    return said.filter(Boolean).map((it) => `${it}\n`).join("");
 }
 
 const ANSWERS = {

@@ -95,6 +95,34 @@ const PATH_PAIRS = `p aux sp p2p ${PATH - 1}\n${pathLines((it) => `q 1 ${it + 1}
 const PATH_LINES = pathLines((it) => `v 1 ${it + 1} ${7 * it}\n`);
 const PATH_LABELS = `p dist ${PATH} 1\nt 1 ${PATH - 1}\n${pathLines((it) => `d ${it + 1} ${7 * it} ${it}\n`)}`;
 
+/** How many texts the page gives to each command. */
+const READS = {"judge-max": 3, "judge-min": 3, "judge-infeasible": 2, "judge-paths": 3, "certify-max": 2, "certify-min": 2};
+Object.assign(READS, {"certify-infeasible": 1, "certify-paths": 2, "solve-max": 1, "solve-min": 1, "solve-paths": 2});
+
+/** The rows of tests/rows for a command, as the page plans them. Those of two solvers begin with a limit. */
+function rowsOf([command, count]) {
+    const [verb, kind] = command.split("-"), from = verb === "solve" && kind !== "paths" ? 2 : 1;
+    const lines = readFileSync(new URL(`../rows/${command}`, import.meta.url), "ascii").split("\n");
+    const rows = lines.filter((it) => it && !it.startsWith("#")).map((it) => it.split(/ \|(?: |$)/));
+    return rows.map((row) => ({verb, kind, texts: row.slice(from, from + count).map((it) => it.replaceAll(";", "\n"))}));
+}
+
+/** An expression for what explains these rows, by a worker as the page has one. */
+const explaining = (rows) => `(async () => {
+    const worker = new Worker(URL.createObjectURL(new Blob([${element("worker")}.textContent]))), told = [];
+    const ask = (what, words) => new Promise((good) => {
+        worker.onmessage = ({data}) => good(data.good);
+        worker.postMessage({what, ...words});
+    });
+    await ask("start", {module: ${element("module")}.textContent});
+    for (const {texts, ...plan} of ${quoted(rows)}) {
+        await ask("run", {...plan, given: texts.map((it) => new TextEncoder().encode(it))});
+        told.push(await ask("explain"));
+    }
+    worker.terminate();
+    return told;
+})()`;
+
 const TESTS = {
     "a long verdict is shown in whole lines, and saved whole": async (person) => {
         await person.drop({"path.gr": PATH_GRAPH, "path.query": PATH_PAIRS, "path.dist": PATH_LABELS});
@@ -184,20 +212,26 @@ const TESTS = {
         await person.write({certificate: ""});
         assert.equal((await person.ask("Check")).verdict, "Yes: the flow of value 4 is maximum");
     },
-    "no command is advised, and a text that names one is quoted": async (person) => {
+    "no line names a command, a verb of one or a file, but what a text is quoted with": async (person) => {
+        const rows = Object.entries(READS).flatMap(rowsOf), told = await person.page.evaluate(explaining(rows));
+        const named = /\b(dimacs|run|judge|certify|solve|spread|convert|files?)\b|-(max|min|paths|infeasible)\b|`(flow|better)`/;
+        const lines = told.flatMap((it) => it.split("\n")).filter((it) => !/^\w+:\d+: /.test(it));
+        assert.ok(lines.length > 500, String(lines.length));
+        assert.deepEqual(lines.filter((it) => named.test(it)), []);
+        await person.write({instance: MAX, claim: "dimacs solve-max: it is in `flow`\n"}, "max");
+        assert.deepEqual((await person.ask("Check")).marked, ["solution:1: dimacs solve-max: it is in `flow`"]);
+    },
+    "what is said in place of a command": async (person) => {
         const rows = [
-            ["max", PARALLEL, "s 8\nf 1 2 8\nf 2 3 5\nf 2 3 3\n", ""],
-            ["min", MIN, "s 5\nf 1 2 1\n", ""],
-            ["max", MAX, FLOW, "p cut 2 2\nu 1\nu 2\n"],
-            ["paths", GRAPH, PAIR, LABELS.replace("5", "6")],
-            ["max", MAX, "dimacs solve-max\n", ""],
+            ["max", MAX, FLOW, "p cut 2 2\nu 1\nu 2\n", /true all the same: to find out, remove it, and press Check$/],
+            ["paths", GRAPH, PAIR, LABELS.replace("5", "6"), /true all the same: to find out, press Solve$/],
+            ["infeasible", MIN, "", "", /the instance has a feasible flow, which costs 10$/],
+            ["paths", GRAPH.replace("5\n", "-5\n"), PAIR, NEAR, /below 0: Solve takes no such graph, and a block with a RADIUS/],
+            ["max", FLOW, MAX, "", /the texts instance and solution are exchanged$/],
         ];
-        for (const [claim, instance, given, certificate] of rows) {
+        for (const [claim, instance, given, certificate, said] of rows) {
             await person.write({instance, claim: given, certificate}, claim);
-            const {meaning, marked} = await person.ask("Check");
-            const others = marked.reduce((rest, it) => rest.replace(it, ""), meaning);
-            assert.doesNotMatch(others, /dimacs [a-z]|-(max|min|paths|infeasible)|run /);
-            assert.equal(marked[0]?.includes("dimacs solve-max"), given.startsWith("dimacs"));
+            assert.match((await person.ask("Check")).meaning, said);
         }
     },
     "a certificate that was there before the instance": async (person) => {
