@@ -133,10 +133,10 @@ export function headed(answer) {
     if (status !== 1) return open("Undecided: the solver reached its limit, or the cost is out of range");
     const [, place, ...more] = line.split(" "), reason = more.pop();
     const is = (name) => REASONS[name].split(" ").includes(reason), isUnfit = is("unfit") && place !== "certificate";
-    const isMissed = reason === "NoTightArc" && verb !== "judge";
+    const isJudged = verb === "judge", isMissed = reason === "NoTightArc" && !isJudged, isOfRadius = is("negative") && isJudged;
     if (is("wrong") || isMissed) return {heading: "No: the answer is wrong", state: "no"};
     if (is("range")) return open("Undecided: the cost is out of range");
-    if (is("notShown") && !isUnfit) return open("Not shown: this certificate doesn't show it");
+    if (isOfRadius || (is("notShown") && !isUnfit)) return open("Not shown: this certificate doesn't show it");
     const fault = is("negative") ? "a weight is negative" : `there is a fault in the ${place}`;
     return open(`${isSolved ? "Not solved" : "Nothing was judged"}: ${isUnfit ? "the texts don't fit together" : fault}`);
 }

@@ -58,6 +58,7 @@ const TYPED = [
     ["paths", GRAPH, "p aux sp ss 0\n", "p dist 2 0\n", UNCLAIMED],
     ["paths", GRAPH, "p aux sp p2p 0\n", "p dist 2 0\n", UNCLAIMED],
     ["paths", GRAPH, PAIR, NEAR, UNCLAIMED],
+    ["paths", GRAPH.replace("5\n", "-5\n"), PAIR, NEAR, UNSHOWN],
     ["paths", GRAPH, PAIR, LABELS, "Yes: the distance from 1 to 2"],
     ["paths", GRAPH, PAIRS, NEAR, "Yes: the distances for 1 of 2 q lines; the others are beyond a radius"],
     ["paths", GRAPH, "p aux sp p2p 1\nq 2 1\n", "p dist 2 1\nt 2 0\n", "Yes: no path leads from 2 to 1"],
