@@ -311,7 +311,8 @@ const TESTS = {
     "no text that a browser puts back": async (person) => {
         await person.write({instance: MIN, claim: FLOW}, "infeasible");
         await person.page.load("about:blank");
-        await person.page.evaluate("void history.back()");
+        await until(person.page, `location.href === "about:blank"`);
+        await person.page.evaluate("void setTimeout(() => history.back())");  // which ends what it is called in
         await until(person.page, "document.documentElement.dataset.ready");
         const {values, isOff} = await person.answer();
         assert.equal(isOff, values.instance === "");
