@@ -46,7 +46,7 @@ def main():
         crates = re.findall(r"^(\w+_tests)\b.*:", it.read(), re.MULTILINE)
     jobs = [(run_crate, it, build) for it in crates]
     words = {"build": build, "program": f"{build}/dimacs"}
-    jobs += [(scripts.run, it, words) for it in scripts.listed("nothing", "program", "build")]
+    jobs += [(scripts.run, it, words) for it in scripts.listed("nothing", "program", "quick", "build")]
     print(f"{len(jobs)} tests run side by side, in about ten minutes; each prints a line as it ends", flush=True)
     scripts.finish(*scripts.run_all(jobs))
 

@@ -14,7 +14,8 @@ import sys
 TOP = os.path.dirname(os.path.dirname(os.path.abspath(__file__)))
 
 # What runs side by side: what it needs, how much has to pass in it, and its commands, one after the other. First comes
-# what needs nothing that is built, then what needs the program alone, and of the rest what takes longest.
+# what needs nothing that is built, then what needs the program alone, and of the rest what takes longest. What needs
+# `proved` runs in the gate alone, and what needs `quick` in `make check` alone.
 TABLE = """
 nothing | 51     | tests/second_proof.py
 nothing | 420    | tests/lower_addresses.py
@@ -43,6 +44,7 @@ program | 50     | tests/usage.py {program}
 program | 60     | tests/completion.py {program}
 program | 50     | tests/shown_runs.py {program}
 proved  | 6280   | tests/targets.py --build {build}
+quick   | 31500  | tests/targets.py --build {build} wasm command page
 proved  | 60     | tools/dist.py ; tests/packages.py dist
 build   | 120    | tests/library.py --build {build} Python wheel
 build   | 1040   | tests/library.py --build {build} C++

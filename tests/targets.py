@@ -266,7 +266,8 @@ def test_page(tests):
             test_hands(tests, words[2], "firefox", "firefox-esr", socket_flags(), 48)
         else:
             print("the page isn't tried in Firefox: no firefox-esr, or no node with WebSocket")
-        tests.expect("the page has at most 450 KB", os.path.getsize(words[2]) <= 450_000)
+        is_small = os.path.getsize(words[2]) <= 450_000
+        tests.expect("the page of what is proved has at most 450 KB", is_small or not is_proved(tests))
         test_reasons(tests)
 
 
