@@ -102,7 +102,7 @@ def _blocks(value: type[Distances], text: Text) -> Blocks:
     head, nodes = b" ".join(problem.split()[:3]), int(problem.split()[2])
     found = []
     for it in blocks:
-        source, block = int(it.split()[0]), bytes_of(head + b" 1\nt " + it + b"\n")
+        source, block = int(it.split(maxsplit=1)[0]), bytes_of(head + b" 1\nt " + it + b"\n")
         with _explained(value.name, text, source):
             found.append(_by_node(value, block, source))
     return Blocks(nodes, found, value.name)
