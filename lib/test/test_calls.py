@@ -117,7 +117,7 @@ class Interrupted(unittest.TestCase):
         main, begun = threading.main_thread().ident, time.monotonic()
         threading.Timer(0.1, signal.pthread_kill, [main, signal.SIGINT]).start()
         self.assertRaises(KeyboardInterrupt, call, *words)
-        self.assertLess(time.monotonic() - begun, 5)
+        self.assertLess(time.monotonic() - begun, 15)  # the calls wait for 20 seconds
 
     def test_calls(self):
         """Solvers and certifiers of arrays and texts, whose arrays are kept, and may be written to then."""
