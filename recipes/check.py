@@ -208,6 +208,14 @@ class Check:
         environment = {**self.environment, **environment}
         return subprocess.run([*words[end], *files], env=environment, capture_output=True, text=True, check=False)
 
+    def text(self, name):
+        """What was written, if anything was."""
+        path = f"{self.folder}/{name}"
+        if not os.path.exists(path):
+            return ""
+        with open(path, encoding="ascii") as file:
+            return file.read()
+
     def ends(self, recipe, texts, status, line, **environment):
         """Tests that a run ends with a status, and prints a line like this first."""
         ran = self.solve(recipe, texts, **environment)
@@ -235,11 +243,12 @@ class Check:
             found = "; ".join(ran.stdout.splitlines()) + f" (status {ran.returncode})" * (ran.returncode != 0)
             known = self.verdicts.get((run, texts), found if ran.returncode == 0 else "a verdict")
             wanted = verdict[0] if verdict else known
-            if found == wanted:
+            says_none = self.text(written[0]) == "s infeasible\n"
+            if found == wanted and says_none == (found == "v infeasible"):
                 self.accepted += 1
                 self.verdicts[run, texts] = found
             else:
-                self.fail(f"{recipe} on {texts}: wanted '{wanted}', got '{found}' {ran.stderr[-200:]}")
+                self.fail(f"{recipe} on {texts}: wanted '{wanted}', got '{found}' ({says_none=}) {ran.stderr[-200:]}")
 
 
 def main():

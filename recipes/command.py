@@ -76,11 +76,12 @@ def least_cost(doc, solve):
     """Reads INSTANCE, writes SOLUTION and POTENTIALS, and runs `dimacs judge-min` on the three. solve(instance) returns
     the flow of each arc, and the potential of each node; or None in place of these: then `dimacs certify-min` writes
     POTENTIALS. It returns None alone if the solver finds that no flow is feasible: `dimacs certify-infeasible` decides
-    whether it is so, and writes a set that shows it in place of POTENTIALS."""
+    whether it is so, and writes a set that shows it in place of POTENTIALS; SOLUTION is `s infeasible`."""
     path, solution, certificate = arguments(doc)
     instance = read("min", path)
     found = solve(instance)
     if found is None:
+        write(solution, "s infeasible")
         sys.exit(run("certify-infeasible", path, certificate))
     flows, prices = found
     cost = sum(map(operator.mul, instance.costs.tolist(), flows))  # which may have more than 64 bits

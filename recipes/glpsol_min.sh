@@ -3,7 +3,8 @@
 #
 # Reads INSTANCE, writes SOLUTION and POTENTIALS, and runs `dimacs judge-min` on the three; DIMACS names the judge.
 # glpsol computes in floating point and prints 15 digits: greater numbers come out wrong, and are refused. If it finds no
-# feasible flow, `dimacs certify-infeasible` decides whether there is none, and writes a set in place of POTENTIALS.
+# feasible flow, SOLUTION is `s infeasible`, and `dimacs certify-infeasible` decides whether there is none, and writes a
+# set in place of POTENTIALS.
 set -eu
 [ $# = 3 ] || { echo "glpsol_min.sh INSTANCE SOLUTION POTENTIALS" >&2; exit 2; }
 DIMACS=${DIMACS:-dimacs}
@@ -30,5 +31,5 @@ awk -v solution="$2" -v potentials="$3" '
         for (k = 1; k <= arcs; k++) printf "f %d %d %.0f\n", tail[k], head[k], flow[k] >solution
         printf "p pot %d %d\n", nodes, nodes >potentials
         for (node = 1; node <= nodes; node++) printf "y %d %.0f\n", node, dual[node] >potentials
-    }' "$1" "$dir/raw" || { "$DIMACS" certify-infeasible "$1" "$3"; exit; }
+    }' "$1" "$dir/raw" || { echo "s infeasible" >"$2"; "$DIMACS" certify-infeasible "$1" "$3"; exit; }
 "$DIMACS" judge-min "$1" "$2" "$3"

@@ -1,8 +1,8 @@
 // A flow of least cost and its potentials by LEMON, judged: lemon_min INSTANCE SOLUTION POTENTIALS
 //
 // Reads INSTANCE, writes SOLUTION and POTENTIALS, and runs `dimacs judge-min` on the three; DIMACS names the judge. If
-// LEMON finds no flow, `dimacs certify-infeasible` decides whether there is none, and writes a set in place of POTENTIALS,
-// which shows it. In the folder above this one:
+// LEMON finds no flow, SOLUTION is `s infeasible`, and `dimacs certify-infeasible` decides whether there is none, and
+// writes a set in place of POTENTIALS, which shows it. In the folder above this one:
 //
 //     g++ -O2 -std=c++17 -Ilib/include -o lemon_min recipes/lemon_min.cpp build/libdimacs.a
 #include "command.hpp"
@@ -29,7 +29,10 @@ int main(int count, char** words) {
     Solver solver(graph);
     solver.lowerMap(low).upperMap(capacity).costMap(cost).supplyMap(supply);
     // LEMON takes supplies as what leaves a node at least, so a total below 0 wouldn't stop it.
-    if (supplies != 0 || solver.run() != Solver::OPTIMAL) return run({"certify-infeasible", words[1], words[3]});
+    if (supplies != 0 || solver.run() != Solver::OPTIMAL) {
+        write(words[2], "s infeasible\n");
+        return run({"certify-infeasible", words[1], words[3]});
+    }
     solver.flowMap(flow);
     solver.potentialMap(potential);
 
