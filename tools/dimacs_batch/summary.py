@@ -1,0 +1,130 @@
+"""Solvers compared: what each solved, how long it took next to the best, and a performance profile."""
+import html
+import math
+import statistics
+
+from dimacs_batch.race import LIMITS
+from dimacs_batch.runs import FAULTY, INCOMPLETE, NO, NO_ANSWER, NOTHING, UNTESTED, YES
+
+# What comes of the runs of a solver on an instance, the worst first. Only what is certified is solved.
+WRONG, OTHER, NONE, LIMIT, SOLVED = OUTCOMES = ["wrong", "not judged", "no answer", "limit", "solved"]
+WRONG_CLASSES = {NO, FAULTY, INCOMPLETE, NOTHING, UNTESTED}
+
+# How often the limit an instance counts that isn't solved (PAR2, of the SAT competitions), and the seconds that each run
+# counts at least in a ratio.
+PENALTY, LEAST = 2, 0.01
+
+ABOUT = (
+    "Solved: each round's answer is certified. Seconds are the processor's, of the median round. An instance that isn't"
+    " solved counts as twice the limit, in the mean of all seconds (PAR2, as the SAT competitions have it) and in the"
+    " geometric mean of the ratios to the best solver, which is over instances that some solver solved, and has runs of"
+    f" {LEAST} s at least. Not measured: what else the machine did meanwhile, since solvers are neither isolated nor"
+    " pinned to cores; work that they have done elsewhere, as by a service; and what they keep from round to round."
+)
+APART = "Not comparable, since the runs are of several machines"
+COLORS = ["#0072b2", "#d55e00", "#009e73", "#cc79a7", "#e69f00", "#56b4e9", "#888888"]  # of Okabe and Ito
+WIDTH, HEIGHT, LEFT, KEY = 560, 256, 46, 190  # of the picture
+
+
+def outcome_of(row):
+    """What came of a run."""
+    if row["class"] == YES:
+        return SOLVED
+    if row["class"] in WRONG_CLASSES:
+        return WRONG
+    if row["class"] != NO_ANSWER:
+        return OTHER
+    return LIMIT if row["end"] in LIMITS else NONE
+
+
+class Race:
+    """What came of all runs on instances of a kind: by instance and solver the worst outcome, and the median of the
+    seconds."""
+
+    def __init__(self, kind, rows):
+        runs, self.kind, self.all_solvers = {}, kind, sorted({row["solver"] for row in rows})
+        for row in rows:
+            if row["round"] and row["kind"] == kind:
+                runs.setdefault((row["instance"], row["solver"]), []).append(row)
+        self.limit = max(float(row["run_limits"].split()[0]) for its in runs.values() for row in its)
+        self.solvers = sorted({solver for _, solver in runs})
+        self.instances = sorted({instance for instance, _ in runs})
+        self.outcomes = {key: min(map(outcome_of, its), key=OUTCOMES.index) for key, its in runs.items()}
+        self.seconds = {
+            key: statistics.median(float(it["run_cpu"]) for it in runs[key])
+            for key, outcome in self.outcomes.items() if outcome == SOLVED
+        }
+
+    def best(self, instance):
+        """The least seconds, if any solver solved it."""
+        return min((self.seconds[instance, it] for it in self.solvers if (instance, it) in self.seconds), default=None)
+
+    def ratios(self, solver, unsolved=math.inf):
+        """The ratios to the best on instances that some solver solved; what this one didn't counts as `unsolved`."""
+        its = [it for it in self.instances if (it, solver) in self.outcomes and self.best(it) is not None]
+        return [max(self.seconds.get((it, solver), unsolved), LEAST) / max(self.best(it), LEAST) for it in its]
+
+    def sums(self):
+        """Yields a row for each solver."""
+        late = PENALTY * self.limit
+        for solver in self.solvers:
+            its = [it for it in self.instances if (it, solver) in self.outcomes]
+            found = [self.outcomes[it, solver] for it in its]
+            taken, ratios = [self.seconds.get((it, solver), late) for it in its], self.ratios(solver, late)
+            counts = {it: found.count(it) for it in reversed(OUTCOMES) if it != OTHER or it in self.outcomes.values()}
+            row = {"kind": self.kind, "solver": solver, "instances": len(its), **counts}
+            row.update({"PAR2, s": f"{statistics.mean(taken):.3f}"})
+            row.update({"ratio to best": f"{statistics.geometric_mean(ratios):.2f}" if ratios else ""})
+            row.update(best=sum(self.seconds.get((it, solver)) == self.best(it) is not None for it in its))
+            yield {name: str(it) for name, it in row.items()}
+
+    def by_instance(self):
+        """Yields a row for each instance: the seconds of each solver, or what came of it; * is the best."""
+        for it in self.instances:
+            cells = {solver: self.outcomes.get((it, solver), "") for solver in self.solvers}
+            for solver in self.solvers:
+                if (it, solver) in self.seconds:
+                    seconds = self.seconds[it, solver]
+                    cells[solver] = f"{seconds:.3f}" + (" *" if seconds == self.best(it) else "")
+            yield {"instance": it, **cells}
+
+
+def races(rows):
+    """Those of each kind whose solvers were run."""
+    return [Race(kind, rows) for kind in sorted({row["kind"] for row in rows if row["round"]})]
+
+
+def path_of(ratios, most):
+    """The steps of a profile: of how many instances the ratio is at most so much, up to the greatest one drawn."""
+    line = f"M{LEFT},{HEIGHT}"
+    for count, ratio in enumerate(sorted(it for it in ratios if it <= most), 1):
+        line += f"H{place_of(ratio, most):.1f}V{HEIGHT * (1 - count / len(ratios)):.1f}"
+    return line + f"H{WIDTH}"
+
+
+def place_of(ratio, most):
+    return LEFT + (WIDTH - LEFT) * math.log(ratio) / math.log(most)
+
+
+def profile(race):
+    """The performance profile (Dolan and More 2002) as SVG: how often a solver is within a factor of the best."""
+    ratios = {it: race.ratios(it) for it in race.solvers}
+    most = max([2, *(it for its in ratios.values() for it in its if it < math.inf)]) * 1.1
+    total = WIDTH + KEY
+    out = [f'<svg viewBox="0 -8 {total} {HEIGHT + 52}" width="{total}" role="img" font-size="13" fill="currentColor">']
+    out.append("<title>Performance profile</title>")
+    for part in (0, 25, 50, 75, 100):
+        y = HEIGHT * (1 - part / 100)
+        out.append(f'<path d="M{LEFT},{y:.1f}H{WIDTH}" stroke="currentColor" stroke-opacity=".2"/>')
+        out.append(f'<text x="{LEFT - 6}" y="{y + 4:.1f}" text-anchor="end">{part} %</text>')
+    for power in range(0, int(math.log2(most)) + 1, math.ceil(math.log2(most) / 8)):
+        x = place_of(2**power, most)
+        out.append(f'<text x="{x:.1f}" y="{HEIGHT + 18}" text-anchor="middle">{2**power}</text>')
+    out.append(f'<text x="{LEFT}" y="{HEIGHT + 38}">seconds, as a multiple of those of the best solver</text>')
+    for number, (solver, its) in enumerate(ratios.items()):
+        turn, color = divmod(race.all_solvers.index(solver), len(COLORS))
+        how = f'stroke="{COLORS[color]}" stroke-width="2"' + (f' stroke-dasharray="{3 * turn} 3"' if turn else "")
+        y = 8 + 20 * number
+        out.append(f'<path d="{path_of(its, most)}" fill="none" {how}/><path d="M{WIDTH + 14},{y - 4}h20" {how}/>')
+        out.append(f'<text x="{WIDTH + 40}" y="{y}">{html.escape(solver)}</text>')
+    return "\n".join([*out, "</svg>"])
