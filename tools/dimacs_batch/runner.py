@@ -5,16 +5,15 @@
 The line is JSON: how it ended (`ended`, or the limit: `seconds`, `clock`, `memory`), its status, the seconds of the
 processor and of the clock, the greatest memory in KiB, and the last line that it printed. There is none if the runner
 is stopped, as it is once PARENT, who starts it, has ended. It is small, and apart from dimacs-batch: the system counts
-the memory of whoever starts a program to its peak. All that is started belongs to it, whatever groups and sessions that
-makes.
+the memory of whoever starts a program to its peak. All that is started belongs to it, whatever sessions that makes.
 """
 import ctypes
 import json
 import os
 import resource
-import select
 import signal
 import sys
+import threading
 import time
 from contextlib import suppress
 
@@ -23,8 +22,7 @@ TICK, PAGE = os.sysconf("SC_CLK_TCK"), os.sysconf("SC_PAGE_SIZE")
 STEPS = 0.02, 0.5  # seconds between two looks at what is used: at first, and later, as one twentieth of what elapsed
 MORE = 1 << 30  # bytes beyond the limit that a process can't have, even between two looks
 LONGEST = 1000  # bytes of the last line that are kept
-STOPS = (signal.SIGTERM, signal.SIGHUP, signal.SIGINT)
-AS_USUAL = (signal.SIGPIPE, signal.SIGXFSZ)  # which Python ignores
+WAITED_FOR = {signal.SIGCHLD, signal.SIGTERM, signal.SIGHUP, signal.SIGINT}
 
 control = ctypes.CDLL(None).prctl
 
@@ -44,15 +42,8 @@ def family():
     return found
 
 
-def limit(what, most):
-    """Sets a limit, unless a lower one is set."""
-    _, highest = resource.getrlimit(what)
-    most = most if highest == resource.RLIM_INFINITY else min(most, highest)
-    resource.setrlimit(what, (most, most))
-
-
-def begin(said, source, output, most, words):
-    """Begins the solver, which prints to `said`; its number."""
+def begin(printed, most, source, output, *words):
+    """Begins the solver; its number."""
     pid = os.fork()
     if pid:
         return pid
@@ -60,13 +51,15 @@ def begin(said, source, output, most, words):
         os.setsid()
         control(SET_DEATH_SIGNAL, signal.SIGKILL)
         os.dup2(os.open(source, os.O_RDONLY), 0)
-        os.dup2(os.open(output, os.O_WRONLY | os.O_CREAT, 0o666) if output else said, 1)
-        os.dup2(said, 2)
-        limit(resource.RLIMIT_CORE, 0)
-        limit(resource.RLIMIT_FSIZE, most)
-        limit(resource.RLIMIT_DATA, most + MORE)
-        for it in AS_USUAL:
+        os.dup2(os.open(output, os.O_WRONLY | os.O_CREAT, 0o666) if output else printed, 1)
+        os.dup2(printed, 2)
+        for what, room in ((resource.RLIMIT_FSIZE, most), (resource.RLIMIT_DATA, most + MORE)):
+            highest = resource.getrlimit(what)[1]
+            room = room if highest == resource.RLIM_INFINITY else min(room, highest)
+            resource.setrlimit(what, (room, room))
+        for it in (signal.SIGPIPE, signal.SIGXFSZ):  # which Python ignores
             signal.signal(it, signal.SIG_DFL)
+        signal.pthread_sigmask(signal.SIG_SETMASK, [])
         os.execvp(words[0], words)
     except OSError as error:
         os.write(2, f"{words[0]}: {error.strerror}\n".encode(errors="replace"))
@@ -75,7 +68,7 @@ def begin(said, source, output, most, words):
 
 
 class Family:
-    """What those took that have ended, what was seen of all, and the status of the first."""
+    """What those took that have ended, what all were seen to take, and the status of the first."""
 
     def __init__(self, first):
         self.first, self.status, self.ended, self.cpu, self.peak = first, None, 0, 0, 0
@@ -106,62 +99,40 @@ class Family:
             self.take(0)
 
 
-def signals():
-    """A pipe that has the numbers of signals that come."""
-    woken, wake = os.pipe()
-    os.set_blocking(wake, False)
-    signal.set_wakeup_fd(wake, warn_on_full_buffer=False)
-    for it in (signal.SIGCHLD, *STOPS):
-        signal.signal(it, lambda *_: None)
-    return woken
-
-
-def watch(its, said, woken, limits):
-    """Waits for the end, or for a limit or a signal that is above; which it is, and the last bytes that were printed."""
-    begun, due, last, sources = time.monotonic(), 0, b"", [said, woken]
-    while True:
-        ready = select.select(sources, [], [], max(0, due - time.monotonic()))[0]
-        if said in ready:
-            piece = os.read(said, 1 << 16)
-            last = (last + piece)[-LONGEST:]
-            sources = sources if piece else [woken]
-        if woken in ready and {*os.read(woken, 1 << 10)} & {*STOPS}:
-            return "stopped", last
-        while its.status is None and its.take(os.WNOHANG):
-            pass
-        took = time.monotonic() - begun
-        if took + begun >= due or its.status is not None:
-            its.look()
-            due = begun + took + min(max(took / 20, STEPS[0]), STEPS[1])
-            over = [it for it, used in (("seconds", its.cpu), ("clock", took), ("memory", its.peak)) if used > limits[it]]
-            if over or its.status is not None:
-                return (over or ["ended"])[0], last
-
-
-def main(parent, seconds, clock, megabytes, *files_and_words):
-    begun, woken, (said, printed) = time.monotonic(), signals(), os.pipe()
+def main(parent, seconds, clock, megabytes, *words):
+    begun, step, over, stopped, last, (said, printed) = time.monotonic(), STEPS[0], [], False, [b""], os.pipe()
     if os.getppid() != int(parent):
         return
-    source, output, *words = files_and_words
-    its = Family(begin(printed, source, output, int(megabytes) << 20, words))
+
+    def read():
+        for piece in iter(lambda: os.read(said, 1 << 16), b""):
+            last[0] = (last[0] + piece)[-LONGEST:]
+
+    its, reader = Family(begin(printed, int(megabytes) << 20, *words)), threading.Thread(target=read, daemon=True)
     os.close(printed)
-    limits = {"seconds": float(seconds), "clock": float(clock), "memory": int(megabytes) << 10}
-    end, last = watch(its, said, woken, limits)
-    took = time.monotonic() - begun
+    reader.start()
+    while its.status is None and not over and not stopped:
+        came = signal.sigtimedwait(WAITED_FOR, step)
+        stopped = came and came.si_signo != signal.SIGCHLD
+        while its.status is None and its.take(os.WNOHANG):
+            pass
+        its.look()
+        took = time.monotonic() - begun
+        step = min(max(took / 20, STEPS[0]), STEPS[1])
+        limits = {"seconds": (its.cpu, seconds), "clock": (took, clock), "memory": (its.peak / 1024, megabytes)}
+        over = [it for it, (used, most) in limits.items() if used > float(most)]
     with suppress(ChildProcessError):
         its.end()
-    if end == "stopped":
-        return
-    os.set_blocking(said, False)
-    with suppress(BlockingIOError):
-        last += os.read(said, 1 << 20)
-    last = last[-LONGEST:].decode("utf-8", "replace").strip().rpartition("\n")[2]
-    end = "seconds" if end == "ended" and its.cpu > limits["seconds"] else end
-    found = {"end": end, "status": its.status, "cpu": its.cpu, "seconds": took, "memory": its.peak, "said": last}
-    print(json.dumps(found))
+    reader.join(STEPS[1])  # what is out of reach may have the pipe still
+    end = over[0] if over else "seconds" if its.cpu > float(seconds) else "ended"
+    line = last[0].decode("utf-8", "replace").strip().rpartition("\n")[2]
+    found = {"end": end, "status": its.status, "cpu": its.cpu, "seconds": took, "memory": its.peak, "said": line}
+    print("" if stopped else json.dumps(found))
 
 
 if __name__ == "__main__":
+    signal.pthread_sigmask(signal.SIG_BLOCK, WAITED_FOR)
+    signal.signal(signal.SIGCHLD, signal.SIG_DFL)  # or the ends of processes aren't kept to be waited for
     control(SET_SUBREAPER, 1)
     control(SET_DEATH_SIGNAL, signal.SIGTERM)
     main(*sys.argv[1:])

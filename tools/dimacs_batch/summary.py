@@ -8,9 +8,9 @@ from dimacs_batch.runs import FAULTY, INCOMPLETE, NO, NO_ANSWER, NOTHING, UNTEST
 
 # What comes of the runs of a solver on an instance, the worst first. Only what is certified is solved.
 WRONG, OTHER, NONE, LIMIT, SOLVED = OUTCOMES = ["wrong", "not judged", "no answer", "limit", "solved"]
-WRONG_CLASSES = {NO, FAULTY, INCOMPLETE, NOTHING, UNTESTED}
+OF_CLASS = {YES: SOLVED, NO_ANSWER: NONE, **dict.fromkeys((NO, FAULTY, INCOMPLETE, NOTHING, UNTESTED), WRONG)}
 
-# How often the limit an instance counts that isn't solved (PAR2, of the SAT competitions), and the seconds that each run
+# How often the limit an instance counts that is not solved (PAR2, of the SAT competitions), and the seconds that a run
 # counts at least in a ratio.
 PENALTY, LEAST = 2, 0.01
 
@@ -23,23 +23,17 @@ ABOUT = (
 )
 APART = "Not comparable, since the runs are of several machines"
 COLORS = ["#0072b2", "#d55e00", "#009e73", "#cc79a7", "#e69f00", "#56b4e9", "#888888"]  # of Okabe and Ito
-WIDTH, HEIGHT, LEFT, KEY = 560, 256, 46, 190  # of the picture
+WIDTH, HEIGHT, LEFT, RIGHT = 750, 256, 46, 560  # of the picture, and of the profile in it
 
 
 def outcome_of(row):
     """What came of a run."""
-    if row["class"] == YES:
-        return SOLVED
-    if row["class"] in WRONG_CLASSES:
-        return WRONG
-    if row["class"] != NO_ANSWER:
-        return OTHER
-    return LIMIT if row["end"] in LIMITS else NONE
+    is_half = row["class"] == FAULTY and row["end"] != "ended"  # it ended by a status that says so
+    return LIMIT if row["end"] in LIMITS else NONE if is_half else OF_CLASS.get(row["class"], OTHER)
 
 
 class Race:
-    """What came of all runs on instances of a kind: by instance and solver the worst outcome, and the median of the
-    seconds."""
+    """The runs on instances of a kind: by instance and solver the worst outcome, and the median of the seconds."""
 
     def __init__(self, kind, rows):
         runs, self.kind, self.all_solvers = {}, kind, sorted({row["solver"] for row in rows})
@@ -73,20 +67,17 @@ class Race:
             taken, ratios = [self.seconds.get((it, solver), late) for it in its], self.ratios(solver, late)
             counts = {it: found.count(it) for it in reversed(OUTCOMES) if it != OTHER or it in self.outcomes.values()}
             row = {"kind": self.kind, "solver": solver, "instances": len(its), **counts}
-            row.update({"PAR2, s": f"{statistics.mean(taken):.3f}"})
-            row.update({"ratio to best": f"{statistics.geometric_mean(ratios):.2f}" if ratios else ""})
-            row.update(best=sum(self.seconds.get((it, solver)) == self.best(it) is not None for it in its))
+            row["PAR2, s"] = f"{statistics.mean(taken):.3f}"
+            row["ratio to best"] = f"{statistics.geometric_mean(ratios):.2f}" if ratios else ""
+            row["best"] = sum(self.seconds.get((it, solver)) == self.best(it) is not None for it in its)
             yield {name: str(it) for name, it in row.items()}
 
     def by_instance(self):
         """Yields a row for each instance: the seconds of each solver, or what came of it; * is the best."""
+        timed = {key: f"{its:.3f}" + " *" * (its == self.best(key[0])) for key, its in self.seconds.items()}
+        shown = {**self.outcomes, **timed}
         for it in self.instances:
-            cells = {solver: self.outcomes.get((it, solver), "") for solver in self.solvers}
-            for solver in self.solvers:
-                if (it, solver) in self.seconds:
-                    seconds = self.seconds[it, solver]
-                    cells[solver] = f"{seconds:.3f}" + (" *" if seconds == self.best(it) else "")
-            yield {"instance": it, **cells}
+            yield {"instance": it, **{solver: shown.get((it, solver), "") for solver in self.solvers}}
 
 
 def races(rows):
@@ -99,23 +90,22 @@ def path_of(ratios, most):
     line = f"M{LEFT},{HEIGHT}"
     for count, ratio in enumerate(sorted(it for it in ratios if it <= most), 1):
         line += f"H{place_of(ratio, most):.1f}V{HEIGHT * (1 - count / len(ratios)):.1f}"
-    return line + f"H{WIDTH}"
+    return line + f"H{RIGHT}"
 
 
 def place_of(ratio, most):
-    return LEFT + (WIDTH - LEFT) * math.log(ratio) / math.log(most)
+    return LEFT + (RIGHT - LEFT) * math.log(ratio) / math.log(most)
 
 
 def profile(race):
     """The performance profile (Dolan and More 2002) as SVG: how often a solver is within a factor of the best."""
     ratios = {it: race.ratios(it) for it in race.solvers}
     most = max([2, *(it for its in ratios.values() for it in its if it < math.inf)]) * 1.1
-    total = WIDTH + KEY
-    out = [f'<svg viewBox="0 -8 {total} {HEIGHT + 52}" width="{total}" role="img" font-size="13" fill="currentColor">']
+    out = [f'<svg viewBox="0 -8 {WIDTH} {HEIGHT + 52}" width="{WIDTH}" role="img" font-size="13" fill="currentColor">']
     out.append("<title>Performance profile</title>")
     for part in (0, 25, 50, 75, 100):
         y = HEIGHT * (1 - part / 100)
-        out.append(f'<path d="M{LEFT},{y:.1f}H{WIDTH}" stroke="currentColor" stroke-opacity=".2"/>')
+        out.append(f'<path d="M{LEFT},{y:.1f}H{RIGHT}" stroke="currentColor" stroke-opacity=".2"/>')
         out.append(f'<text x="{LEFT - 6}" y="{y + 4:.1f}" text-anchor="end">{part} %</text>')
     for power in range(0, int(math.log2(most)) + 1, math.ceil(math.log2(most) / 8)):
         x = place_of(2**power, most)
@@ -125,6 +115,6 @@ def profile(race):
         turn, color = divmod(race.all_solvers.index(solver), len(COLORS))
         how = f'stroke="{COLORS[color]}" stroke-width="2"' + (f' stroke-dasharray="{3 * turn} 3"' if turn else "")
         y = 8 + 20 * number
-        out.append(f'<path d="{path_of(its, most)}" fill="none" {how}/><path d="M{WIDTH + 14},{y - 4}h20" {how}/>')
-        out.append(f'<text x="{WIDTH + 40}" y="{y}">{html.escape(solver)}</text>')
+        out.append(f'<path d="{path_of(its, most)}" fill="none" {how}/><path d="M{RIGHT + 14},{y - 4}h20" {how}/>')
+        out.append(f'<text x="{RIGHT + 40}" y="{y}">{html.escape(solver)}</text>')
     return "\n".join([*out, "</svg>"])
