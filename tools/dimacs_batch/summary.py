@@ -110,7 +110,7 @@ def profile(race):
     for power in range(0, int(math.log2(most)) + 1, math.ceil(math.log2(most) / 8)):
         x = place_of(2**power, most)
         out.append(f'<text x="{x:.1f}" y="{HEIGHT + 18}" text-anchor="middle">{2**power}</text>')
-    out.append(f'<text x="{LEFT}" y="{HEIGHT + 38}">seconds, as a multiple of those of the best solver</text>')
+    out.append(f'<text x="{LEFT}" y="{HEIGHT + 38}">solved, within so many times the seconds of the best solver</text>')
     for number, (solver, its) in enumerate(ratios.items()):
         turn, color = divmod(race.all_solvers.index(solver), len(COLORS))
         how = f'stroke="{COLORS[color]}" stroke-width="2"' + (f' stroke-dasharray="{3 * turn} 3"' if turn else "")
