@@ -43,12 +43,13 @@ def wanted():
         yield "dimacs.5", "reason", reason
     for heading in re.findall(r"^### (.*)$", texts, re.MULTILINE):
         yield "dimacs.5", "heading", heading
-    for option in re.findall(r'"(--?[a-z]+)"', read("tools/dimacs_batch/options.py")):
+    for option in re.findall(r'"(--?[a-z-]+)"', read("tools/dimacs_batch/options.py")):
         yield "dimacs-batch.1", "option", option
     for option in re.findall(r'"(--?[a-z]+)"', read("tools/dimacs_draw/options.py")):
         yield "dimacs-draw.1", "option", option
-    rows = read("tools/dimacs_batch/rows.py")
-    for column in re.findall(r'"(\w+)"', re.search(r"^COLUMNS = \[(.*?)^\]$", rows, re.MULTILINE | re.DOTALL)[1]):
+    lists = read("tools/dimacs_batch/rows.py") + read("tools/dimacs_batch/race.py")
+    lists = re.findall(r"^(?:COLUMNS|KNOWN|RUN) = \[(.*?)\]$", lists, re.MULTILINE | re.DOTALL)
+    for column in re.findall(r'"(\w+)"', "".join(lists)):
         yield "dimacs-batch.1", "column", f" {column} "
 
 
