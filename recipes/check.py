@@ -17,6 +17,7 @@ The last lines name what was left out, and count the answers that were accepted,
 what failed.
 """
 import os
+import pathlib
 import random
 import re
 import shutil
@@ -208,14 +209,6 @@ class Check:
         environment = {**self.environment, **environment}
         return subprocess.run([*words[end], *files], env=environment, capture_output=True, text=True, check=False)
 
-    def text(self, name):
-        """What was written, if anything was."""
-        path = f"{self.folder}/{name}"
-        if not os.path.exists(path):
-            return ""
-        with open(path, encoding="ascii") as file:
-            return file.read()
-
     def ends(self, recipe, texts, status, line, **environment):
         """Tests that a run ends with a status, and prints a line like this first."""
         ran = self.solve(recipe, texts, **environment)
@@ -243,7 +236,8 @@ class Check:
             found = "; ".join(ran.stdout.splitlines()) + f" (status {ran.returncode})" * (ran.returncode != 0)
             known = self.verdicts.get((run, texts), found if ran.returncode == 0 else "a verdict")
             wanted = verdict[0] if verdict else known
-            says_none = self.text(written[0]) == "s infeasible\n"
+            claim = pathlib.Path(self.folder, written[0])
+            says_none = claim.exists() and claim.read_text(encoding="ascii") == "s infeasible\n"
             if found == wanted and says_none == (found == "v infeasible"):
                 self.accepted += 1
                 self.verdicts[run, texts] = found

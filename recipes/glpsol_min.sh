@@ -3,8 +3,7 @@
 #
 # Reads INSTANCE, writes SOLUTION and POTENTIALS, and runs `dimacs judge-min` on the three; DIMACS names the judge.
 # glpsol computes in floating point and prints 15 digits: greater numbers come out wrong, and are refused. If it finds no
-# feasible flow, SOLUTION is `s infeasible`, and `dimacs certify-infeasible` decides whether there is none, and writes a
-# set in place of POTENTIALS.
+# feasible flow, SOLUTION says so, and `dimacs certify-infeasible` decides, and writes a set in place of POTENTIALS.
 set -eu
 [ $# = 3 ] || { echo "glpsol_min.sh INSTANCE SOLUTION POTENTIALS" >&2; exit 2; }
 DIMACS=${DIMACS:-dimacs}

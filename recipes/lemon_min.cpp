@@ -29,10 +29,8 @@ int main(int count, char** words) {
     Solver solver(graph);
     solver.lowerMap(low).upperMap(capacity).costMap(cost).supplyMap(supply);
     // LEMON takes supplies as what leaves a node at least, so a total below 0 wouldn't stop it.
-    if (supplies != 0 || solver.run() != Solver::OPTIMAL) {
-        write(words[2], "s infeasible\n");
-        return run({"certify-infeasible", words[1], words[3]});
-    }
+    if (supplies != 0 || solver.run() != Solver::OPTIMAL)
+        return write(words[2], "s infeasible\n"), run({"certify-infeasible", words[1], words[3]});
     solver.flowMap(flow);
     solver.potentialMap(potential);
 
