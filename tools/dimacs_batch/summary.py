@@ -29,7 +29,7 @@ WIDTH, HEIGHT, LEFT, RIGHT = 750, 256, 46, 560  # of the picture, and of the pro
 def outcome_of(row):
     """What came of a run."""
     is_half = row["class"] == FAULTY and row["end"] != "ended"  # it ended by a status that says so
-    return LIMIT if row["end"] in LIMITS else NONE if is_half else OF_CLASS.get(row["class"], OTHER)
+    return LIMIT if row["end"] in LIMITS else NONE if is_half else OF_CLASS.get(row["run_cpu"] and row["class"], OTHER)
 
 
 class Race:
@@ -40,7 +40,7 @@ class Race:
         for row in rows:
             if row["round"] and row["kind"] == kind:
                 runs.setdefault((row["instance"], row["solver"]), []).append(row)
-        self.limit = max(float(row["run_limits"].split()[0]) for its in runs.values() for row in its)
+        self.limit = max(float(row["run_limits"].split(" ")[0] or 0) for its in runs.values() for row in its)
         self.solvers = sorted({solver for _, solver in runs})
         self.instances = sorted({instance for instance, _ in runs})
         self.outcomes = {key: min(map(outcome_of, its), key=OUTCOMES.index) for key, its in runs.items()}
