@@ -1,6 +1,6 @@
 # The one door to all that is built, tested, proved, installed and packed here. `make help` lists it.
 #
-# What is proved goes to build/, and what isn't to build/quick/.
+# What is proved goes to build/, and what isn't to build/quick/ and build/rust/.
 SHELL = /bin/sh
 .DELETE_ON_ERROR:
 
@@ -35,6 +35,9 @@ FOLDERS = PREFIX BINDIR LIBDIR INCLUDEDIR DATADIR MANDIR DOCDIR ZSHDIR DESTDIR
 
 # The folder of what is installed: what is proved, or with UNPROVED=1 what isn't.
 FROM = build$(if $(UNPROVED),/quick)
+ifneq ($(filter build/quick% build/rust%,$(FROM)),)
+override UNPROVED = 1
+endif
 MADE = $(if $(wildcard tools/man_pages.py),build/man$(if $(UNPROVED),-unproved))
 
 ## make: proves the program and the library, and builds build/dimacs, build/libdimacs.a and build/libdimacs.so
@@ -54,6 +57,14 @@ check: quick
 	@tools/kit.py >/dev/null
 	@tests/check.py build/quick
 
+## make rust: builds them unproved in build/rust by Rust 1.88 or later, without the kit, in two minutes of processor time
+rust: build/rust/dimacs $(if $(shell command -v $(OBJCOPY)),build/rust/linked)
+	@echo 'Try:  build/rust/dimacs certify-max examples/pipes.max examples/pipes.solution'
+
+## make check-rust: tests build/rust, in ten minutes, without the kit
+check-rust: rust
+	@tests/check.py build/rust
+
 ## make prove: the gate: proves all from nothing, has a tenth of the wrong bodies refused, and runs the tests over it
 prove:
 	.ci/gate
@@ -66,12 +77,16 @@ prove-all:
 referee:
 	@referee/proof/build.sh build/referee
 
-# These leave what was built of the same sources as it is (tools/sources.py), which times alone don't show.
+# These leave what was built of the same sources as it is (tools/sources.py), which times alone don't show. Make links the
+# library of build/rust if objcopy is GNU's; else cargo does.
 build/quick/dimacs build/quick/dimacs.bc &: FORCE
 	@tools/quick_build.py program build/quick/dimacs
 
 build/quick/dimacs_c.a build/quick/dimacs_c.bc &: FORCE
 	@tools/quick_build.py library build/quick/dimacs_c.a
+
+%/rust/dimacs %/rust/dimacs_c.a: FORCE
+	@tools/rust_build.py $(@D)
 
 build/dimacs build/dimacs_c.a build/dimacs_c.bc &: FORCE
 	@tools/proved_build.py build
@@ -80,6 +95,12 @@ build/dimacs build/dimacs_c.a build/dimacs_c.bc &: FORCE
 proved-by-ci:
 	tools/proved_build.py --by-ci build
 	$(MAKE) --no-print-directory build/linked
+
+# rustc's archive has all of its std. What no call needs is left out, and all else but the calls is local: a program in
+# Rust has a std of its own.
+%/rust/dimacs.o: %/rust/dimacs_c.a
+	$(CC) -r -nostdlib -o $@ -Wl,--force-group-allocation $(CALLS:%=-Wl,-u,%) $<
+	$(OBJCOPY) --wildcard --keep-global-symbol='dimacs_*' $@
 
 # One object of the calls and the kit's C library, which takes memory by malloc. What isn't exported is local in it:
 # nothing else can clash with a name of another library.
@@ -163,7 +184,7 @@ clean:
 include targets.mk
 
 # Of these, what a failed proof leaves is whole, and of the sources that are noted beside it.
-.PRECIOUS: build/dimacs build/dimacs_c.a build/dimacs_c.bc %/dimacs.o %/libdimacs.a %/libdimacs.so.0 \
-    %/libdimacs.so
-.PHONY: all help quick check referee prove prove-all proved-by-ci install uninstall linked dist check-packages proved-only \
-    no-such-system release theorem bench clean FORCE
+.PRECIOUS: build/dimacs build/dimacs_c.a build/dimacs_c.bc %/rust/dimacs %/rust/dimacs_c.a %/rust/dimacs.o %/dimacs.o \
+    %/libdimacs.a %/libdimacs.so.0 %/libdimacs.so
+.PHONY: all help quick check rust check-rust referee prove prove-all proved-by-ci install uninstall linked dist \
+    check-packages proved-only no-such-system release theorem bench clean FORCE

@@ -4,8 +4,8 @@
 BUILD is the folder of the program and the library that are tested; build/quick if none is given. The test crate runs
 by `rt try --test`, which compiles it unproved, with tests of indices, sums and addresses of its own. A test that
 doesn't end there in a minute, as those of the greatest number of nodes, runs without these, in its crate built as the
-program is. The scripts of tests/scripts.py run over BUILD, but those that need what is proved. The last line counts what
-passed and what failed in all of them.
+program is. The scripts of tests/scripts.py run over BUILD, but those that need what is proved. For build/rust, which is
+made without the kit, what needs the kit is left out. The last line counts what passed and what failed in all of them.
 """
 import os
 import re
@@ -44,9 +44,10 @@ def main():
     build = os.path.abspath(sys.argv[1] if len(sys.argv) > 1 else f"{scripts.TOP}/build/quick")
     with open(f"{scripts.TOP}/crates.txt", encoding="utf-8") as it:
         crates = re.findall(r"^(\w+_tests)\b.*:", it.read(), re.MULTILINE)
-    jobs = [(run_crate, it, build) for it in crates]
+    with_kit = os.path.basename(build) != "rust"
+    jobs = [(run_crate, it, build) for it in crates if with_kit]
     words = {"build": build, "program": f"{build}/dimacs"}
-    jobs += [(scripts.run, it, words) for it in scripts.listed("nothing", "program", "quick", "build")]
+    jobs += [(scripts.run, it, words) for it in scripts.listed("nothing", *["kit"] * with_kit, "program", "build")]
     print(f"{len(jobs)} tests run side by side, in about ten minutes; each prints a line as it ends", flush=True)
     scripts.finish(*scripts.run_all(jobs))
 

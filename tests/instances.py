@@ -26,7 +26,7 @@ def compiled_once():
 def refusing_library(folder, unseen=None):
     """Compiles refusals.c, which doesn't see one of the calls that it refuses, if that is named."""
     library = os.path.join(folder, f"refusals{unseen or ''}.so")
-    renamed = [f"-D{unseen}=unseen"] if unseen else []
+    renamed = [f"-D{unseen}=unseen", f"-D{unseen}64=unseen64"] if unseen else []
     words = ["cc", "-O2", "-shared", "-fPIC", *renamed, "-o", library, os.path.join(HERE, "refusals.c")]
     subprocess.run(words, check=True)
     return library

@@ -14,17 +14,19 @@ import sys
 TOP = os.path.dirname(os.path.dirname(os.path.abspath(__file__)))
 
 # What runs side by side: what it needs, how much has to pass in it, and its commands, one after the other. First comes
-# what needs nothing that is built, then what needs the program alone, and of the rest what takes longest. What needs
-# `proved` runs in the gate alone, and what needs `quick` in `make check` alone.
+# what needs nothing that is built, but perhaps the kit, then what needs the program alone, and of the rest what takes
+# longest. What needs `rust` runs over what cargo builds, and needs a debug build too.
 TABLE = """
 nothing | 51     | tests/second_proof.py
 nothing | 420    | tests/lower_addresses.py
-nothing | 34     | tests/gate_test.py
-nothing | 0      | tools/try_bodies.py --apply
+kit     | 34     | tests/gate_test.py
+kit     | 0      | tools/try_bodies.py --apply
 nothing | 0      | tools/group_imports.py --check
 nothing | 0      | tools/believed.py
 nothing | 0      | tools/crate_tables.py --check
 nothing | 19     | tests/module_circles.py
+nothing | 370    | tests/to_rust.py
+kit     | 1      | tests/to_rust.py --by-kit
 nothing | 380    | tests/promises.py
 nothing | 400    | tests/links.py
 nothing | 14     | tests/theorem.py
@@ -54,6 +56,17 @@ build   | 5000   | tests/library.py --build {build} --instances 5000 arrays
 build   | 43     | tests/install.py {build}
 build   | 28     | tests/abi.py {build}
 build   | 13     | tests/version.py {build}
+build   | 2      | tests/stacks.py {build}
+cargo   | 9      | tests/rust_layers.py {build}
+rust    | 13360  | tests/referee.py {build}/debug/dimacs
+rust    | 830    | tests/rows.py {build}/debug/dimacs
+rust    | 830    | tests/rows.py {program}
+rust    | 94     | tests/refusals.py {program}
+rust    | 1050   | tests/explain.py {program} 80
+rust    | 50     | tests/usage.py {program}
+rust    | 2140   | tests/library.py --build {build} C Rust
+rust    | 2      | tests/stacks.py {build}
+rust    | 13     | tests/version.py {build}
 """
 
 COUNTED = re.compile(r"^(\d+) passed, (\d+) failed\b[^\n]*\n?\Z", re.MULTILINE)

@@ -15,7 +15,7 @@ import tempfile
 import scripts
 from instances import BINARY
 
-VERSION = r"dimacs \d+\.\d+\.\d+\S* \((?:not proved|proved by .*)\)\n"
+VERSION = r"dimacs \d+\.\d+\.\d+\S* (?:\(by rustc \S+\) )?\((?:not proved|proved by .*)\)\n"
 WHOLE = VERSION + r"Reads, .*\n\nUsage: dimacs COMMAND FILE\.\.\.\n\nCommands:\n  convert KIND FILE .*"
 
 # What is asked for: the arguments, and what is printed, as a pattern.

@@ -14,8 +14,8 @@ import sys
 import scripts
 from scripts import TOP, read
 
-# What tools/quick_build.py leaves in what it builds.
-UNPROVED = b"dimacs: not proved"
+# What tools/quick_build.py leaves in what it builds, and what rustc does.
+UNPROVED, BY_RUST = b"dimacs: not proved", re.compile(rb"rustc version (\S+)")
 
 
 def parts(version):
@@ -35,14 +35,21 @@ def logic():
     return re.search(r"logic [0-9a-f]+", line)[0]
 
 
+def rustc_of(file):
+    """The version of the rustc that built a file, if one did."""
+    with open(file, "rb") as it:
+        return next((it.decode() for it in BY_RUST.findall(it.read())), None)
+
+
 def is_proved(file):
     with open(file, "rb") as it:
-        return UNPROVED not in it.read()
+        return UNPROVED not in it.read() and not rustc_of(file)
 
 
 def full(version, file):
     """What a file that was built has to say of itself."""
-    return f"{version} (proved by Rattle, {logic()})" if is_proved(file) else f"{version} (not proved)"
+    by = f" (by rustc {rustc_of(file)})" if rustc_of(file) else ""
+    return f"{version} (proved by Rattle, {logic()})" if is_proved(file) else f"{version}{by} (not proved)"
 
 
 def of_program(program, wanted):

@@ -1,14 +1,17 @@
 """Puts the shared library into the wheel, and names the wheel for the system that the library is for: hatchling asks it.
 
-The library is the one that `make` proved and built, or another that DIMACS_LIBRARY names. If it doesn't have the mark of a
-proved one, the version ends in +unproved; in +translated if it is compiled from proved code by a translation that isn't
-proved, as that for Windows.
+The library is the one that `make` proved and built, or another that DIMACS_LIBRARY names. If there is none, and cargo is,
+`make rust` builds one, unproved. If a library doesn't have the mark of a proved one, the version ends in +unproved; in
++translated if it is compiled from proved code by a translation that isn't proved, as that for Windows.
 """
 
 from __future__ import annotations
 
 import os
 import re
+import shutil
+import subprocess
+import sys
 from pathlib import Path
 from typing import Any
 
@@ -20,8 +23,9 @@ HERE = Path(__file__).resolve().parent
 #: The repository, or what the archive of sources has of it.
 TOP = HERE / "top" if (HERE / "top").is_dir() else HERE.parents[1]
 
-NO_LIBRARY = """{place} isn't there. There are two ways to get it:
+NO_LIBRARY = """{place} isn't there. There are three ways to get it:
     make          proves and builds it, which takes over an hour; then pip install ./lib/python
+    make rust     builds it unproved, by Rust 1.88 or later; pip install ./lib/python does so itself where cargo is
     make quick    builds it unproved; then DIMACS_LIBRARY=build/quick/libdimacs.so pip install ./lib/python"""
 
 NO_SYSTEM = "{place} isn't a library for x86-64 Linux, aarch64 Linux or 64-bit Windows"
@@ -43,7 +47,18 @@ def library_place() -> Path:
     for place in Path.cwd() / named, TOP / named:
         if place.is_file():
             return place.resolve()
+    by_rust = TOP / "build/rust/libdimacs.so"
+    if "DIMACS_LIBRARY" not in os.environ and is_built(by_rust):
+        return by_rust
     raise SystemExit(NO_LIBRARY.format(place=TOP / named))
+
+
+def is_built(library: Path) -> bool:
+    """Whether make builds a library by Rust: it needs the repository, and cargo."""
+    if not (TOP / "tools/rust_build.py").is_file() or not shutil.which("cargo"):
+        return False
+    words = ["make", "-C", str(TOP), str(library.relative_to(TOP))]
+    return subprocess.run(words, stdout=sys.stderr, check=False).returncode == 0
 
 
 def is_for_windows(library: bytes) -> bool:
