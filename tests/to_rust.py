@@ -2,13 +2,15 @@
 """Tests the rules by which the sources become plain Rust: tests/to_rust.py [--by-kit]
 
 Each rule has a row, and each line of the sources stays the line of its number. A form that isn't known is refused with its
-place. With --by-kit, the kit builds a copy of the repository without what GHOSTS of tools/to_rust.py drops: the program and
-the module of the library have to be those of build/quick, byte by byte, so nothing but ghosts is dropped by these.
+place. With --by-kit, the kit builds a copy of the repository without what GHOSTS of tools/to_rust.py drops: the program
+has to be that of build/quick, byte by byte, so nothing but ghosts is dropped by these. It takes some four minutes of
+processor time.
 """
 import filecmp
 import glob
 import os
 import re
+import shutil
 import subprocess
 import sys
 import tempfile
@@ -97,15 +99,14 @@ def by_rules():
 
 
 def by_kit(room):
-    """Whether the kit builds the same without ghosts."""
-    subprocess.run(["git", "clone", "-q", scripts.TOP, room], check=True)
+    """Whether the kit builds the same program without ghosts."""
+    shutil.copytree(scripts.TOP, room, ignore=shutil.ignore_patterns(".git", "build", "out", "__pycache__"))
     for path in sources(room):
         to_rust.put(path, to_rust.without_ghosts(to_rust.read(path), path))
+    program = "build/quick/dimacs"
     for folder in scripts.TOP, room:
-        for words in ["program", "build/quick/dimacs"], ["library", "build/quick/dimacs_c.a"]:
-            subprocess.run([f"{folder}/tools/quick_build.py", *words], cwd=folder, check=True)
-    for it in "dimacs", "dimacs_c.bc":
-        yield it, filecmp.cmp(f"{scripts.TOP}/build/quick/{it}", f"{room}/build/quick/{it}", shallow=False)
+        subprocess.run([f"{folder}/tools/quick_build.py", "program", program], cwd=folder, check=True)
+    yield "another program", filecmp.cmp(f"{scripts.TOP}/{program}", f"{room}/{program}", shallow=False)
 
 
 def main():

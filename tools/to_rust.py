@@ -9,6 +9,7 @@ one number. Where a rule leaves a form that isn't known to mean the same in Rust
 Nothing is proved by it: that what stays means to rustc what it means to the kit's compiler is trusted.
 """
 import glob
+import itertools
 import os
 import re
 import sys
@@ -225,19 +226,19 @@ version = "{version}"
 edition = "2024"
 rust-version = "1.88"
 description = "{about}"
-publish = false
+{licence}
+[lib]
 {kind}
+
 [lints.rust]
 unused_imports = "allow"
 unused_parens = "allow"
 
 [dependencies]
-kit = {{ package = "dimacs_kit", path = "../kit", version = "={version}" }}
 {below}"""
-LIBRARY_KIND = """
-[lib]
-crate-type = ["staticlib", "cdylib"]
-"""
+
+# The crate in place of the kit's libraries, as cargo knows it, and how others name it.
+KIT, USED_AS_KIT = "dimacs_kit", 'kit = {{ package = "dimacs_kit", path = "../dimacs_kit", version = "={}" }}\n'
 
 
 def put(name, text):
@@ -250,17 +251,27 @@ def put(name, text):
 
 def about(root):
     """The first sentence of a crate's documentation."""
-    lines = [it.removeprefix("//!").strip() for it in read(root).split("\n\n")[0].splitlines() if it.startswith("//!")]
-    return re.match(r".*?\.(?= |$)", " ".join(lines))[0].replace("`", "'").replace('"', "'")
+    lines = itertools.takewhile(lambda it: it.startswith("//!"), read(root).splitlines())
+    text = " ".join(it.removeprefix("//!").strip() for it in lines)
+    return re.match(r".*?\.(?= |$)", text)[0].translate({ord("`"): "'", ord('"'): "'"})
 
 
-def put_crate(out, name, below, version):
+def put_manifest(out, name, root, kind, below):
+    """Writes what cargo has to know of a crate over these."""
+    version, licence = read("VERSION").strip(), read("LICENCE-STATUS").split("\n")[0]
+    lines = "".join(f'{it} = {{ path = "../{it}", version = "={version}" }}\n' for it in below)
+    words = {"name": name, "version": version, "about": about(root), "kind": kind}
+    words["below"] = lines if name == KIT else USED_AS_KIT.format(version) + lines
+    words["licence"] = "" if licence == "NONE" else f'license = "{licence}"\n'
+    text = MANIFEST.format(**words)
+    put(f"{out}/{name}/Cargo.toml", text.replace("[lib]\n\n\n", ""))
+
+
+def put_crate(out, name, below):
     """Writes a crate over those below it."""
     sources = sorted(glob.glob(f"{TOP}/crates/{name}/src/**/*.rt", recursive=True))
     root = next(it for it in sources if it.endswith(("/src/lib.rt", "/src/main.rt")))
-    lines = "".join(f'{it} = {{ path = "../{it}", version = "={version}" }}\n' for it in below)
-    kind = LIBRARY_KIND if name == LIBRARY else ""
-    put(f"{out}/{name}/Cargo.toml", MANIFEST.format(name=name, version=version, about=about(root), kind=kind, below=lines))
+    put_manifest(out, name, root, 'crate-type = ["staticlib", "cdylib"]' if name == LIBRARY else "", below)
     for it in sources:
         rust = translated(read(it), os.path.relpath(it, TOP))
         inner = os.path.relpath(it, f"{TOP}/crates").removesuffix(".rt")
@@ -268,15 +279,15 @@ def put_crate(out, name, below, version):
 
 
 def main():
-    out, = sys.argv[1:]
-    out, version = os.path.abspath(out), read("VERSION").strip()
+    out = os.path.abspath(sys.argv[1])
     listed = {name: named for name, named in kits.crates().items() if name not in NOT_BUILT}
     for name, named in listed.items():
-        put_crate(out, name, [it for it in named if it in listed], version)
-    for it in glob.glob(f"{STAND_IN}/kit/**/*.*", recursive=True):
-        put(f"{out}/{os.path.relpath(it, STAND_IN)}", read(it).replace("VERSION", version))
+        put_crate(out, name, [it for it in named if it in listed])
+    put_manifest(out, KIT, f"{STAND_IN}/kit/lib.rs", 'name = "kit"', [])
+    for it in glob.glob(f"{STAND_IN}/kit/*.rs"):
+        put(f"{out}/{KIT}/src/{os.path.basename(it)}", read(it))
     put(f"{out}/{NAMES_COMPILER}/build.rs", read(f"{STAND_IN}/build.rs"))
-    put(f"{out}/Cargo.toml", WORKSPACE.format(members=", ".join(f'"{it}"' for it in ["kit", *listed])))
+    put(f"{out}/Cargo.toml", WORKSPACE.format(members=", ".join(f'"{it}"' for it in [KIT, *listed])))
 
 
 if __name__ == "__main__":

@@ -1,0 +1,137 @@
+#!/usr/bin/env python3
+"""Tests what stands on the build by cargo: tests/rust_layers.py [BUILD]
+
+Where no library is named, the crate in lib/rust and the package for Python find build/rust, here by a copy of the
+repository in which nothing else is built; that it says it isn't proved. A program in Rust depends on that crate by its
+path. The crates can be packed. Without Rust, or with an old one, a build ends with one line. The libraries that cargo
+makes itself, for systems without GNU's objcopy, are called from C. BUILD is build/rust if none is given, and has to be of
+these sources.
+"""
+import os
+import re
+import shutil
+import subprocess
+import sys
+import tempfile
+
+import scripts
+from scripts import TOP
+
+sys.path.insert(0, f"{TOP}/tools")
+import rust_build  # noqa: E402  (the folder isn't a package of this one)
+
+# Of what is copied nothing is built, or known to git.
+NOT_COPIED = shutil.ignore_patterns(".git", "build", "dist", "out", "target", "__pycache__")
+
+PROGRAM = """fn main() {
+    println!("{} {}", dimacs::version_text().unwrap(), dimacs::proved());
+}
+"""
+MANIFEST = """[package]
+name = "called"
+version = "0.0.0"
+edition = "2021"
+[dependencies]
+dimacs = {{ path = "{}" }}
+"""
+CALL = "import dimacs; print(dimacs.__version__, dimacs.proved, dimacs.show('cut', 'p cut 4 1\\nu 1\\n'))"
+
+# An old Rust, none, and one that is ill: a program in its place, and what a build says.
+LACKING = [
+    ('echo "cargo 1.87.0 (abc)"', "cargo 1.87.0 (abc) is too old: get Rust 1.88 or later"),
+    (None, "cargo isn't there: get Rust 1.88 or later"),
+    ("exit 1", "cargo --version fails: get Rust 1.88 or later"),
+]
+
+
+class Layers(scripts.Counts):
+    """A copy of the repository, which finds the build, and commands by which nothing else is found."""
+
+    def __init__(self, build, place):
+        super().__init__()
+        self.place, self.build, self.copy = place, build, f"{place}/copy"
+        shutil.copytree(TOP, self.copy, ignore=NOT_COPIED)
+        os.mkdir(f"{self.copy}/build")
+        os.symlink(build, f"{self.copy}/build/rust")
+        mine = {"PKG_CONFIG_LIBDIR": place, "CARGO_TARGET_DIR": f"{place}/target", "PYTHONDONTWRITEBYTECODE": "1"}
+        others = ("DIMACS_LIB_DIR", "DIMACS_LIBRARY", "PKG_CONFIG_PATH", "PYTHONPATH", "RUSTFLAGS")
+        self.environment = {name: it for name, it in os.environ.items() if name not in others} | mine
+
+    def run(self, *words, **how):
+        """What a command prints."""
+        how = {"cwd": self.place, "env": self.environment} | how
+        ran = subprocess.run(words, capture_output=True, text=True, check=False, **how)
+        self.message = f"$ {' '.join(words)}: status {ran.returncode}\n{ran.stdout[-2000:]}{ran.stderr[-2000:]}"
+        return ran.stdout + ran.stderr
+
+    def put(self, name, text):
+        os.makedirs(os.path.dirname(f"{self.place}/{name}"), exist_ok=True)
+        with open(f"{self.place}/{name}", "w", encoding="utf-8") as it:
+            it.write(text)
+        return f"{self.place}/{name}"
+
+    def expect_printed(self, name, pattern, printed):
+        """Counts a case; of one that failed it prints what was run."""
+        self.expect(name, re.search(pattern, printed), f"\n{self.message}")
+
+    def test_rust(self):
+        manifest = self.put("called/Cargo.toml", MANIFEST.format(f"{self.copy}/lib/rust"))
+        self.put("called/src/main.rs", PROGRAM)
+        printed = self.run("cargo", "run", "--offline", "-q", "--manifest-path", manifest)
+        self.expect_printed("a program in Rust", r"\(by rustc \S+\) \(not proved\) false\n", printed)
+        printed = self.run("cargo", "test", "--offline", "--manifest-path", f"{self.copy}/lib/rust/Cargo.toml")
+        self.expect_printed("the crate's tests", r"(?s)\A(?!.*; [1-9]\d* failed).* passed; 0 failed", printed)
+
+    def test_python(self):
+        lacks = "import sys, importlib.util as it; sys.exit(not all(map(it.find_spec, ('pip', 'hatchling'))))"
+        python = next((it for it in ("python3", "/usr/bin/python3") if "" == self.run(it, "-c", lacks) and "status 0" in self.message), None)
+        if not python:
+            print("left out: the package for Python: no pip with hatchling")
+            return
+        words = ["--no-build-isolation", "--no-index", "--no-deps", "--target", f"{self.place}/installed"]
+        self.run(python, "-m", "pip", "install", *words, f"{self.copy}/lib/python")
+        wanted = scripts.read("VERSION").strip().replace("-dev", ".dev0")
+        printed = self.run(python, "-c", CALL, env=self.environment | {"PYTHONPATH": f"{self.place}/installed"})
+        self.expect_printed("the package for Python", rf"\A{re.escape(wanted)}\+unproved False i cut 4 1\n", printed)
+
+    def test_packing(self):
+        words = ["--workspace", "--offline", "--allow-dirty", "--no-verify"]
+        printed = self.run("cargo", "package", *words, cwd=f"{self.build}/crates")
+        names = set(re.findall(r"Packaging (\w+) ", printed))
+        wanted = re.findall(r'"(\w+)"', scripts.read(os.path.relpath(f"{self.build}/crates/Cargo.toml", TOP)).split("\n\n")[0])
+        self.expect("each crate is packed", names == set(wanted) - {"2"} and len(names) > 15, self.message)
+
+    def test_lacking(self):
+        for program, wanted in LACKING:
+            cargo = self.put("tools/cargo", f"#!/bin/sh\n{program}\n") if program else f"{self.place}/gone/cargo"
+            if program:
+                os.chmod(cargo, 0o755)
+            environment = self.environment | {"CARGO": cargo}
+            printed = self.run(sys.executable, f"{self.copy}/tools/rust_build.py", f"{self.place}/none", env=environment)
+            is_so = printed.replace(os.path.dirname(cargo) + "/", "").startswith(f"rust_build.py: {wanted}")
+            self.expect(wanted, is_so and printed.count("\n") == 1, self.message)
+
+    def test_plain_libraries(self):
+        made = f"{self.place}/plain"
+        rust_build.put_libraries(f"{self.build}/crates/target/release", made)
+        for library in "libdimacs.so", "libdimacs.a":
+            words = ["-I", f"{TOP}/lib/include", f"{TOP}/examples/library/certify.c", f"{made}/{library}", "-o", "certify"]
+            self.run("cc", *words, f"-Wl,-rpath,{made}")
+            pipes = [f"{TOP}/examples/pipes.{it}" for it in ("max", "solution")]
+            self.expect_printed(library, r"\Av max 12\np cut 5 3\n", self.run("./certify", *pipes))
+
+
+def main():
+    build = os.path.abspath(sys.argv[1] if len(sys.argv) > 1 else f"{TOP}/build/rust")
+    with tempfile.TemporaryDirectory() as place:
+        its = Layers(build, place)
+        its.test_lacking()
+        its.test_plain_libraries()
+        its.test_packing()
+        its.test_rust()
+        its.test_python()
+    its.end()
+
+
+if __name__ == "__main__":
+    main()
