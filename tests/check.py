@@ -44,10 +44,10 @@ def main():
     build = os.path.abspath(sys.argv[1] if len(sys.argv) > 1 else f"{scripts.TOP}/build/quick")
     with open(f"{scripts.TOP}/crates.txt", encoding="utf-8") as it:
         crates = re.findall(r"^(\w+_tests)\b.*:", it.read(), re.MULTILINE)
-    with_kit = os.path.basename(build) != "rust"
-    jobs = [(run_crate, it, build) for it in crates if with_kit]
+    by_cargo = os.path.basename(build) == "rust"
+    jobs = [(run_crate, it, build) for it in crates if not by_cargo]
     words = {"build": build, "program": f"{build}/dimacs"}
-    jobs += [(scripts.run, it, words) for it in scripts.listed("nothing", *["kit"] * with_kit, "program", "build")]
+    jobs += [(scripts.run, it, words) for it in scripts.listed("nothing", "cargo" if by_cargo else "kit", "program", "build")]
     print(f"{len(jobs)} tests run side by side, in about ten minutes; each prints a line as it ends", flush=True)
     scripts.finish(*scripts.run_all(jobs))
 
