@@ -90,7 +90,6 @@ pub mod alloc {
     }
 }
 
-
 pub mod marker {
     pub use std::marker::PhantomData;
 
