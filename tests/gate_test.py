@@ -7,6 +7,7 @@ built; nothing is built for it.
 import contextlib
 import io
 import os
+import re
 import shutil
 import sys
 import tempfile
@@ -62,6 +63,9 @@ def counting():
             counts.end("a layer")
         ran = scripts.counted("it", 5, 0, f"{printed.getvalue()}4 passed, 0 failed")
         yield f"too few of a layer, left out {left_out}", ran.failed == failed
+    asked = " ".join(re.findall(r"gate\.scripts\((.*?)(?:, words|\))", scripts.read(".ci/gate")))
+    left = {need for need, *_ in rows(scripts.TABLE)} - set(re.findall(r"\w+", asked))
+    yield f"scripts that the gate doesn't run: those that need {left}", not left
     os.environ["ALL_TOOLS"] = "yes"
     yield "left out with all tools", scripts.counted("it", 1, 0, "left out: it\n1 passed, 0 failed").failed
 
