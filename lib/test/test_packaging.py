@@ -125,7 +125,7 @@ class Built(unittest.TestCase):
 
     def test_no_library(self):
         self.library = "nowhere.so"
-        self.says("wheel", f"{FOLDER.parents[1]}/nowhere.so isn't there. There are two ways to get it:\n    make ")
+        self.says("wheel", f"{FOLDER.parents[1]}/nowhere.so isn't there. There are three ways to get it:\n    make ")
 
 
 class Loaded(unittest.TestCase):
