@@ -46,8 +46,8 @@ def main():
         crates = re.findall(r"^(\w+_tests)\b.*:", it.read(), re.MULTILINE)
     by_cargo = os.path.basename(build) == "rust"
     jobs = [(run_crate, it, build) for it in crates if not by_cargo]
-    words = {"build": build, "program": f"{build}/dimacs"}
-    jobs += [(scripts.run, it, words) for it in scripts.listed("nothing", "cargo" if by_cargo else "kit", "program", "build")]
+    words, needs = {"build": build, "program": f"{build}/dimacs"}, ["cargo"] if by_cargo else ["kit", "quick"]
+    jobs += [(scripts.run, it, words) for it in scripts.listed("nothing", *needs, "program", "build")]
     print(f"{len(jobs)} tests run side by side, in about ten minutes; each prints a line as it ends", flush=True)
     scripts.finish(*scripts.run_all(jobs))
 

@@ -15,7 +15,8 @@ TOP = os.path.dirname(os.path.dirname(os.path.abspath(__file__)))
 
 # What runs side by side: what it needs, how much has to pass in it, and its commands, one after the other. First comes
 # what needs nothing that is built, but perhaps the kit, then what needs the program alone, and of the rest what takes
-# longest. What needs `rust` runs over what cargo builds, and needs a debug build too.
+# longest. What needs `proved` runs in the gate alone, what needs `quick` in `make check` alone. What needs `rust` runs
+# over what cargo builds, and needs a debug build too.
 TABLE = """
 nothing | 51     | tests/second_proof.py
 nothing | 420    | tests/lower_addresses.py
