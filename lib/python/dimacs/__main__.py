@@ -208,7 +208,8 @@ def _explained(job: _Job, texts: Sequence[bytes]) -> bytes:
             words[1 + place] = words[1 + place][:-1] + end
             shown[ord(end)] = ord(name[-1])
     given = [word for it in (_encoded(words), *texts, b"", b"", b"") for word in bytes_of(it).words()][:8]
-    lines = bytes(library.call(library.explain, *given)[1]).decode()
+    _, (found,) = library.call_for_texts(library.explain, *given, rooms=[16 * library.LINE])
+    lines = found.decode()
     for name, word in zip(job.explained, words):
         if "\t" in name or "\r" in name:
             lines = lines.replace("'" + word.replace("'", "'\\''") + "'", _typed(name))

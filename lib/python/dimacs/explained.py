@@ -48,7 +48,8 @@ def like(answer: _Answer, old: Explainable) -> _Answer:
 
 def _explanation(command: str, texts: Sequence[Any]) -> list[str]:
     words = [bytes_of(command.encode("ascii")), *map(bytes_of, [*texts, b"", b"", b""][:3])]
-    _, lines = library.call(library.explain, *(word for it in words for word in it.words()), read=words[1:])
+    given = (word for it in words for word in it.words())
+    _, (lines,) = library.call_for_texts(library.explain, *given, rooms=[16 * library.LINE], read=words[1:])
     return lines.decode().splitlines()
 
 
