@@ -26,6 +26,15 @@ solve-max absent a a
 solve-min supply a b --limit 1000000000
 spread-max max turned absent/a
 show dist .
+judge-max road . cut
+judge-max max road .
+judge-max max flow .
+judge-max max . absent
+judge-infeasible flow .
+judge-infeasible supply .
+certify-paths flow . out
+spread-max road . out
+solve-paths max . out
 convert
 show infeasible unmet
 --version now

@@ -13,7 +13,7 @@ import re
 import signal
 import sys
 from contextlib import contextmanager
-from typing import Any, Callable, Iterator, NamedTuple, Sequence
+from typing import Any, Callable, Iterable, Iterator, NamedTuple, Sequence
 
 from . import commands, library
 from .answers import GaveUp
@@ -134,19 +134,23 @@ def _attempt(name: str, call: str) -> Iterator[None]:
     try:
         yield
     except OSError as it:
-        call = "read" if isinstance(it, IsADirectoryError) and call == "opened" else call
         line = f"dimacs: {_shown(name)}: cannot be {call}: {it.strerror} (os error {it.errno})\n"
         raise _Fault(_DEVICE, line) from None
 
 
-def _opened(name: str, call: str, mode: str) -> Any:
-    with _attempt(name, call):
-        return open(name, mode, buffering=0)
+def _opened(name: str) -> int:
+    with _attempt(name, "opened"):
+        return os.open(name, os.O_RDONLY | getattr(os, "O_BINARY", 0))
 
 
-def _read(name: str, file: Any) -> bytes:
-    with _attempt(name, "read"), file:
-        return bytes(file.readall())
+def _created(name: str) -> Any:
+    with _attempt(name, "created"):
+        return open(name, "wb", buffering=0)
+
+
+def _read(name: str, file: int) -> bytes:
+    with _attempt(name, "read"), open(file, "rb", buffering=0) as it:
+        return bytes(it.readall())
 
 
 def _write(name: str, file: Any, text: bytes) -> None:
@@ -157,20 +161,48 @@ def _write(name: str, file: Any, text: bytes) -> None:
         file.flush()
 
 
+def _texts(files: Iterable[tuple[str, int]]) -> tuple[list[bytes], str]:
+    """The texts of files up to the first that can't be read, and a line about that one."""
+    texts: list[bytes] = []
+    try:
+        for it in files:
+            texts.append(_read(*it))
+    except _Fault as it:
+        return texts, it.line
+    return texts, ""
+
+
+#: How many of the texts of a run precede the one that a line refuses.
+_ORDER = {"instance": 0, "query": 1, "solution": 1, "distances": 1, "certificate": 2}
+
+
+def _is_of_earlier(printed: bytes, job: _Job, read: int) -> bool:
+    """Whether a line refuses one of the texts that were read. No text stands for the others."""
+    name = printed.decode().split()[1]
+    place = _ORDER.get(name, read) - ((job.kind, name) == ("infeasible", "certificate"))
+    return place < read
+
+
 def _run(job: _Job) -> int:
     """Reads the files, makes the call, and writes and prints what it hands out. A solver empties its files before."""
-    opened = [_opened(name, "opened", "rb") for name in job.reads]
-    created = [_opened(name, "created", "wb") for name in job.writes] if job.verb == "solve" else []
-    texts = [_read(*it) for it in zip(job.reads, opened)]
+    opened = [_opened(name) for name in job.reads]
+    created = [_created(name) for name in job.writes] if job.verb == "solve" else []
+    texts, fault = _texts(zip(job.reads, opened))
+    read = len(texts)
+    if fault and not texts:
+        raise _Fault(_DEVICE, fault)
+    texts += [b""] * (len(opened) - read)
     try:
         status, printed, made = commands.run(job.verb, job.kind, [bytes_of(it) for it in texts], job.limit)
     except GaveUp:
         _write("standard output", sys.stdout.buffer, b"g limit\n")
         return library.GAVE_UP
+    if fault and not _is_of_earlier(printed, job, read):
+        raise _Fault(_DEVICE, fault)
     made = made[1:] if (job.verb, job.kind) == ("solve", "paths") else made
     for place, (name, text) in enumerate(zip(job.writes, made)):
         if created or text:
-            _write(name, created[place] if created else _opened(name, "created", "wb"), text)
+            _write(name, created[place] if created else _created(name), text)
     _write("standard output", sys.stdout.buffer, _explained(job, [*texts, *made]) if job.explained else printed)
     return status
 
