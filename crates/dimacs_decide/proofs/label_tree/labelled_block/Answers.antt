@@ -6,6 +6,14 @@ use Rattle.dimacs_decide.specs.{Predecessors.{pred_by_node}, inside.LabelTrees.{
 use Rattle.dimacs_decide.proofs.{LabelTreeLemmas.{all_agree}, PathBackLemmas.{labelled_so}}
 use Rattle.dimacs_decide.proofs.label_tree.labelled_block.Goals as goal
 
+pub loop-v-init : goal.loop-v-init
+loop-v-init g c = record {
+  same_claim = c.in_ok-tree.ensures.claim;
+  same_pred = c.in_ok-tree.ensures.predecessors;
+  tree = c.in_ok-tree.ensures.tree c.args.nodes c.requires.source;
+  labelled = λ u less some. absurd (let inside = c.requires.within u some in omega (arith, less, inside.0));
+}
+
 pub label_from-requires : goal.label_from-requires
 label_from-requires g c =
     let so_far = c.loop-v.invariant in
