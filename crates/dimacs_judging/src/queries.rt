@@ -4,7 +4,7 @@ ghost use Rattle.std.specs.Prelude.{◌≡◌, ◌<◌, ◌≤◌, ◌↔◌, Is
 ghost use Rattle.dimacs_records.specs.declared.reasons.Reason.TheVariants as reasons;
 ghost use Rattle.dimacs_instance.specs.QueryTexts.{AreLawful, Pairs, asked};
 ghost use Rattle.dimacs_judging.specs.{Answers.{AnswersQueries, answer_to, distance_from}, Tests.{TestsRow}};
-ghost use Rattle.dimacs_judging.specs.QueryTests.{HasBlock, HasFullBlock, IsServed, block_row, listed_row, nodes_asked, query_node_row, sources_asked};
+ghost use Rattle.dimacs_judging.specs.QueryTests.{HasFullBlock, IsServed, block_row, listed_row, nodes_asked, query_node_row, sources_asked};
 ghost use Rattle.dimacs_judging.specs.inside.QueryTests.{AreNumbers, TestsBlocks, radius_from};
 
 use crate::verdict::{Answer, JudgeError, Verdict, Where};

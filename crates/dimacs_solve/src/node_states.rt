@@ -1,6 +1,6 @@
 //! What a search knows about the nodes.
 
-ghost use Rattle.std.specs.Prelude.{◌≡◌, ◌≤◌, ◌<◌, ◌+◌, ℕ, IsTrue, OnOk, ◌↔◌};
+ghost use Rattle.std.specs.Prelude.{◌≡◌, ◌≤◌, ◌<◌, ◌+◌, ◌^◌, ℕ, IsTrue, OnOk, ◌↔◌};
 ghost use Rattle.dimacs_network.specs.Tables.{value_of};
 
 use crate::distance::SearchDistance;

@@ -1,6 +1,6 @@
 //! Dijkstra's search from one source.
 
-ghost use Rattle.std.specs.Prelude.{◌≡◌, ◌<◌, ◌≤◌, ◌+◌, ◌*◌, [], IfOk, OnOk};
+ghost use Rattle.std.specs.Prelude.{◌≡◌, ◌<◌, ◌≤◌, ◌+◌, ◌*◌, ◌^◌, [], IfOk, OnOk};
 ghost use Rattle.dimacs_lines.specs.Limits.{IsNode};
 ghost use Rattle.dimacs_solve.specs.{inside.Adjacency.{AreByNode}, inside.Frontiers.{walk_of}};
 ghost use Rattle.dimacs_solve.specs.inside.NodeStates.{known};
