@@ -23,6 +23,7 @@ pub struct GraphArrays<'a> {
     pub weights: &'a [i64],
 }
 
+// The contracts are those of `ArcArrays`, in lent_arcs.rt.
 impl<'a> ArcArrays for GraphArrays<'a> {
     ghost arc_of = { weighted_arc };
 

@@ -60,6 +60,7 @@ impl<A: ArcArrays> LentArcs<A> {
     }
 }
 
+// The contracts are those of `Network`, in dimacs_network/src/network.rt.
 impl<A: ArcArrays> Network for LentArcs<A> {
     ghost node_count = { λ n. n.nodes };
 

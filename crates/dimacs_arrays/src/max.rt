@@ -27,6 +27,7 @@ pub struct MaxArrays<'a> {
     pub caps: &'a [i64],
 }
 
+// The contracts are those of `ArcArrays`, in lent_arcs.rt.
 impl<'a> ArcArrays for MaxArrays<'a> {
     ghost arc_of = { max_arc };
 

@@ -28,6 +28,7 @@ pub struct MinArrays<'a> {
     pub supplies: &'a [i64],
 }
 
+// The contracts are those of `ArcArrays`, in lent_arcs.rt.
 impl<'a> ArcArrays for MinArrays<'a> {
     ghost arc_of = { min_arc };
 

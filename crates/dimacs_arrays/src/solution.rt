@@ -29,6 +29,7 @@ pub struct EndArrays<'a> {
     pub heads: &'a [u32],
 }
 
+// The contracts are those of `ArcArrays`, in lent_arcs.rt.
 impl<'a> ArcArrays for EndArrays<'a> {
     ghost arc_of = { end_arc };
 

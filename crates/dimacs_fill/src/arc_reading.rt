@@ -61,6 +61,7 @@ pub(crate) struct WithArcs<'a, V> {
     columns: ArcColumns<'a>,
 }
 
+// The contracts are those of `Reading`, in dimacs_records/src/reading.rt.
 impl<'a, B: Builder> Reading for ArcReading<'a, B> {
     type Value = WithArcs<'a, B::Value>;
 

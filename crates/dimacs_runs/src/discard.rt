@@ -8,6 +8,7 @@ use dimacs_lines::{DeviceFault, Sink};
 #[derive(Drop)]
 pub(crate) struct Discard;
 
+// The contracts are those of `Sink`, in dimacs_lines/src/device.rt.
 impl Sink for Discard {
     ghost seen = { λ s. record { accepted = None; faults = 0 } };
 

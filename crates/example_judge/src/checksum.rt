@@ -15,6 +15,7 @@ pub struct Checksum<K> {
 }
 
 /// It states the bytes and faults of the other sink.
+// The contracts are those of `Sink`, in dimacs_lines/src/device.rt.
 impl<K: Sink> Sink for Checksum<K> {
     ghost seen = { λ s. K.seen s.sink };
 

@@ -30,6 +30,7 @@ impl<'a> Bytewise<'a> {
     }
 }
 
+// The contracts are those of `Source`, in dimacs_lines/src/device.rt.
 impl<'a> Source for Bytewise<'a> {
     ghost coming = { λ _. None };
 
@@ -67,6 +68,7 @@ impl<'a> Wanted<'a> {
     }
 }
 
+// The contracts are those of `Sink`, in dimacs_lines/src/device.rt.
 impl<'a> Sink for Wanted<'a> {
     ghost seen = { λ _. record { accepted = None; faults = 0 } };
 
@@ -89,6 +91,7 @@ struct Counting<R: Reading> {
     taken: u32,
 }
 
+// The contracts are those of `Reading`, in dimacs_records/src/reading.rt.
 impl<R: Reading> Reading for Counting<R> {
     type Value = R::Value;
 
@@ -121,6 +124,7 @@ impl<R: Reading> Counting<R> {
 #[derive(Drop)]
 struct OneArc;
 
+// The contracts are those of `Network`, in dimacs_network/src/network.rt.
 impl Network for OneArc {
     ghost node_count = { λ _. 2 };
 
