@@ -64,7 +64,7 @@ def counting():
         ran = scripts.counted("it", 5, 0, f"{printed.getvalue()}4 passed, 0 failed")
         yield f"too few of a layer, left out {left_out}", ran.failed == failed
     asked = " ".join(re.findall(r"gate\.scripts\((.*?)(?:, words|\))", scripts.read(".ci/gate")))
-    left = {need for need, *_ in rows(scripts.TABLE)} - set(re.findall(r"\w+", asked))
+    left = {need for need, *_ in rows(scripts.TABLE)} - {"quick", *re.findall(r"\w+", asked)}
     yield f"scripts that the gate doesn't run: those that need {left}", not left
     os.environ["ALL_TOOLS"] = "yes"
     yield "left out with all tools", scripts.counted("it", 1, 0, "left out: it\n1 passed, 0 failed").failed
@@ -72,7 +72,7 @@ def counting():
 
 def over_one_crate(place):
     sys.path.insert(0, shutil.copytree(f"{scripts.TOP}/tools", f"{place}/tools"))
-    import edits, functions, kit, sources, texts, try_bodies  # noqa: E401
+    import check_over, edits, functions, kit, sources, texts, try_bodies  # noqa: E401
 
     bodies = "".join(f"## {name}\n{lines}\n" for name, lines, _ in rows(BODIES))
     files = {"crates.txt": "dimacs:\n", "crates/dimacs/src/lib.rt": CODE, "crates/dimacs/specs/One.antt": "pub mod One\n"}
@@ -97,6 +97,14 @@ def over_one_crate(place):
         texts.write(path, f"{files[path]} ")
         yield f"of another {path}", not sources.is_current(f"{place}/sources", sources.summed(sources.PROVED), built)
         texts.write(path, files[path])
+    yield "another clone without its library", list(check_over.differing(place, ["dimacs"])) == ["dimacs"]
+    texts.write(f"{place}/crates/dimacs/out/rlib/dimacs.rlib/format", "")
+    yield "another clone with its library", not list(check_over.differing(place, ["dimacs"]))
+    with tempfile.TemporaryDirectory() as clone:
+        shutil.copytree(f"{place}/crates", f"{clone}/crates")
+        yield "a copy of it", not list(check_over.differing(clone, ["dimacs"]))
+        texts.write(f"{clone}/crates/dimacs/src/lib.rt", f"{CODE} ")
+        yield "a copy of other sources", list(check_over.differing(clone, ["dimacs"])) == ["dimacs"]
     os.remove(f"{place}/crates/dimacs/specs/One.antt")
     yield "without a definition", not sources.is_current(f"{place}/sources", sources.summed(sources.PROVED), built)
 

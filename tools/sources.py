@@ -30,14 +30,22 @@ def digest(path):
         return hashlib.sha256(it.read()).hexdigest()
 
 
+def files_of(crate, parts, top=kits.TOP):
+    """The files of a crate in these parts, of the repository at `top`."""
+    for folder in (f"{top}/crates/{crate}/{it}" for it in parts.folders):
+        yield from sorted(it for it in glob.glob(f"{folder}/**", recursive=True) if os.path.isfile(it))
+
+
+def digests(files, top=kits.TOP):
+    return "".join(f"{digest(it)} {os.path.relpath(it, top)}\n" for it in files)
+
+
 def summed(parts):
     """The lines of what these parts sum up to: of the files, and of the kit, if it is there."""
     crates = [it for it in kits.crates() if not it.endswith("_tests")]
     files = [f"{kits.TOP}/{it}" for it in parts.files]
-    for folder in (f"{kits.TOP}/crates/{crate}/{it}" for crate in crates for it in parts.folders):
-        files += sorted(it for it in glob.glob(f"{folder}/**", recursive=True) if os.path.isfile(it))
-    whole = hashlib.sha256("".join(f"{digest(it)} {os.path.relpath(it, kits.TOP)}\n" for it in files).encode())
-    lines = [f"sources {whole.hexdigest()}"]
+    whole = digests([*files, *(it for crate in crates for it in files_of(crate, parts))])
+    lines = [f"sources {hashlib.sha256(whole.encode()).hexdigest()}"]
     if shutil.which("rt"):
         version = subprocess.run(["rt", "version"], capture_output=True, text=True, check=True).stdout
         lines.append(f"kit {version.strip()}")

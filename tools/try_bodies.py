@@ -250,10 +250,10 @@ def build(crate):
     subprocess.run(["rt", "lib" if is_library else "check"], cwd=f"{TOP}/crates/{crate}", check=True)
 
 
-def check_words(crate):
-    """The command that checks a crate in the current folder, over the libraries of this checkout."""
+def check_words(crate, over=TOP):
+    """The command that checks a crate in the current folder, over the libraries of a checkout."""
     root = "src/main.rt" if os.path.exists(f"{TOP}/crates/{crate}/src/main.rt") else "src/lib.rt"
-    words = [*kits.rattle_words(kits.folder("bin/rattle"), "check", crate, f"{TOP}/crates"), root]
+    words = [*kits.rattle_words(kits.folder("bin/rattle"), "check", crate, f"{over}/crates"), root]
     return words + (["--crate-type", "staticlib"] if is_static(crate) else [])
 
 
