@@ -220,7 +220,7 @@ def label_cases(n):
     paths = [[i, *chain] for i in range(1, count)]
     many, few = (claimed(label_texts(nodes, arcs, paths)) for nodes in (chain[-1], 64 * chain[-1]))
     yield "certify-paths: few arcs for each of many blocks", "certify-paths I S shown", many, few, LIMIT
-    late, kind = (late_block(n // 200 + 200, order) for order in (falling, list))
+    late, kind = (late_block(n // 50 + 200, order) for order in (falling, list))
     yield "certify-paths: the last of many blocks, explained", "explain certify-paths I S", late, kind, LIMIT
 
 
