@@ -155,11 +155,12 @@ class Source:
         self.line = re.sub(f"{GAP}(?:{rule.replace(' ', GAP)})+", self.left_of, self.line)
 
     def left_of(self, it):
-        """Of what goes the ends of lines stay, and comments before an attribute or at the head of a file."""
+        """Of what goes the ends of lines stay, the blanks before what follows, and comments before an attribute or at the
+        head of a file."""
         before, *inside = self.between(it.group())
         is_kept = ord(it.group()[0]) == FIRST + 1 or it.group()[1] == "#"
-        ends = (before if is_kept else "\n" * before.count("\n")) + "\n" * "".join(inside).count("\n")
-        self.gaps.append(ends or " ")
+        ends = (before.rstrip(" ") if is_kept else "\n" * before.count("\n")) + "\n" * "".join(inside).count("\n")
+        self.gaps.append(ends + re.search(r"[^\n]*\Z", inside[-1])[0] or " ")
         return chr(FIRST + len(self.gaps) - 1)
 
     def rewrite(self, rule, by):
