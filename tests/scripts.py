@@ -59,7 +59,7 @@ build   | 28     | tests/abi.py {build}
 build   | 13     | tests/version.py {build}
 build   | 2      | tests/stacks.py {build}
 cargo   | 9      | tests/rust_layers.py {build}
-rust    | 13360  | tests/referee.py {build}/debug/dimacs
+rust    | 4000   | tests/referee.py {build}/debug/dimacs 2000
 rust    | 830    | tests/rows.py {build}/debug/dimacs
 rust    | 830    | tests/rows.py {program}
 rust    | 94     | tests/refusals.py {program}
