@@ -6,8 +6,8 @@ use Rattle.std.specs.{FinMap.{FinMap, empty, get, insert}, Ordering.{nat_cmp}}
 use Rattle.dimacs_network.specs.{declared.network.ArcView.{ArcView}, Arcs.{arc_at, no_arc}}
 use Rattle.dimacs_network.proofs.Nodes.{get-empty, get-insert_same, get-insert_other}
 use Rattle.dimacs_judging.specs.Walks.{IsWalk, weight}
-use Rattle.dimacs_facts.specs.{declared.walks.Walk.{Walk}, Cycles.{IsStep}}
-use Rattle.dimacs_facts.specs.Walks.{AreLeast, AreWalks, HasWalk, IsEased}
+use Rattle.dimacs_facts.specs.{declared.walks.Walk.{Walk}, inside.Arcs.{IsEased, IsStep}}
+use Rattle.dimacs_facts.specs.Walks.{AreLeast, AreWalks, HasWalk}
 
 walk_more : (g walk : List ArcView) (s u : ℕ) (a : ArcView) → IsWalk g s u walk → Contains g a → a.tail ≡ u → IsWalk g s a.head (walk ++ a ∷ [])
 walk_more g [] s u a w has e = (has, e ∙ sym w, refl)

@@ -1,12 +1,8 @@
 -- Cycles of negative weight.
-use Rattle.std.specs.Prelude.{ℕ, ◌≡◌, List, Contains, ℤ, pos, ◌+ℤ◌, ◌<ℤ◌}
+use Rattle.std.specs.Prelude.{ℕ, List, ℤ, pos, ◌<ℤ◌}
 use Rattle.dimacs_network.specs.declared.network.ArcView.{ArcView}
 use Rattle.dimacs_judging.specs.Walks.{Dist}
 use Rattle.dimacs_facts.specs.Walks.{HasWalk}
-
--- an arc from one node to another adds its weight
-abbrev pub IsStep : List ArcView → ℕ → ℤ → ℕ → ℤ → Type 0
-IsStep g from before to after = (a : ArcView) × Contains g a × (a.tail ≡ from) × (a.head ≡ to) × (after ≡ (before +ℤ a.cost))
 
 -- a walk from s leads to a node from which one leads back that weighs less than 0
 pub record HasNegativeCycle (g : List ArcView) (s : ℕ) : Type 0 where

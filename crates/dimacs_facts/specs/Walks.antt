@@ -1,6 +1,5 @@
 -- Walks from a source, by the nodes where they end.
-use Rattle.std.specs.{Prelude.{ℕ, ◌≡◌, ◌⊎◌, List, None, Some, true, ℤ, ◌+ℤ◌, ◌≤ℤ◌}, FinMap.{FinMap, get}}
-use Rattle.std.specs.Ordering.{nat_cmp}
+use Rattle.std.specs.{Prelude.{ℕ, ◌≡◌, List, Some, true, ℤ, ◌≤ℤ◌}, FinMap.{FinMap, get}, Ordering.{nat_cmp}}
 use Rattle.dimacs_network.specs.declared.network.ArcView.{ArcView}
 use Rattle.dimacs_judging.specs.Walks.{IsWalk, weight}
 use Rattle.dimacs_facts.specs.{declared.walks.Walk.{Walk}, declared.walks.Walks.{Walks}}
@@ -24,10 +23,6 @@ AreWalks g s walks = (v : ℕ) (w : Walk) → get walks v ≡ Some w → HasWalk
 -- there is one to the end of every walk, and it weighs no more
 abbrev pub AreLeast : List ArcView → ℕ → FinMap nat_cmp Walk → Type 0
 AreLeast g s walks = (t : ℕ) (walk : List ArcView) → IsWalk g s t walk → (w : Walk) × (get walks t ≡ Some w) × (w.weight ≤ℤ weight walk)
-
--- there is none to the arc's tail, or there is one to its head, which weighs no more than that with the arc
-abbrev pub IsEased : FinMap nat_cmp Walk → ArcView → Type 0
-IsEased walks a = (get walks a.tail ≡ None) ⊎ ((w : Walk) × (get walks a.tail ≡ Some w) × ((h : Walk) × (get walks a.head ≡ Some h) × (h.weight ≤ℤ (w.weight +ℤ a.cost))))
 
 pub record AreWalksFrom (g : List ArcView) (s : ℕ) (walks : Walks) : Type 0 where
   pub are : AreWalks g s walks.by_node

@@ -1,7 +1,7 @@
 //! Cycles of negative weight.
 
 ghost use Rattle.std.specs.Prelude.{◌≡◌, ◌<ℤ◌, ℕ, IfSome, IsTrue, pos};
-ghost use Rattle.dimacs_facts.specs.{Cycles.{HasNegativeCycle, IsStep}, Walks.{AreWalksFrom}};
+ghost use Rattle.dimacs_facts.specs.{Cycles.{HasNegativeCycle}, inside.Arcs.{IsStep}, Walks.{AreWalksFrom}};
 
 use crate::walks::{Walk, Walks};
 use dimacs_lines::Memory;

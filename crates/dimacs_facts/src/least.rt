@@ -1,7 +1,7 @@
 //! Whether walks are the lightest.
 
 ghost use Rattle.std.specs.Prelude.{◌≡◌, ◌+ℤ◌, ◌≤ℤ◌, ℤ, Some, IfSome, IsTrue, pos};
-ghost use Rattle.dimacs_facts.specs.{declared.walks.Walk.{Walk}, Walks.{AreLeast, IsEased}};
+ghost use Rattle.dimacs_facts.specs.{declared.walks.Walk.{Walk}, inside.Arcs.{IsEased}, Walks.{AreLeast}};
 ghost use Rattle.std.specs.FinMap as map;
 
 use crate::walks::Walk;
