@@ -19,7 +19,7 @@ use Rattle.dimacs_runs.specs.{declared.status.Status.{Status}, Outputs.{WritesAl
 use Rattle.dimacs_runs.specs.declared.status.Status.TheVariants.{Done, Refused, GaveUp}
 use Rattle.dimacs_runs.specs.Certified.{CertificateOr, CertifiesDistances, CertifiesInfeasible, CertifiesLeast, CertifiesMaximum, IsCheaperText, IsCutText, IsFeasibleText, IsGreaterText, IsPotentialsText, IsSetText, uncertified}
 use Rattle.dimacs_runs.specs.Verdicts.{distances_line, failure_line}
-use Rattle.dimacs_runs.specs.inside.Outcomes.{MayCertify, with_text, judge_stop, outcome_of}
+use Rattle.dimacs_runs.specs.inside.Outcomes.{MayCertify, with_text, judge_end, outcome_of}
 use Rattle.dimacs_records.specs.declared.kinds.TextKind.TheVariants as kinds
 use Rattle.dimacs_judging.specs.declared.verdict.JudgeError.TheVariants as judge_errors
 use Rattle.dimacs_judging.specs.declared.verdict.Verdict.TheVariants as verdicts
@@ -66,7 +66,7 @@ module _ {shows better : List ℕ → Type 0} {rows : List Row} {verdict refusal
 
 -- the claim was refused, or memory ran out
 error_writes : {shows better : List ℕ → Type 0} {rows : List Row} {X : Type 0} (apart : AreApart shows better rows) (verdict refusal : List ℕ) (holds : X → Type 0) (error : JudgeError) → Refutes holds rows error
-    → MayCertify (CertificateOr shows verdict rows better refusal) (outcome_of (Err (judge_stop error)))
+    → MayCertify (CertificateOr shows verdict rows better refusal) (outcome_of (Err (judge_end error)))
 error_writes apart verdict refusal holds (judge_errors.Refused place reason) refutes = failing_writes apart place reason refutes.0
 error_writes apart verdict refusal holds judge_errors.Memory refutes = tt
 
@@ -88,7 +88,7 @@ module _ (i : MaxValue) (law : IsMax i) (s : SolutionValue) where
   greater_certifies solution place is says = rw is (better_writes cut_apart (canonical_solution (claimed solution)) says)
 
   -- a test refused the claim, or memory ran out
-  pub maximum_error : (error : JudgeError) → Refutes (CertifiesMax i s) (max_claim_rows i s) error → MayCertify (CertifiesMaximum i s) (outcome_of (Err (judge_stop error)))
+  pub maximum_error : (error : JudgeError) → Refutes (CertifiesMax i s) (max_claim_rows i s) error → MayCertify (CertifiesMaximum i s) (outcome_of (Err (judge_end error)))
   maximum_error error refutes = error_writes cut_apart _ _ (CertifiesMax i s) error refutes
 
 module _ (i : MinValue) (s : SolutionValue) where
@@ -114,7 +114,7 @@ module _ (i : MinValue) (s : SolutionValue) where
   no_solution_certifies place is says = rw is (better_writes potentials_apart [] says)
 
   -- a test refused the claim, or memory ran out
-  pub least_error : (error : JudgeError) → Refutes (CertifiesMin i s) (min_claim_rows i s) error → MayCertify (CertifiesLeast i s) (outcome_of (Err (judge_stop error)))
+  pub least_error : (error : JudgeError) → Refutes (CertifiesMin i s) (min_claim_rows i s) error → MayCertify (CertifiesLeast i s) (outcome_of (Err (judge_end error)))
   least_error error refutes = error_writes potentials_apart _ _ (CertifiesMin i s) error refutes
 
 -- a text as a whole
@@ -155,7 +155,7 @@ module _ (g : NetworkValue) (d : LabelsValue) where
       alike GaveUp out h = absurd h
 
   -- a test fails, or memory ran out
-  pub distances_error : (error : JudgeError) → d.nodes ≡ g.nodes → CertifiesPaths g d.blocks (Err error) → MayCertify (CertifiesDistances g d) (outcome_of (Err (judge_stop error)))
+  pub distances_error : (error : JudgeError) → d.nodes ≡ g.nodes → CertifiesPaths g d.blocks (Err error) → MayCertify (CertifiesDistances g d) (outcome_of (Err (judge_end error)))
   distances_error (judge_errors.Refused place reason) same refutes = (inr (same, refutes.1, (place, reason, refutes.0.0, refl)), alike)
     where
       alike : (s : Status) (out : List (List ℕ)) → CertifiesDistances g d s out → (s ≡ Refused) × (report_of out ≡ failure_line place reason)

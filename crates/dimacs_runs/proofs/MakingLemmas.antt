@@ -12,10 +12,10 @@ use Rattle.dimacs_runs.specs.Commands.{Contents, Making, MakesOfFiles, files_for
 use Rattle.dimacs_runs.specs.Files.{Created, FileEvent, FilesSeen, NotCreated, NotOpened, Opened, Read, ReadFile, Sees, WrittenFile, closed_written, failures}
 use Rattle.dimacs_runs.specs.{inside.Commands.{FailsWith, IsFirstOf, named}, inside.Reports.{report_lines}}
 use Rattle.dimacs_runs.specs.inside.Making.{AnswersFiles, IsWritten, WritesOutcome, WritesReport}
-use Rattle.dimacs_runs.specs.inside.Outcomes.{EndsWriting, IfEnds, text_bytes, nowhere, unclaimed_texts}
+use Rattle.dimacs_runs.specs.inside.Outcomes.{EndsWriting, IfEnds, text_bytes, nowhere, shown_texts}
 use Rattle.dimacs_runs.proofs.FileLemmas.{all_after, all_before, closings, one_first, sees_then, sees_two, names_failure, why_nothing}
 use Rattle.dimacs_runs.proofs.PlanLemmas.{is_error, opened_none, reports_all_named, sees_nothing}
-use Rattle.dimacs_runs.proofs.WritingLemmas.{counts_both, counts_reported, counts_without, one_more_with, unclaimed_written}
+use Rattle.dimacs_runs.proofs.WritingLemmas.{counts_both, counts_reported, counts_without, one_more_with, shown_written}
 
 -- ---- possible outcomes of what was written
 reports_all_from : {E : Type 0} (a b : Status → List (List ℕ) → Type 0) (result : Result Status E) (old new : List (Option (List ℕ))) → ((s : Status) (o : List (List ℕ)) → a s o → b s o)
@@ -47,7 +47,7 @@ module _ {opened : List (List ℕ)} {holds : Contents} {makes : Making} {result 
   pub answers_files : {b c : FilesSeen} (read : List ReadFile) (answer : Result Outcome RunError) (failure : Option Failure) → map (λ (file : ReadFile). file.name) read ≡ opened
       → Sees (map Opened opened) a b → Sees (map Read read) b c → result ≡ named answer failure → IsFirstOf failure (flat_map failures (map Read read))
       → CountsDevices answer (map (λ (file : ReadFile). 0) read) (map (λ (file : ReadFile). file.faults) read)
-      → ((texts : List (List ℕ)) → map holds opened ≡ map Some texts → IfEnds unclaimed_texts (makes texts) answer)
+      → ((texts : List (List ℕ)) → map holds opened ≡ map Some texts → IfEnds shown_texts (makes texts) answer)
       → AnswersFiles opened holds makes result a c
   answers_files {b} {c} read answer failure all_read opens closes is first counts possible =
       let fails = λ (n : ℕ). names_failure n n (map inl read) answer failure (rw (closings_read read) first) (rw (before_read n read, after_read n read) (counts_with answer n _ _ counts)) in
@@ -71,7 +71,7 @@ module _ {opened : List (List ℕ)} {holds : Contents} {makes : Making} {result 
       after_read n [] = refl
       after_read n (file ∷ read) = ap (λ (all : List ℕ). file.faults ∷ all) (after_read n read)
 
-      may_name : (texts : List (List ℕ)) (answer : Result Outcome RunError) (failure : Option Failure) → IfEnds unclaimed_texts (makes texts) answer → IfEnds unclaimed_texts (makes texts) (named answer failure)
+      may_name : (texts : List (List ℕ)) (answer : Result Outcome RunError) (failure : Option Failure) → IfEnds shown_texts (makes texts) answer → IfEnds shown_texts (makes texts) (named answer failure)
       may_name texts (Ok p) failure may = may
       may_name texts (Err Device) None may = tt
       may_name texts (Err Device) (Some it) may = tt
@@ -163,14 +163,14 @@ pub report_alone : {result : Result Status CommandError} {old new : Written} (p 
 report_alone {result} {old} {new} p ended is ends =
     let fails = names_failure old.faults new.faults [] ended None refl (counts_reported (Ok p) ended [] [] old new refl refl ends) in
     rw is record {
-      reports = reports_all_named (IsWritten p) ended None _ _ (unclaimed_written (IsWritten p) (Ok p) ended (nowhere ∷ old ∷ []) (nowhere ∷ new ∷ []) (refl, refl) ends);
+      reports = reports_all_named (IsWritten p) ended None _ _ (shown_written (IsWritten p) (Ok p) ended (nowhere ∷ old ∷ []) (nowhere ∷ new ∷ []) (refl, refl) ends);
       failure = sym fails.0;
       faults = fails.1;
       something_written = why_nothing ⊥ [] ended None refl (never_memory p ended _ _ ends) (λ unread. unread);
     }
 
 module _ {empty : Option (List ℕ)} {result : Result Status CommandError} {old : Written} {b : FilesSeen} (p : Outcome) where
-  no_text : {new : Written} (names : List (List ℕ)) → files_for names (unclaimed_texts p) ≡ [] → WritesReport p result old new → WritesOutcome p names empty result (seen_by b old) (seen_by b new)
+  no_text : {new : Written} (names : List (List ℕ)) → files_for names (shown_texts p) ≡ [] → WritesReport p result old new → WritesOutcome p names empty result (seen_by b old) (seen_by b new)
   no_text {new} names none puts = record {
     events = [];
     seen = sees_nothing b;
@@ -181,7 +181,7 @@ module _ {empty : Option (List ℕ)} {result : Result Status CommandError} {old 
 
   -- no file is named
   pub writes_unnamed : {new : Written} → WritesReport p result old new → WritesOutcome p [] empty result (seen_by b old) (seen_by b new)
-  writes_unnamed {new} puts = no_text {new = new} [] (no_files (unclaimed_texts p)) puts
+  writes_unnamed {new} puts = no_text {new = new} [] (no_files (shown_texts p)) puts
 
   -- there is no text
   pub writes_no_text : {new : Written} (names : List (List ℕ)) → p.certificate ≡ Nothing → WritesReport p result old new → WritesOutcome p names empty result (seen_by b old) (seen_by b new)
@@ -216,7 +216,7 @@ module _ {empty : Option (List ℕ)} {result : Result Status CommandError} {old 
           written = file ∷ [];
           all_written = sym (file_for_text p.certificate (report_lines p.report) (name ∷ []) has_text);
           happened = refl;
-          reports = reports_all_named (IsWritten p) ended failure _ _ (unclaimed_written (IsWritten p) (Ok p) ended (fresh ∷ old ∷ []) (seen ∷ new ∷ []) (refl, refl) ends);
+          reports = reports_all_named (IsWritten p) ended failure _ _ (shown_written (IsWritten p) (Ok p) ended (fresh ∷ old ∷ []) (seen ∷ new ∷ []) (refl, refl) ends);
           something_written = why_nothing ⊥ (inr file ∷ []) ended failure one (never_memory p ended _ _ ends) (λ unread. unread);
         });
       }

@@ -2,8 +2,7 @@
 use Rattle.std.proofs.Common.{◌≡◌, ℕ, List, Result, Ok, refl, ap, ◌∙◌, inl, inr, ◌⊎◌}
 use Rattle.dimacs_runs.specs.{declared.outcome.Outcome.{Outcome}, declared.status.Status.{Status}}
 use Rattle.dimacs_runs.specs.{declared.status.Status.TheVariants.{Done}, declared.early_end.EarlyEnd.{EarlyEnd}}
-use Rattle.dimacs_runs.specs.{declared.texts_in_turn.ReadFailure.{ReadFailure}, Runs.{IsPrinted, ReportsAlone}}
-use Rattle.dimacs_runs.specs.inside.Judgings.{FaultIn, ReadsIn, StopsAt, TextSpells}
+use Rattle.dimacs_runs.specs.{Runs.{IsPrinted, ReportsAlone}, inside.Judgings.{FaultIn, ReadsIn, StopsAt, TextSpells}}
 use Rattle.dimacs_runs.specs.inside.Outcomes.{MayReport, outcome_of}
 use Rattle.dimacs_runs.proofs.TextLemmas.{FaultLine, Stopped, reporting_way, unread_ends}
 
@@ -24,5 +23,5 @@ module _ {V : Type 0} (text : TextSpells V) (printed : V → List ℕ) where
   fault_or_value s out (inr (v, spelled, printed)) = inr (v, spelled)
 
   -- no value was read
-  pub unread_printed : (unread : ReadFailure) (result : Result Outcome EarlyEnd) → Stopped unread result → StopsAt text unread → MayReport prints (outcome_of result)
-  unread_printed unread result stopped stop = unread_ends reporting_way text prints (λ l f r fault. inl (l, f, r, fault, refl, refl)) fault_or_value unread result stopped stop
+  pub unread_printed : (ended : EarlyEnd) (result : Result Outcome EarlyEnd) → Stopped ended result → StopsAt text ended → MayReport prints (outcome_of result)
+  unread_printed ended result stopped stop = unread_ends reporting_way text prints (λ l f r fault. inl (l, f, r, fault, refl, refl)) fault_or_value ended result stopped stop

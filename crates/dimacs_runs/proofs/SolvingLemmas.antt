@@ -14,7 +14,7 @@ use Rattle.dimacs_solve.specs.{SolveMax.{SolvesMax}, SolveMin.{SolvesMin}}
 use Rattle.dimacs_runs.specs.{declared.status.Status.TheVariants.{Refused}, declared.status.RunError.{RunError}}
 use Rattle.dimacs_runs.specs.{declared.status.RunError.TheVariants.{Device}, Judgings.{CountsDevices}}
 use Rattle.dimacs_runs.specs.{Outputs.{MayWrite}, declared.outcome.Outcome.{Outcome}, Verdicts.{failure_line}}
-use Rattle.dimacs_runs.specs.inside.Outcomes.{IsReadable, MaySolve, least_outcome, maximum_outcome, outcome_of, solve_stop}
+use Rattle.dimacs_runs.specs.inside.Outcomes.{IsReadable, MaySolve, least_outcome, maximum_outcome, outcome_of, solve_end}
 use Rattle.dimacs_runs.specs.Solved.{FindsLeast, FindsMaximum, FindsPaths, RefusesPaths, report_alone}
 use Rattle.dimacs_records.specs.declared.reasons.Reason.TheVariants as reasons
 use Rattle.dimacs_solve.specs.declared.error.SolveError.TheVariants as solve_errors
@@ -23,7 +23,7 @@ use Rattle.dimacs_solve.specs.declared.least.MinAnswer.TheVariants as min_answer
 
 -- the certificate of the outcome can be read again
 abbrev Readable : Outcome → Type 0
-Readable outcome = IsReadable outcome.certificate
+Readable outcome = IsReadable outcome.shown
 
 -- the solver of maximum flows answered
 pub maximum_ends : (i : MaxValue) (limit : ℕ) (answer : Result MaxAnswer SolveError) → SolvesMax i limit answer → IfOk (maximum_outcome answer) Readable → MaySolve (FindsMaximum i limit) (outcome_of (maximum_outcome answer))
@@ -60,7 +60,7 @@ module _ (g : NetworkValue) (q : QueriesValue) where
       alone refusal (other, why, also, is) = let same = same_refusal g q place other reason why refuses also in (refl, sym (is ∙ rw (same.0, same.1) refl))
 
   -- the solver of distances refused
-  pub error_ends : (error : SolveError) → SolvesPaths g q (Err error) → MaySolve (FindsPaths g q) (outcome_of (Err (solve_stop error)))
+  pub error_ends : (error : SolveError) → SolvesPaths g q (Err error) → MaySolve (FindsPaths g q) (outcome_of (Err (solve_end error)))
   error_ends (solve_errors.NegativeWeight arc) (clear, first) = refusal_ends (Arc arc) reasons.NegativeWeight (inr (clear, (arc, first, refl, refl)))
   error_ends (solve_errors.Refused place reason) first = refusal_ends place reason (inl first)
   error_ends solve_errors.Memory nothing = tt

@@ -12,7 +12,7 @@ use Rattle.dimacs_runs.specs.{declared.jobs.SpreadKind.TheVariants.{Max, Min}, d
 use Rattle.dimacs_runs.specs.{declared.status.Status.{Status}, Certified.{uncertified}, Spread.{SpreadsClaim}}
 use Rattle.dimacs_runs.specs.{declared.status.Status.TheVariants.{Done, Refused, GaveUp}, Verdicts.{failure_line}}
 use Rattle.dimacs_runs.specs.Outputs.{WritesAlike, report_of}
-use Rattle.dimacs_runs.specs.inside.Outcomes.{DealsOut, MayCertify, judge_stop, outcome_of}
+use Rattle.dimacs_runs.specs.inside.Outcomes.{DealsOut, MayCertify, judge_end, outcome_of}
 use Rattle.dimacs_judging.specs.declared.verdict.JudgeError.TheVariants as judge_errors
 
 module _ (arcs : List ArcView) (s : SolutionValue) where
@@ -45,6 +45,6 @@ module _ (arcs : List ArcView) (s : SolutionValue) where
       alike GaveUp other also = absurd also
 
   -- an entry or an amount was refused, or memory ran out
-  pub refusal_spreads : (kind : SpreadKind) (error : JudgeError) → Refuses (FirstAlone (spread_rows arcs s.entries)) error → MayCertify (SpreadsClaim kind arcs s) (outcome_of (Err (judge_stop error)))
+  pub refusal_spreads : (kind : SpreadKind) (error : JudgeError) → Refuses (FirstAlone (spread_rows arcs s.entries)) error → MayCertify (SpreadsClaim kind arcs s) (outcome_of (Err (judge_end error)))
   refusal_spreads kind (judge_errors.Refused place reason) first = refusal_alike kind place reason first
   refusal_spreads kind judge_errors.Memory first = tt

@@ -7,11 +7,10 @@ use Rattle.dimacs_records.specs.declared.reasons.Reason.{Reason}
 use Rattle.dimacs_runs.specs.{declared.status.Status.{Status}, declared.status.Status.TheVariants.{Refused}}
 use Rattle.dimacs_runs.specs.{declared.status.RunError.{RunError}, declared.outcome.Outcome.{Outcome}}
 use Rattle.dimacs_runs.specs.{declared.report.Report.{Report}, declared.early_end.EarlyEnd.{EarlyEnd}}
-use Rattle.dimacs_runs.specs.{declared.texts_in_turn.ReadFailure.{ReadFailure}, Certified.{uncertified}}
-use Rattle.dimacs_runs.specs.{Outputs.{MayWrite, WritesAlike, report_of}, Refusals.{refusal_line}}
-use Rattle.dimacs_runs.specs.{Runs.{ReportsAlone, text_word}, Solved.{report_alone}}
+use Rattle.dimacs_runs.specs.{Certified.{uncertified}, Outputs.{MayWrite, WritesAlike, report_of}}
+use Rattle.dimacs_runs.specs.{Refusals.{refusal_line}, Runs.{ReportsAlone, text_word}, Solved.{report_alone}}
 use Rattle.dimacs_runs.specs.inside.Judgings.{ReadsIn, StopsAt, TextSpells}
-use Rattle.dimacs_runs.specs.inside.Outcomes.{IfEnds, outcome_texts, reporting, outcome_of, unclaimed_texts, unread_end}
+use Rattle.dimacs_runs.specs.inside.Outcomes.{IfEnds, outcome_texts, reporting, outcome_of, shown_texts, unread_end}
 use Rattle.dimacs_runs.specs.inside.Reports.{report_lines, report_status}
 use Rattle.dimacs_runs.specs.declared.report.Report.TheVariants as reports
 use Rattle.dimacs_records.specs.declared.faults.ReadError.TheVariants as read_errors
@@ -38,7 +37,7 @@ reporting_way = record {
 abbrev pub certifying : Way (List (List ℕ))
 certifying = record {
   writes = WritesAlike;
-  texts = unclaimed_texts;
+  texts = shown_texts;
   alone = uncertified;
   lines = λ report. refl;
   carried = λ a b s o to from written. (to s o written.0, λ t p h. written.1 t p (from t p h));
@@ -55,9 +54,9 @@ solving = record {
   refused = λ a o written only. (written, λ refusal h. (refl, sym (only Refused refusal h).1));
 }
 
--- a run ends early at a text that could not be read
-abbrev pub Stopped : ReadFailure → Result Outcome EarlyEnd → Type 0
-Stopped unread result = IsErrAnd result (λ stop. stop ≡ unread_end unread.kind unread.error)
+-- a run ends early, like this
+abbrev pub Stopped : EarlyEnd → Result Outcome EarlyEnd → Type 0
+Stopped ended result = IsErrAnd result (λ error. error ≡ ended)
 
 module _ {O : Type 0} (way : Way O) where
   abbrev pub Ends : (Status → O → Type 0) → Result Outcome RunError → Type 0
@@ -83,10 +82,10 @@ module _ {O : Type 0} (way : Way O) where
     unread_reported a to from kind read_errors.Memory is read = tt
 
     pub unread_ends : (a : Status → O → Type 0) → ((l f : ℕ) (r : Reason) → text.fault l f r → a Refused (way.alone (refusal_line text.name l f r))) → ((s : Status) (o : O) → a s o → FaultLine s o ⊎ ((v : V) × text.spells v))
-        → (unread : ReadFailure) (result : Result Outcome EarlyEnd) → Stopped unread result → StopsAt text unread → Ends a (outcome_of result)
-    unread_ends a to from unread result stopped stop =
+        → (ended : EarlyEnd) (result : Result Outcome EarlyEnd) → Stopped ended result → StopsAt text ended → Ends a (outcome_of result)
+    unread_ends a to from ended result stopped (kind, error, word, read, at) =
         let (it, is, same) = err_from_is_err_and result stopped in
-        rw (is, same) (unread_reported a to from unread.kind unread.error stop.0 stop.1)
+        rw (is, same, at) (unread_reported a to from kind error word read)
 
     module _ (next : V → Status → O → Type 0) where
       -- or the report follows from the text's value
@@ -102,8 +101,8 @@ module _ {O : Type 0} (way : Way O) where
       value_ends v (Err error) read follows = tt
 
       -- the text could not be read
-      pub stop_ends : (unread : ReadFailure) (result : Result Outcome EarlyEnd) → Stopped unread result → StopsAt text unread → Ends FaultThen (outcome_of result)
-      stop_ends unread result stopped stop = unread_ends FaultThen (λ l f r fault. inl (l, f, r, fault, refl, refl)) (λ s o h. elim h [ inl it ↦ inl it | inr it ↦ inr (it.0, it.1) ]) unread result stopped stop
+      pub stop_ends : (ended : EarlyEnd) (result : Result Outcome EarlyEnd) → Stopped ended result → StopsAt text ended → Ends FaultThen (outcome_of result)
+      stop_ends ended result stopped stop = unread_ends FaultThen (λ l f r fault. inl (l, f, r, fault, refl, refl)) (λ s o h. elim h [ inl it ↦ inl it | inr it ↦ inr (it.0, it.1) ]) ended result stopped stop
 
   module _ {V W : Type 0} (x : TextSpells V) (y : TextSpells W) (next : V → W → Status → O → Type 0) where
     abbrev after_first : V → Status → O → Type 0
@@ -114,9 +113,9 @@ module _ {O : Type 0} (way : Way O) where
     two_end v w outcome read also follows = value_ends x after_first v outcome read (value_ends y (next v) w outcome also follows)
 
     -- one of two texts could not be read
-    pub two_stop : (unread : ReadFailure) (result : Result Outcome EarlyEnd) → Stopped unread result → StopsAt x unread ⊎ ((v : V) × ReadsIn x (Ok v) × StopsAt y unread) → Ends (FaultThen x after_first) (outcome_of result)
-    two_stop unread result stopped (inl first) = stop_ends x after_first unread result stopped first
-    two_stop unread result stopped (inr (v, read, second)) = value_ends x after_first v (outcome_of result) read (stop_ends y (next v) unread result stopped second)
+    pub two_stop : (ended : EarlyEnd) (result : Result Outcome EarlyEnd) → Stopped ended result → StopsAt x ended ⊎ ((v : V) × ReadsIn x (Ok v) × StopsAt y ended) → Ends (FaultThen x after_first) (outcome_of result)
+    two_stop ended result stopped (inl first) = stop_ends x after_first ended result stopped first
+    two_stop ended result stopped (inr (v, read, second)) = value_ends x after_first v (outcome_of result) read (stop_ends y (next v) ended result stopped second)
 
   module _ {V W X : Type 0} (x : TextSpells V) (y : TextSpells W) (z : TextSpells X) (next : V → W → X → Status → O → Type 0) where
     abbrev after_second : V → W → Status → O → Type 0
@@ -130,7 +129,7 @@ module _ {O : Type 0} (way : Way O) where
     three_end v w u outcome first second third follows = two_end x y after_second v w outcome first second (value_ends z (next v w) u outcome third follows)
 
     -- one of three texts could not be read
-    pub three_stop : (unread : ReadFailure) (result : Result Outcome EarlyEnd) → Stopped unread result → StopsAt x unread ⊎ ((v : V) × ReadsIn x (Ok v) × (StopsAt y unread ⊎ ((w : W) × ReadsIn y (Ok w) × StopsAt z unread))) → Ends three (outcome_of result)
-    three_stop unread result stopped (inl first) = stop_ends x (λ v. FaultThen y (after_second v)) unread result stopped first
-    three_stop unread result stopped (inr (v, read, inl second)) = two_stop x y after_second unread result stopped (inr (v, read, second))
-    three_stop unread result stopped (inr (v, read, inr (w, also, third))) = two_end x y after_second v w (outcome_of result) read also (stop_ends z (next v w) unread result stopped third)
+    pub three_stop : (ended : EarlyEnd) (result : Result Outcome EarlyEnd) → Stopped ended result → StopsAt x ended ⊎ ((v : V) × ReadsIn x (Ok v) × (StopsAt y ended ⊎ ((w : W) × ReadsIn y (Ok w) × StopsAt z ended))) → Ends three (outcome_of result)
+    three_stop ended result stopped (inl first) = stop_ends x (λ v. FaultThen y (after_second v)) ended result stopped first
+    three_stop ended result stopped (inr (v, read, inl second)) = two_stop x y after_second ended result stopped (inr (v, read, second))
+    three_stop ended result stopped (inr (v, read, inr (w, also, third))) = two_end x y after_second v w (outcome_of result) read also (stop_ends z (next v w) ended result stopped third)

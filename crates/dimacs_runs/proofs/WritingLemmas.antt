@@ -5,7 +5,7 @@ use Rattle.dimacs_lines.specs.Devices.{Written}
 use Rattle.dimacs_runs.specs.{declared.outcome.Outcome.{Outcome}, declared.status.RunError.{RunError}, Runs.{Reports}}
 use Rattle.dimacs_runs.specs.{declared.status.RunError.TheVariants.{Device, Memory}, Judgings.{CountsDevices, OneMore}}
 use Rattle.dimacs_runs.specs.{declared.status.Status.{Status}, Outputs.{ReportsAll}}
-use Rattle.dimacs_runs.specs.inside.Outcomes.{EndsWriting, IfEnds, MayReport, accepted_by, faults_by, nowhere, outcome_texts, unclaimed_texts}
+use Rattle.dimacs_runs.specs.inside.Outcomes.{EndsWriting, IfEnds, MayReport, accepted_by, faults_by, nowhere, outcome_texts, shown_texts}
 use Rattle.dimacs_runs.specs.inside.Reports.{report_lines, report_status}
 
 -- all texts
@@ -16,14 +16,14 @@ all_written a (Ok o) (Err error) old new may ends = inr (report_status o.report,
 all_written a (Err error) result old new may ends = rw ends.0 (inl (ap accepted_by ends.1))
 
 -- those without the claim
-pub unclaimed_written : (a : Status → List (List ℕ) → Type 0) (outcome : Result Outcome RunError) (result : Result Status RunError) (old new : List Written)
-    → IfEnds unclaimed_texts a outcome → EndsWriting outcome result (nowhere ∷ old) (nowhere ∷ new) → ReportsAll a result (accepted_by old) (accepted_by new)
-unclaimed_written a (Ok o) (Ok status) old new may ends = rw ends.0 (unclaimed_texts o, may, ends.1.1)
-unclaimed_written a (Ok o) (Err error) old new may ends = elim ends.1 [
+pub shown_written : (a : Status → List (List ℕ) → Type 0) (outcome : Result Outcome RunError) (result : Result Status RunError) (old new : List Written)
+    → IfEnds shown_texts a outcome → EndsWriting outcome result (nowhere ∷ old) (nowhere ∷ new) → ReportsAll a result (accepted_by old) (accepted_by new)
+shown_written a (Ok o) (Ok status) old new may ends = rw ends.0 (shown_texts o, may, ends.1.1)
+shown_written a (Ok o) (Err error) old new may ends = elim ends.1 [
   | inl claim ↦ inl claim.1
-  | inr others ↦ inr (report_status o.report, unclaimed_texts o, may, others.1)
+  | inr others ↦ inr (report_status o.report, shown_texts o, may, others.1)
 ]
-unclaimed_written a (Err error) result old new may ends = rw ends.0 (let same : nowhere ∷ new ≡ nowhere ∷ old = ends.1 in inl (ap (λ (sinks : List Written). drop 1 (accepted_by sinks)) same))
+shown_written a (Err error) result old new may ends = rw ends.0 (let same : nowhere ∷ new ≡ nowhere ∷ old = ends.1 in inl (ap (λ (sinks : List Written). drop 1 (accepted_by sinks)) same))
 
 -- the report
 pub report_written : (a : Status → List ℕ → Type 0) (outcome : Result Outcome RunError) (result : Result Status RunError) (old new : Written)

@@ -4,9 +4,9 @@ ghost use Rattle.std.specs.Prelude.{◌≡◌, ◌≢◌, ◌⊎◌, ◌∷◌, 
 ghost use Rattle.dimacs_lines.specs.Lines.{lines};
 ghost use Rattle.dimacs_records.specs.declared.kinds.TextKind.TheVariants as kinds;
 ghost use Rattle.dimacs_records.specs.{declared.reasons.Reason.{Reason}, Faults.{Fault}};
-ghost use Rattle.dimacs_claims.specs.{SolutionReading.{IsPlaced, IsPlacedLawful}, SolutionTexts.{SolutionValue}};
+ghost use Rattle.dimacs_claims.specs.{SolutionReading.{IsPlacedLawful}, SolutionTexts.{SolutionValue}};
 ghost use Rattle.dimacs_instance.specs.MaxFlows.{IsMax};
-ghost use Rattle.dimacs_judging.specs.{Feasible.{FeasibleMax, FeasibleMin}, Places.{ArePlaced}};
+ghost use Rattle.dimacs_judging.specs.{Feasible.{FeasibleMax, FeasibleMin}, Places.{ArePlaced, StandsFor}};
 ghost use Rattle.dimacs_decide.specs.{CertifiedMax.{IsMaxImproved}, CertifiedMin.{IsMinImproved}};
 ghost use Rattle.dimacs_runs.specs.declared.status.RunError.TheVariants.{Device, Memory};
 ghost use Rattle.dimacs_runs.specs.declared.jobs.JudgeKind.TheVariants as judges;
@@ -136,7 +136,7 @@ fn answer_maximum<N: Network>(
     requires lawful { IsMax instance.now }
     requires network { placed.now.place.arcs ≡ instance.now.arcs }
     requires placed { IsPlacedLawful placed.now.value placed.now.value_line (ArePlaced placed.now.place) }
-    ensures certifies { (s : SolutionValue) → IsPlaced placed.now.value placed.now.value_line (ArePlaced placed.now.place) s
+    ensures certifies { (s : SolutionValue) → StandsFor placed.now s
         → MayCertify (CertifiesMaximum instance.now s) (outcome_of result) }
     ensures no_device { outcome_of result ≢ Err Device }
 {
@@ -157,15 +157,15 @@ fn answer_least<N: Network>(
 ) -> Result<Outcome, EarlyEnd>
     requires network { placed.now.place.arcs ≡ instance.now.arcs }
     requires placed { IsPlacedLawful placed.now.value placed.now.value_line (ArePlaced placed.now.place) }
-    ensures certifies { (s : SolutionValue) → IsPlaced placed.now.value placed.now.value_line (ArePlaced placed.now.place) s
+    ensures certifies { (s : SolutionValue) → StandsFor placed.now s
         → MayCertify (CertifiesLeast instance.now s) (outcome_of result) }
     ensures no_device { outcome_of result ≢ Err Device }
 {
     match certify_min_placed(alloc, instance, placed)? {
         MinDecision::Optimal(potentials) => {
             let report = Report::Yes(Verdict::Min(placed.value));
-            let certificate = OutputText::Potentials(potentials);
-            Ok(Outcome::certified(OutputText::Nothing, certificate, report))
+            let shown = OutputText::Potentials(potentials);
+            Ok(Outcome::certified(OutputText::Nothing, shown, report))
         }
         MinDecision::Better(flow) => refuse_least(alloc, instance, &flow, placed.value_line),
     }

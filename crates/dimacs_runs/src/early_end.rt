@@ -1,15 +1,14 @@
 //! The early ends of a run.
 
 ghost use Rattle.std.specs.Prelude.{◌≡◌};
-ghost use Rattle.dimacs_runs.specs.inside.Outcomes.{outcome_of};
+ghost use Rattle.dimacs_runs.specs.inside.Outcomes.{outcome_of, unread_end};
 
 use crate::outcome::Outcome;
 use crate::report::Report;
 use crate::status::RunError;
-use crate::texts_in_turn::ReadFailure;
 use dimacs_judging::{JudgeError, Where};
 use dimacs_lines::Memory;
-use dimacs_records::{ReadError, Reason};
+use dimacs_records::{ReadError, Reason, TextKind};
 use dimacs_solve::SolveError;
 
 /// Ends a run before it has a text.
@@ -23,22 +22,21 @@ impl From<Memory> for EarlyEnd {
     ghost use Rattle.dimacs_runs.specs.declared.status.RunError.TheVariants as errors;
     ghost use Rattle.dimacs_runs.specs.declared.early_end.EarlyEnd.TheVariants.{Error};
 
-    ghost from_gives = { λ memory stop. stop ≡ Error errors.Memory };
+    ghost from_gives = { λ memory ended. ended ≡ Error errors.Memory };
 
     fn from(_memory: Memory) -> EarlyEnd {
         EarlyEnd::Error(RunError::Memory)
     }
 }
 
-impl From<ReadFailure> for EarlyEnd {
-    ghost use Rattle.dimacs_runs.specs.inside.Outcomes.{unread_end};
-
-    ghost from_gives = { λ unread stop. stop ≡ unread_end unread.kind unread.error };
-
-    fn from(unread: ReadFailure) -> EarlyEnd {
-        match unread.error {
+impl EarlyEnd {
+    /// The end of a run at a text of this kind that can't be read.
+    pub(crate) fn at_text(kind: TextKind, error: ReadError) -> EarlyEnd
+        ensures { result ≡ unread_end kind error }
+    {
+        match error {
             ReadError::Refused(place, reason) => {
-                EarlyEnd::Report(Report::Refused(unread.kind, place, reason))
+                EarlyEnd::Report(Report::Refused(kind, place, reason))
             }
             ReadError::Device => EarlyEnd::Error(RunError::Device),
             ReadError::Memory => EarlyEnd::Error(RunError::Memory),
@@ -47,9 +45,9 @@ impl From<ReadFailure> for EarlyEnd {
 }
 
 impl From<JudgeError> for EarlyEnd {
-    ghost use Rattle.dimacs_runs.specs.inside.Outcomes.{judge_stop};
+    ghost use Rattle.dimacs_runs.specs.inside.Outcomes.{judge_end};
 
-    ghost from_gives = { λ error stop. stop ≡ judge_stop error };
+    ghost from_gives = { λ error ended. ended ≡ judge_end error };
 
     fn from(error: JudgeError) -> EarlyEnd {
         match error {
@@ -60,9 +58,9 @@ impl From<JudgeError> for EarlyEnd {
 }
 
 impl From<SolveError> for EarlyEnd {
-    ghost use Rattle.dimacs_runs.specs.inside.Outcomes.{solve_stop};
+    ghost use Rattle.dimacs_runs.specs.inside.Outcomes.{solve_end};
 
-    ghost from_gives = { λ error stop. stop ≡ solve_stop error };
+    ghost from_gives = { λ error ended. ended ≡ solve_end error };
 
     fn from(error: SolveError) -> EarlyEnd {
         match error {

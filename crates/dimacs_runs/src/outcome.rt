@@ -73,11 +73,11 @@ impl OutputText {
 /// The outcome of a run that had no error.
 #[derive(Drop)]
 pub(crate) struct Outcome {
-    /// The solution of a solver. Labels aren't here: they are claim and certificate in one.
-    pub(crate) claim: OutputText,
-    /// A certificate, or a solution in its place: a better flow than the claimed one, any feasible flow, or the claimed
+    /// The solution that a solver made.
+    pub(crate) made: OutputText,
+    /// What shows the answer: a certificate, labels, a better flow than the claimed one, any feasible flow, or the claimed
     /// flow dealt out to parallel arcs.
-    pub(crate) certificate: OutputText,
+    pub(crate) shown: OutputText,
     pub(crate) report: Report,
 }
 
@@ -89,47 +89,47 @@ impl Outcome {
         Outcome::with_text(OutputText::Nothing, report)
     }
 
-    /// A yes with its certificate, and with the claim of a solver.
-    pub(crate) fn certified(claim: OutputText, certificate: OutputText, report: Report) -> Outcome
-        ensures outcome { result ≡ record { claim = claim; certificate = certificate; report = report } }
-        ensures readable { IsReadable certificate }
+    /// A yes with what shows it, and with the solution that a solver made.
+    pub(crate) fn certified(made: OutputText, shown: OutputText, report: Report) -> Outcome
+        ensures outcome { result ≡ record { made = made; shown = shown; report = report } }
+        ensures readable { IsReadable shown }
     {
-        certificate.be_readable();
+        shown.be_readable();
         Outcome {
-            claim,
-            certificate,
+            made,
+            shown,
             report,
         }
     }
 
-    /// A report with a certificate, or with a solution in its place.
-    pub(crate) fn with_text(certificate: OutputText, report: Report) -> Outcome
-        ensures { result ≡ outcomes.with_text certificate report }
+    /// A report with what shows it.
+    pub(crate) fn with_text(shown: OutputText, report: Report) -> Outcome
+        ensures { result ≡ outcomes.with_text shown report }
     {
         Outcome {
-            claim: OutputText::Nothing,
-            certificate,
+            made: OutputText::Nothing,
+            shown,
             report,
         }
     }
 }
 
-/// Writes the claim, the certificate and the report of an outcome, in this order, and keeps the outcome. If it is
-/// an error, returns that and writes nothing.
+/// Writes what a solver made, what shows the answer, and the report, in this order, and keeps the outcome. If it is an
+/// error, returns that and writes nothing.
 pub(crate) fn write_outcome<C: Sink, D: Sink, K: Sink>(
     outcome: Result<Outcome, RunError>,
-    claim: &mut C,
-    certificate: &mut D,
+    made: &mut C,
+    shown: &mut D,
     report: &mut K,
     kept: &mut Option<Outcome>,
 ) -> Result<Status, RunError>
     ensures ends { EndsWriting outcome result
-        (C.seen claim.old ∷ D.seen certificate.old ∷ K.seen report.old ∷ []) (C.seen claim.new ∷ D.seen certificate.new ∷ K.seen report.new ∷ []) }
-    ensures unclaimed { IfOk outcome (λ o. o.claim ≡ Nothing) → claim.new ≡ claim.old }
+        (C.seen made.old ∷ D.seen shown.old ∷ K.seen report.old ∷ []) (C.seen made.new ∷ D.seen shown.new ∷ K.seen report.new ∷ []) }
+    ensures nothing_made { IfOk outcome (λ o. o.made ≡ Nothing) → made.new ≡ made.old }
 {
     let outcome = outcome?;
-    outcome.claim.write(claim)?;
-    outcome.certificate.write(certificate)?;
+    outcome.made.write(made)?;
+    outcome.shown.write(shown)?;
     outcome.report.write(report)?;
     let status = outcome.report.status();
     *kept = Some(outcome);

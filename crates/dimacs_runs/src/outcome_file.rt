@@ -42,7 +42,7 @@ fn write_into<'a, F: Files, K: Sink>(
         (seen_by (F.seen files.old) (K.seen output.old))
         (seen_by (F.seen files.new) (K.seen output.new)) }
 {
-    if outcome.certificate.is_nothing() {
+    if outcome.shown.is_nothing() {
         return write_report(outcome, output, kept);
     }
     let mut file = create(files, name)?;

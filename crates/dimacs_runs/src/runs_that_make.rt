@@ -4,7 +4,7 @@ ghost use Rattle.std.specs.{Prelude.{◌≡◌, ◌≤◌, ◌∷◌, [], ℕ, L
 ghost use Rattle.dimacs_runs.specs.declared.jobs.JudgeKind.TheVariants as judges;
 ghost use Rattle.dimacs_runs.specs.Commands.{MakesCertificate, MakesOfFiles, reads_first, seen_by};
 ghost use Rattle.dimacs_runs.specs.{Jobs.{AreCertifyFiles, certify_reads}, Judgings.{CountsDevices}};
-ghost use Rattle.dimacs_runs.specs.{inside.Making.{AnswersFiles, made_for}, inside.Outcomes.{IfEnds, unclaimed_texts}};
+ghost use Rattle.dimacs_runs.specs.{inside.Making.{AnswersFiles, made_for}, inside.Outcomes.{IfEnds, shown_texts}};
 
 use crate::certify::certify_claim;
 use crate::certify_infeasible::certify_infeasible;
@@ -118,7 +118,7 @@ fn make<P: Source, Q: Source>(
     claim: &mut Q,
 ) -> Result<Outcome, RunError>
     ensures possible { (a b : List ℕ) → P.coming instance.old ≡ Some a → Q.coming claim.old ≡ Some b →
-        IfEnds unclaimed_texts (made_for job (a ∷ b ∷ [])) result }
+        IfEnds shown_texts (made_for job (a ∷ b ∷ [])) result }
     ensures faults { CountsDevices result (P.faults instance.old ∷ Q.faults claim.old ∷ []) (P.faults instance.new ∷ Q.faults claim.new ∷ []) }
 {
     match job {

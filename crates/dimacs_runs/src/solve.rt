@@ -57,7 +57,7 @@ pub fn run_solve<P: Source, Q: Source, C: Sink, D: Sink, K: Sink>(
     ensures stops_at_instance { (a : List ℕ) (l f : ℕ) (r : Reason) → P.coming instance.old ≡ Some a
         → Fault (solved_kind job) (lines a) l f r → queries.new ≡ queries.old }
     ensures unqueried { job ≢ jobs.Paths → queries.new ≡ queries.old }
-    ensures unclaimed { job ≡ jobs.Paths → claim_out.new ≡ claim_out.old }
+    ensures nothing_made { job ≡ jobs.Paths → claim_out.new ≡ claim_out.old }
 {
     let outcome = solve_texts(alloc, job, instance, queries);
     write_outcome(outcome, claim_out, certificate_out, report, &mut None)
@@ -75,7 +75,7 @@ pub(crate) fn solve_texts<P: Source, Q: Source>(
     ensures faults { CountsDevices result (P.faults instance.old ∷ Q.faults queries.old ∷ []) (P.faults instance.new ∷ Q.faults queries.new ∷ []) }
     ensures stops_at_instance { HasFault (solved_kind job) (P.coming instance.old) → queries.new ≡ queries.old }
     ensures unqueried { job ≢ jobs.Paths → queries.new ≡ queries.old }
-    ensures unclaimed { job ≡ jobs.Paths → IfOk result (λ outcome. outcome.claim ≡ Nothing) }
+    ensures nothing_made { job ≡ jobs.Paths → IfOk result (λ outcome. outcome.made ≡ Nothing) }
 {
     outcome_of(match job {
         SolveJob::Max(limit) => solve_maximum(alloc, limit, instance),
@@ -114,7 +114,7 @@ fn solve_labels<P: Source, Q: Source>(
     ensures faults { CountsDevices (outcome_of result) (P.faults graph.old ∷ Q.faults queries.old ∷ [])
         (P.faults graph.new ∷ Q.faults queries.new ∷ []) }
     ensures stops_at_graph { HasFault kinds.Graph (P.coming graph.old) → queries.new ≡ queries.old }
-    ensures unclaimed { IfOk (outcome_of result) (λ outcome. outcome.claim ≡ Nothing) }
+    ensures nothing_made { IfOk (outcome_of result) (λ outcome. outcome.made ≡ Nothing) }
 {
     let (graph, queries): (Graph<PlainArcs<WeightArc>>, _) = read_two(alloc, graph, queries)?;
     label(alloc, &graph, &queries)
@@ -129,25 +129,25 @@ fn label<N: Network>(
     requires lawful { AreLawful (asked queries.now) }
     ensures solves { MaySolve (FindsPaths graph.now (asked queries.now)) (outcome_of result) }
     ensures no_device { outcome_of result ≢ Err Device }
-    ensures unclaimed { IfOk (outcome_of result) (λ outcome. outcome.claim ≡ Nothing) }
+    ensures nothing_made { IfOk (outcome_of result) (λ outcome. outcome.made ≡ Nothing) }
 {
     let mut labels = solve_paths(alloc, graph, queries)?;
     index_for(queries, &mut labels)?;
     let answers = answer_queries(alloc, queries, &labels)?;
-    let certificate = OutputText::Labels(labels);
-    Ok(Outcome::certified(OutputText::Nothing, certificate, Report::Yes(answers)))
+    let shown = OutputText::Labels(labels);
+    Ok(Outcome::certified(OutputText::Nothing, shown, Report::Yes(answers)))
 }
 
 /// The outcome of a solver's answer.
 fn maximum_outcome(answer: Result<MaxAnswer, SolveError>) -> Result<Outcome, EarlyEnd>
     ensures outcome { result ≡ outcomes.maximum_outcome answer }
-    ensures readable { IfOk result (λ outcome. IsReadable outcome.certificate) }
+    ensures readable { IfOk result (λ outcome. IsReadable outcome.shown) }
 {
     match answer? {
         MaxAnswer::Optimal(solution, cut) => {
             let report = Report::Yes(Verdict::Max(solution.value));
-            let claim = OutputText::Solution(solution);
-            Ok(Outcome::certified(claim, OutputText::Cut(cut), report))
+            let made = OutputText::Solution(solution);
+            Ok(Outcome::certified(made, OutputText::Cut(cut), report))
         }
         MaxAnswer::GaveUp => Ok(Outcome::reporting(Report::GaveUp)),
     }
@@ -156,13 +156,13 @@ fn maximum_outcome(answer: Result<MaxAnswer, SolveError>) -> Result<Outcome, Ear
 /// The outcome of a solver's answer.
 fn least_outcome(answer: Result<MinAnswer, SolveError>) -> Result<Outcome, EarlyEnd>
     ensures outcome { result ≡ outcomes.least_outcome answer }
-    ensures readable { IfOk result (λ outcome. IsReadable outcome.certificate) }
+    ensures readable { IfOk result (λ outcome. IsReadable outcome.shown) }
 {
     match answer? {
         MinAnswer::Optimal(solution, potentials) => {
             let report = Report::Yes(Verdict::Min(solution.value));
-            let claim = OutputText::Solution(solution);
-            Ok(Outcome::certified(claim, OutputText::Potentials(potentials), report))
+            let made = OutputText::Solution(solution);
+            Ok(Outcome::certified(made, OutputText::Potentials(potentials), report))
         }
         MinAnswer::Infeasible(set) => {
             let report = Report::Yes(Verdict::Infeasible);

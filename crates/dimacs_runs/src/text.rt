@@ -119,8 +119,8 @@ fn print<T: Text, S: Source, K: Sink>(
             write_in_form(&value, form, sink)?;
             Ok(Status::Done)
         }
-        Err(unread) => {
-            let answer = outcome_of(Err(EarlyEnd::from(unread)));
+        Err(ended) => {
+            let answer = outcome_of(Err(ended));
             write_outcome(answer, &mut Discard, &mut Discard, sink, kept)
         }
     }
@@ -157,8 +157,8 @@ fn sum_up<T: Summary, S: Source, K: Sink>(
             summary.show(sink)?;
             Ok(Status::Done)
         }
-        Err(unread) => {
-            let answer = outcome_of(Err(EarlyEnd::from(unread)));
+        Err(ended) => {
+            let answer = outcome_of(Err(ended));
             write_outcome(answer, &mut Discard, &mut Discard, sink, kept)
         }
     }

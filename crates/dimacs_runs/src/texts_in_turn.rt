@@ -5,21 +5,15 @@ ghost use Rattle.dimacs_records.specs.declared.kinds.TextKind.TheVariants as kin
 ghost use Rattle.dimacs_claims.specs.{SolutionReading.{IsPlaced, IsPlacedLawful}, SolutionTexts.{GivesSolution}};
 ghost use Rattle.dimacs_runs.specs.inside.Judgings.{CountsUnread, HasFault, PlacesOne, ReadsOne, ReadsPlaced, ReadsTwo, text_spells, text_of};
 
+use crate::early_end::EarlyEnd;
 use dimacs_claims::{Place, Placed, read_solution_into};
 use dimacs_instance::Summary;
 use dimacs_lines::Source;
-use dimacs_records::{ReadError, Text, TextKind};
+use dimacs_records::{Text, TextKind};
 use std::alloc::Global;
 
-/// Why a text of this kind could not be read.
-#[derive(Clone, Copy)]
-pub(crate) struct ReadFailure {
-    pub(crate) kind: TextKind,
-    pub(crate) error: ReadError,
-}
-
 /// Reads one text.
-pub(crate) fn read<V: Text, P: Source>(alloc: Global, source: &mut P) -> Result<V, ReadFailure>
+pub(crate) fn read<V: Text, P: Source>(alloc: Global, source: &mut P) -> Result<V, EarlyEnd>
     ensures reads { (a : List ℕ) → P.coming source.old ≡ Some a → ReadsOne V.content (text_spells V.kind V.spells a) result }
     ensures faults { CountsUnread result (P.faults source.old ∷ []) (P.faults source.new ∷ []) }
     ensures faultless { IfOk result (λ value. ¬ HasFault V.kind (P.coming source.old)) }
@@ -27,10 +21,7 @@ pub(crate) fn read<V: Text, P: Source>(alloc: Global, source: &mut P) -> Result<
 {
     match V::read(alloc, source) {
         Ok(value) => Ok(value),
-        Err(error) => Err(ReadFailure {
-            kind: V::kind(),
-            error,
-        }),
+        Err(error) => Err(EarlyEnd::at_text(V::kind(), error)),
     }
 }
 
@@ -38,7 +29,7 @@ pub(crate) fn read<V: Text, P: Source>(alloc: Global, source: &mut P) -> Result<
 pub(crate) fn read_summary<V: Summary, P: Source>(
     alloc: Global,
     source: &mut P,
-) -> Result<V, ReadFailure>
+) -> Result<V, EarlyEnd>
     ensures reads { (a : List ℕ) → P.coming source.old ≡ Some a
         → PlacesOne (λ value summary. V.sums_up summary value) (text_spells V.kind V.spells a) result }
     ensures enough { IfOk result (λ summary. (value : V.Content) → V.sums_up summary value → V.line summary ≡ V.shown value) }
@@ -47,7 +38,7 @@ pub(crate) fn read_summary<V: Summary, P: Source>(
     let kind = V::kind();
     match V::read(alloc, source) {
         Ok(summary) => Ok(summary),
-        Err(error) => Err(ReadFailure { kind, error }),
+        Err(error) => Err(EarlyEnd::at_text(kind, error)),
     }
 }
 
@@ -56,7 +47,7 @@ pub(crate) fn read_two<V: Text, W: Text, P: Source, Q: Source>(
     alloc: Global,
     first: &mut P,
     second: &mut Q,
-) -> Result<(V, W), ReadFailure>
+) -> Result<(V, W), EarlyEnd>
     ensures reads { (a b : List ℕ) → P.coming first.old ≡ Some a → Q.coming second.old ≡ Some b
         → ReadsTwo V.content W.content (text_spells V.kind V.spells a) (text_spells W.kind W.spells b) result }
     ensures faults { CountsUnread result (P.faults first.old ∷ Q.faults second.old ∷ []) (P.faults first.new ∷ Q.faults second.new ∷ []) }
@@ -74,7 +65,7 @@ pub(crate) fn read_placed<E: Place, W: Text, P: Source, Q: Source>(
     place: E,
     first: &mut P,
     second: &mut Q,
-) -> Result<(Placed<E>, W), ReadFailure>
+) -> Result<(Placed<E>, W), EarlyEnd>
     requires empty { E.stands_for place [] }
     ensures reads { (a b : List ℕ) → P.coming first.old ≡ Some a → Q.coming second.old ≡ Some b
         → ReadsPlaced (λ solution placed. IsPlaced placed.value placed.value_line (E.stands_for placed.place) solution)
@@ -94,7 +85,7 @@ pub(crate) fn place_solution<E: Place, P: Source>(
     alloc: Global,
     place: E,
     source: &mut P,
-) -> Result<Placed<E>, ReadFailure>
+) -> Result<Placed<E>, EarlyEnd>
     requires empty { E.stands_for place [] }
     ensures reads { (a : List ℕ) → P.coming source.old ≡ Some a
         → PlacesOne (λ solution placed. IsPlaced placed.value placed.value_line (E.stands_for placed.place) solution)
@@ -105,9 +96,6 @@ pub(crate) fn place_solution<E: Place, P: Source>(
 {
     match read_solution_into(alloc, place, source) {
         Ok(placed) => Ok(placed),
-        Err(error) => Err(ReadFailure {
-            kind: TextKind::Solution,
-            error,
-        }),
+        Err(error) => Err(EarlyEnd::at_text(TextKind::Solution, error)),
     }
 }

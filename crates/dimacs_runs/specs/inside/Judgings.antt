@@ -4,10 +4,10 @@ use Rattle.dimacs_lines.specs.Lines.{lines}
 use Rattle.dimacs_records.specs.{declared.faults.ReadError.{ReadError}, declared.kinds.TextKind.{TextKind}}
 use Rattle.dimacs_records.specs.{declared.reasons.Reason.{Reason}, Faults.{Fault}, Readings.{LineRecord}}
 use Rattle.dimacs_records.specs.Texts.{Reads, SpellsValue}
-use Rattle.dimacs_runs.specs.{declared.texts_in_turn.ReadFailure.{ReadFailure}, declared.status.Status.{Status}}
+use Rattle.dimacs_runs.specs.{declared.early_end.EarlyEnd.{EarlyEnd}, declared.early_end.EarlyEnd.TheVariants.{Error}}
+use Rattle.dimacs_runs.specs.{declared.status.RunError.TheVariants.{Device}, declared.status.Status.{Status}}
 use Rattle.dimacs_runs.specs.{declared.status.Status.TheVariants.{Refused}, Judgings.{OneMore}, Refusals.{refusal_line}}
-use Rattle.dimacs_runs.specs.Runs.{text_word}
-use Rattle.dimacs_records.specs.declared.faults.ReadError.TheVariants as read_errors
+use Rattle.dimacs_runs.specs.{Runs.{text_word}, inside.Outcomes.{unread_end}}
 
 -- a text: its word in refusals, the value that it spells, and its fault
 pub record TextSpells (V : Type 0) : Type 1 where
@@ -32,36 +32,33 @@ text_spells kind spells bytes = record { name = text_word kind; spells = spells 
 abbrev pub ReadsIn : {V : Type 0} → TextSpells V → Result V ReadError → Type 0
 ReadsIn text answer = Reads text.spells text.fault answer
 
--- reading stopped at this text
-abbrev pub StopsAt : {V : Type 0} → TextSpells V → ReadFailure → Type 0
-StopsAt text unread = (text_word unread.kind ≡ text.name) × ReadsIn text (Err unread.error)
+-- a run ends at this text, which can't be read
+abbrev pub StopsAt : {V : Type 0} → TextSpells V → EarlyEnd → Type 0
+StopsAt text ended = (kind : TextKind) × (error : ReadError) × (text_word kind ≡ text.name) × ReadsIn text (Err error) × (ended ≡ unread_end kind error)
 
-abbrev pub ReadsOne : {T V : Type 0} → (T → V) → TextSpells V → Result T ReadFailure → Type 0
+abbrev pub ReadsOne : {T V : Type 0} → (T → V) → TextSpells V → Result T EarlyEnd → Type 0
 ReadsOne content text (Ok value) = ReadsIn text (Ok (content value))
-ReadsOne content text (Err unread) = StopsAt text unread
+ReadsOne content text (Err ended) = StopsAt text ended
 
 -- the texts are read one after another, up to the first that can't be read
-abbrev pub ReadsTwo : {T U V W : Type 0} → (T → V) → (U → W) → TextSpells V → TextSpells W → Result (T × U) ReadFailure → Type 0
+abbrev pub ReadsTwo : {T U V W : Type 0} → (T → V) → (U → W) → TextSpells V → TextSpells W → Result (T × U) EarlyEnd → Type 0
 ReadsTwo f g x y (Ok values) = ReadsIn x (Ok (f values.0)) × ReadsIn y (Ok (g values.1))
-ReadsTwo f g x y (Err unread) = StopsAt x unread ⊎ ((v : _) × ReadsIn x (Ok v) × StopsAt y unread)
+ReadsTwo f g x y (Err ended) = StopsAt x ended ⊎ ((v : _) × ReadsIn x (Ok v) × StopsAt y ended)
 
 -- the text of a solution is read into a place, whose values stand for the solution
-abbrev pub PlacesOne : {T V : Type 0} → (V → T → Type 0) → TextSpells V → Result T ReadFailure → Type 0
+abbrev pub PlacesOne : {T V : Type 0} → (V → T → Type 0) → TextSpells V → Result T EarlyEnd → Type 0
 PlacesOne stands text (Ok placed) = (v : _) × stands v placed × ReadsIn text (Ok v)
-PlacesOne stands text (Err unread) = StopsAt text unread
+PlacesOne stands text (Err ended) = StopsAt text ended
 
 -- the same, and another text after it
-abbrev pub ReadsPlaced : {T U V W : Type 0} → (V → T → Type 0) → (U → W) → TextSpells V → TextSpells W → Result (T × U) ReadFailure → Type 0
+abbrev pub ReadsPlaced : {T U V W : Type 0} → (V → T → Type 0) → (U → W) → TextSpells V → TextSpells W → Result (T × U) EarlyEnd → Type 0
 ReadsPlaced stands g x y (Ok values) = (v : _) × stands v values.0 × ReadsIn x (Ok v) × ReadsIn y (Ok (g values.1))
-ReadsPlaced stands g x y (Err unread) = StopsAt x unread ⊎ ((v : _) × ReadsIn x (Ok v) × StopsAt y unread)
+ReadsPlaced stands g x y (Err ended) = StopsAt x ended ⊎ ((v : _) × ReadsIn x (Ok v) × StopsAt y ended)
 
-abbrev pub CountsError : ReadError → List ℕ → List ℕ → Type 0
-CountsError read_errors.Device old new = OneMore old new
-CountsError other old new = new ≡ old
-
-abbrev pub CountsUnread : {X : Type 0} → Result X ReadFailure → List ℕ → List ℕ → Type 0
-CountsUnread (Ok x) old new = new ≡ old
-CountsUnread (Err unread) old new = CountsError unread.error old new
+-- a source has one more fault if an I/O error ended the run; otherwise none has
+abbrev pub CountsUnread : {X : Type 0} → Result X EarlyEnd → List ℕ → List ℕ → Type 0
+CountsUnread (Err (Error Device)) old new = OneMore old new
+CountsUnread other old new = new ≡ old
 
 -- the source holds a text of this kind with a fault
 abbrev pub HasFault : TextKind → Option (List ℕ) → Type 0

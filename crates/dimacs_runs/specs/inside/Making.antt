@@ -4,7 +4,7 @@ use Rattle.std.specs.List.{flat_map}
 use Rattle.dimacs_lines.specs.Devices.{Written}
 use Rattle.dimacs_runs.specs.{declared.failure.CommandError.{CommandError}, declared.status.RunError.{RunError}}
 use Rattle.dimacs_runs.specs.{declared.status.Status.{Status}, declared.outcome.Outcome.{Outcome}, Outputs.{ReportsAll}}
-use Rattle.dimacs_runs.specs.{declared.runs_that_make.ClaimJob.{ClaimJob}, inside.Outcomes.{IfEnds, unclaimed_texts}}
+use Rattle.dimacs_runs.specs.{declared.runs_that_make.ClaimJob.{ClaimJob}, inside.Outcomes.{IfEnds, shown_texts}}
 use Rattle.dimacs_runs.specs.declared.runs_that_make.ClaimJob.TheVariants.{Certify, Spread}
 use Rattle.dimacs_runs.specs.Commands.{Contents, MakesCertificate, MakesSpread, Making, RunsOver, Seen, StopsOpening, WritesNothing, accepted_before, accepted_after, failures_named, files_for, made_events, output_faults, reads, text_first}
 use Rattle.dimacs_runs.specs.Files.{FileEvent, FilesSeen, NotCreated, Opened, Read, ReadFile, Sees, WrittenFile, failures}
@@ -22,14 +22,14 @@ made_for (Spread kind) = MakesSpread kind
 
 -- the outcome is written as these texts, with this status
 abbrev pub IsWritten : Outcome → Status → List (List ℕ) → Type 0
-IsWritten p status out = (status ≡ report_status p.report) × (out ≡ unclaimed_texts p)
+IsWritten p status out = (status ≡ report_status p.report) × (out ≡ shown_texts p)
 
 -- the files were opened, read and closed, and the outcome of their texts is possible
 pub record ClosesRead (opened : List (List ℕ)) (holds : Contents) (makes : Making) (events : List FileEvent) (result : Result Outcome CommandError) : Type 0 where
   pub read : List ReadFile
   pub all_read : map (λ (file : ReadFile). file.name) read ≡ opened
   pub happened : events ≡ map Opened opened ++ map Read read
-  pub possible : (texts : List (List ℕ)) → map holds opened ≡ map Some texts → IfEnds unclaimed_texts (makes texts) result
+  pub possible : (texts : List (List ℕ)) → map holds opened ≡ map Some texts → IfEnds shown_texts (makes texts) result
 
 -- the same, or one file could not be opened; the operation that the result names is the only one that failed
 pub record AnswersFiles (opened : List (List ℕ)) (holds : Contents) (makes : Making) (result : Result Outcome CommandError) (old new : FilesSeen) : Type 0 where
@@ -52,14 +52,14 @@ pub record WritesNowhere (p : Outcome) (created : List (List ℕ)) (events : Lis
   pub error : RunError
   pub whole : created ≡ name ∷ []
   pub happened : events ≡ NotCreated name error ∷ []
-  pub text : files_for created (unclaimed_texts p) ≡ created
+  pub text : files_for created (shown_texts p) ≡ created
   pub failed : IsErr result
   pub nothing_written : new.output.accepted ≡ old.output.accepted
 
 -- a file was created, if there is a text for it, written and closed
 pub record WritesText (p : Outcome) (created : List (List ℕ)) (empty : Option (List ℕ)) (events : List FileEvent) (result : Result Status CommandError) (old new : Option (List ℕ)) : Type 0 where
   pub written : List WrittenFile
-  pub all_written : map (λ (file : WrittenFile). file.name) written ≡ files_for created (unclaimed_texts p)
+  pub all_written : map (λ (file : WrittenFile). file.name) written ≡ files_for created (shown_texts p)
   pub happened : events ≡ flat_map made_events written
   pub reports : ReportsAll (IsWritten p) result (text_first (accepted_before (map (λ (file : WrittenFile). file.name) written) empty old))
       (text_first (accepted_after written new))

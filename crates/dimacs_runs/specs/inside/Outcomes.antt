@@ -26,7 +26,7 @@ use Rattle.dimacs_solve.specs.declared.error.SolveError.TheVariants as solve_err
 use Rattle.dimacs_solve.specs.declared.maximum.MaxAnswer.TheVariants as max_answers
 use Rattle.dimacs_solve.specs.declared.least.MinAnswer.TheVariants as min_answers
 use Rattle.dimacs_runs.specs.declared.report.Report.TheVariants as reports
-use Rattle.dimacs_runs.specs.declared.early_end.EarlyEnd.TheVariants as stops
+use Rattle.dimacs_runs.specs.declared.early_end.EarlyEnd.TheVariants as ends
 
 -- the bytes of a text
 abbrev pub text_bytes : OutputText → List ℕ
@@ -36,7 +36,7 @@ text_bytes (Cut cut) = canonical_cut cut
 text_bytes (Potentials potentials) = canonical_potentials potentials
 text_bytes (Labels labels) = canonical_labels labels
 
--- the certificate's text spells it; labels are lawful, so theirs does if they fit a text
+-- the text of what shows the answer spells it; labels are lawful, so theirs does if they fit a text
 abbrev pub IsReadable : OutputText → Type 0
 IsReadable Nothing = Unit {0}
 IsReadable (Solution solution) = Unit {0}
@@ -44,16 +44,16 @@ IsReadable (Cut cut) = SpellsCut (canonical_cut cut) cut
 IsReadable (Potentials potentials) = SpellsPotentials (canonical_potentials potentials) potentials
 IsReadable (Labels labels) = AreLabels labels
 
--- the texts without the claim, and all: the claim, the certificate and the report
-abbrev pub unclaimed_texts : Outcome → List (List ℕ)
-unclaimed_texts o = text_bytes o.certificate ∷ report_lines o.report ∷ []
+-- the text that shows the answer and the report, and all texts, with what a solver made
+abbrev pub shown_texts : Outcome → List (List ℕ)
+shown_texts o = text_bytes o.shown ∷ report_lines o.report ∷ []
 
 abbrev pub outcome_texts : Outcome → List (List ℕ)
-outcome_texts o = text_bytes o.claim ∷ unclaimed_texts o
+outcome_texts o = text_bytes o.made ∷ shown_texts o
 
--- a report with a certificate, and a report alone
+-- a report with what shows it, and a report alone
 abbrev pub with_text : OutputText → Report → Outcome
-with_text certificate report = record { claim = Nothing; certificate = certificate; report = report }
+with_text shown report = record { made = Nothing; shown = shown; report = report }
 
 abbrev pub reporting : Report → Outcome
 reporting report = with_text Nothing report
@@ -79,49 +79,49 @@ EndsWriting (Err error) result old new = (result ≡ Err error) × (new ≡ old)
 
 -- why a run stops: a text of this kind can't be read, or a judge or a solver has an error
 abbrev pub unread_end : TextKind → ReadError → EarlyEnd
-unread_end kind (read_errors.Refused place reason) = stops.Report (reports.Refused kind place reason)
+unread_end kind (read_errors.Refused place reason) = ends.Report (reports.Refused kind place reason)
 unread_end kind read_errors.Device = Error Device
 unread_end kind read_errors.Memory = Error Memory
 
-abbrev pub judge_stop : JudgeError → EarlyEnd
-judge_stop (judge_errors.Refused place reason) = stops.Report (reports.No place reason)
-judge_stop judge_errors.Memory = Error Memory
+abbrev pub judge_end : JudgeError → EarlyEnd
+judge_end (judge_errors.Refused place reason) = ends.Report (reports.No place reason)
+judge_end judge_errors.Memory = Error Memory
 
-abbrev pub solve_stop : SolveError → EarlyEnd
-solve_stop (solve_errors.NegativeWeight arc) = stops.Report (reports.No (Arc arc) reasons.NegativeWeight)
-solve_stop (solve_errors.Refused place reason) = stops.Report (reports.No place reason)
-solve_stop solve_errors.Memory = Error Memory
+abbrev pub solve_end : SolveError → EarlyEnd
+solve_end (solve_errors.NegativeWeight arc) = ends.Report (reports.No (Arc arc) reasons.NegativeWeight)
+solve_end (solve_errors.Refused place reason) = ends.Report (reports.No place reason)
+solve_end solve_errors.Memory = Error Memory
 
 -- a report that ended a run early is its outcome
 abbrev pub outcome_of : Result Outcome EarlyEnd → Result Outcome RunError
 outcome_of (Ok outcome) = Ok outcome
-outcome_of (Err (stops.Report report)) = Ok (reporting report)
+outcome_of (Err (ends.Report report)) = Ok (reporting report)
 outcome_of (Err (Error error)) = Err error
 
 -- the outcomes of a judge's answer, and of the answers of the solvers of flows
 abbrev pub judge_outcome : Result Verdict JudgeError → Result Outcome EarlyEnd
 judge_outcome (Ok verdict) = Ok (reporting (reports.Yes verdict))
-judge_outcome (Err error) = Err (judge_stop error)
+judge_outcome (Err error) = Err (judge_end error)
 
 abbrev pub maximum_outcome : Result MaxAnswer SolveError → Result Outcome EarlyEnd
 maximum_outcome (Ok (max_answers.Optimal solution cut)) =
-    Ok (record { claim = Solution solution; certificate = Cut cut; report = reports.Yes (verdicts.Max solution.value) })
+    Ok (record { made = Solution solution; shown = Cut cut; report = reports.Yes (verdicts.Max solution.value) })
 maximum_outcome (Ok max_answers.GaveUp) = Ok (reporting reports.GaveUp)
-maximum_outcome (Err error) = Err (solve_stop error)
+maximum_outcome (Err error) = Err (solve_end error)
 
 abbrev pub least_outcome : Result MinAnswer SolveError → Result Outcome EarlyEnd
 least_outcome (Ok (min_answers.Optimal solution potentials)) =
-    Ok (record { claim = Solution solution; certificate = Potentials potentials; report = reports.Yes (verdicts.Min solution.value) })
+    Ok (record { made = Solution solution; shown = Potentials potentials; report = reports.Yes (verdicts.Min solution.value) })
 least_outcome (Ok (min_answers.Infeasible set)) = Ok (with_text (Cut set) (reports.Yes verdicts.Infeasible))
 least_outcome (Ok min_answers.GaveUp) = Ok (reporting reports.GaveUp)
-least_outcome (Err error) = Err (solve_stop error)
+least_outcome (Err error) = Err (solve_end error)
 
 -- if there is an outcome, its status is possible together with these texts of it
 abbrev pub IfEnds : {O E : Type 0} → (Outcome → O) → (Status → O → Type 0) → Result Outcome E → Type 0
 IfEnds texts possible (Ok o) = possible (report_status o.report) (texts o)
 IfEnds texts possible (Err error) = Unit {0}
 
--- the report is the only possible one; all texts are possible; those without the claim are
+-- the report is the only possible one; all texts are possible; those without what a solver made are
 abbrev pub MayReport : (Status → List ℕ → Type 0) → Result Outcome RunError → Type 0
 MayReport reports = IfEnds (λ o. report_lines o.report) (ReportsAlone reports)
 
@@ -129,7 +129,7 @@ abbrev pub MaySolve : (Status → List (List ℕ) → Type 0) → Result Outcome
 MaySolve writes = IfEnds outcome_texts (MayWrite writes)
 
 abbrev pub MayCertify : (Status → List (List ℕ) → Type 0) → Result Outcome RunError → Type 0
-MayCertify writes = IfEnds unclaimed_texts (WritesAlike writes)
+MayCertify writes = IfEnds shown_texts (WritesAlike writes)
 
 -- a flow that deals out a claim, or why there is none
 abbrev pub DealsOut : SpreadKind → List ArcView → SolutionValue → Result (List ℤ) JudgeError → Type 0

@@ -13,7 +13,7 @@ returns-in_err-file g c = record { writes = writes_nowhere c.args.outcome (λ is
 pub returns : goal.returns
 returns g c =
     record {
-      writes = writes_text c.args.outcome (g.F.Output.Sink.seen c.write_outcome-ended.new.certificate) c.write_outcome-ended.result c.close_written-failure.result (λ is. let never = c.if-is_nothing.ensures.1 is in absurd cc)
+      writes = writes_text c.args.outcome (g.F.Output.Sink.seen c.write_outcome-ended.new.shown) c.write_outcome-ended.result c.close_written-failure.result (λ is. let never = c.if-is_nothing.ensures.1 is in absurd cc)
           c.in_ok-file.ensures.created (rw c.in_ok-file.ensures.named at c.close_written-failure.ensures.seen) c.name_failure.ensures
           (rw c.in_ok-file.ensures.named at c.close_written-failure.ensures.failure) (rw c.in_ok-file.ensures.empty at c.write_outcome-ended.ensures.ends);
     }

@@ -1,6 +1,6 @@
 use Rattle.std.proofs.Common.{ℕ, ◌∙◌, List, [], ◌∷◌, ap, refl}
 use Rattle.dimacs_runs.specs.{Commands.{Contents}, Files.{Read, ReadFile}, inside.Making.{made_for}}
-use Rattle.dimacs_runs.specs.inside.Outcomes.{IfEnds, unclaimed_texts}
+use Rattle.dimacs_runs.specs.inside.Outcomes.{IfEnds, shown_texts}
 use Rattle.dimacs_runs.proofs.{FileLemmas.{sees_two, two_first}, MakingLemmas.{answers_files, answers_nothing}}
 use Rattle.dimacs_runs.proofs.PlanLemmas.{each_text, sees_nothing}
 use Rattle.dimacs_runs.proofs.runs_that_make.answer_claim.Goals as goal
@@ -24,7 +24,7 @@ returns g c =
           (sees_two c.close_read.ensures.seen c.close_read-2.ensures.seen) c.name_failure.ensures
           (rw c.or-failure.ensures (two_first c.close_read.result c.close_read-2.result (Read instance) (Read claim) c.close_read.ensures.failure c.close_read-2.ensures.failure))
           (rw (c.in_ok-instance.ensures.faultless, c.in_ok-claim.ensures.faultless) at c.make-answer.ensures.faults)
-          (each_text (_ ∷ _ ∷ []) (λ (texts : List (List ℕ)). IfEnds unclaimed_texts (made_for c.args.job texts) _) (λ a first b second.
+          (each_text (_ ∷ _ ∷ []) (λ (texts : List (List ℕ)). IfEnds shown_texts (made_for c.args.job texts) _) (λ a first b second.
           (c.make-answer.ensures.possible a b
           (c.in_ok-instance.ensures.coming ∙ first)
           (c.in_ok-claim.ensures.coming ∙ ap (λ (h : Contents). h c.args.claim.now) c.in_ok-instance.ensures.holds ∙ second))));

@@ -1,6 +1,6 @@
 use Rattle.std.proofs.Common.{ℕ, ◌∙◌, List, [], ◌∷◌, refl}
 use Rattle.dimacs_runs.specs.{Commands.{MakesCertificate}, Files.{Read, ReadFile}}
-use Rattle.dimacs_runs.specs.inside.Outcomes.{IfEnds, outcome_of, unclaimed_texts}
+use Rattle.dimacs_runs.specs.inside.Outcomes.{IfEnds, outcome_of, shown_texts}
 use Rattle.dimacs_runs.proofs.{FileLemmas.{one_first}, MakingLemmas.{answers_files, answers_nothing}}
 use Rattle.dimacs_runs.proofs.PlanLemmas.{each_text, sees_nothing}
 use Rattle.dimacs_runs.specs.declared.jobs.JudgeKind.TheVariants as judges
@@ -20,5 +20,5 @@ returns g c =
           c.in_ok-instance.ensures.opened c.close_read-failure.ensures.seen (rw c.outcome_of-answer.ensures at c.name_failure.ensures)
           (one_first c.close_read-failure.result (Read instance) c.close_read-failure.ensures.failure)
           (rw c.in_ok-instance.ensures.faultless at c.certify_infeasible.ensures.faults)
-          (each_text (_ ∷ []) (λ (texts : List (List ℕ)). IfEnds unclaimed_texts (MakesCertificate judges.Infeasible texts) answer) (λ a first. c.certify_infeasible.ensures.certifies a (c.in_ok-instance.ensures.coming ∙ first)));
+          (each_text (_ ∷ []) (λ (texts : List (List ℕ)). IfEnds shown_texts (MakesCertificate judges.Infeasible texts) answer) (λ a first. c.certify_infeasible.ensures.certifies a (c.in_ok-instance.ensures.coming ∙ first)));
     }

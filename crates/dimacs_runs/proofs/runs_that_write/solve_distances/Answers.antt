@@ -28,7 +28,7 @@ returns g c =
     let ended = c.write_outcome-ended.result in
     let old = g.K.Sink.seen c.args.output.now in
     let new = g.K.Sink.seen c.write_outcome-ended.new.report in
-    let written = g.F.Output.Sink.seen c.write_outcome-ended.new.certificate in
+    let written = g.F.Output.Sink.seen c.write_outcome-ended.new.shown in
     let graph : ReadFile = record { name = c.in_ok-graph.graph.name.now; faults = g.F.Input.Source.faults c.solve_texts-outcome.new.instance } in
     let queries : ReadFile = record { name = c.in_ok-queries.queries.name.now; faults = g.F.Input.Source.faults c.solve_texts-outcome.new.queries } in
     let labels : WrittenFile = record { name = c.in_ok-labels.labels.name.now; seen = written } in

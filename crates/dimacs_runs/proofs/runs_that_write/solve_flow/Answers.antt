@@ -28,8 +28,8 @@ returns g c =
     let ended = c.write_outcome-ended.result in
     let old = g.K.Sink.seen c.args.output.now in
     let new = g.K.Sink.seen c.write_outcome-ended.new.report in
-    let claimed = g.F.Output.Sink.seen c.write_outcome-ended.new.claim in
-    let certified = g.F.Output.Sink.seen c.write_outcome-ended.new.certificate in
+    let claimed = g.F.Output.Sink.seen c.write_outcome-ended.new.made in
+    let certified = g.F.Output.Sink.seen c.write_outcome-ended.new.shown in
     let instance : ReadFile = record { name = c.in_ok-instance.instance.name.now; faults = g.F.Input.Source.faults c.solve_texts-outcome.new.instance } in
     let claim : WrittenFile = record { name = c.in_ok-claim.claim.name.now; seen = claimed } in
     let certificate : WrittenFile = record { name = c.in-Ok.certificate.name.now; seen = certified } in

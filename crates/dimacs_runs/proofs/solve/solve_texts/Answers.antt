@@ -11,10 +11,10 @@ returns-clause-solves g c = λ a b first second.
       | in-Paths w ↦ let queries = subst (λ (k : SolveJob). AreQueries k (g.Q.Source.coming c.args.queries.now) b) w.in-Paths.is second in rw (w.in-Paths.is, w.outcome_of-is) (w.solve_labels.ensures.solves a b first queries)
     ])
 
-pub returns-clause-unclaimed : goal.returns-clause-unclaimed
-returns-clause-unclaimed g c = λ is.
+pub returns-clause-nothing_made : goal.returns-clause-nothing_made
+returns-clause-nothing_made g c = λ is.
     elim c.match-job.branch [
       | in-Max w ↦ let other = w.in-Max.is in absurd cc
       | in-Min w ↦ let other = w.in-Min.is in absurd cc
-      | in-Paths w ↦ rw (c.outcome_of.ensures, w.outcome_of-is) w.solve_labels.ensures.unclaimed
+      | in-Paths w ↦ rw (c.outcome_of.ensures, w.outcome_of-is) w.solve_labels.ensures.nothing_made
     ]

@@ -13,4 +13,4 @@ returns-in-Ok-clause-reads g c = λ a coming.
 pub returns-in-Err-clause-reads : goal.returns-in-Err-clause-reads
 returns-in-Err-clause-reads g c = λ a coming.
     let read = c.in-Err.ensures.reads a coming in
-    (refl, none_placed (λ s placed. IsPlaced placed.value placed.value_line (g.E.Place.stands_for placed.place) s) (text_of kinds.Solution GivesSolution a) read.answer c.in-Err.error read.alike read.reads)
+    (_, _, refl, none_placed (λ s placed. IsPlaced placed.value placed.value_line (g.E.Place.stands_for placed.place) s) (text_of kinds.Solution GivesSolution a) read.answer c.in-Err.error read.alike read.reads, c.at_text.ensures)
