@@ -27,6 +27,8 @@ def works(binary, megabytes):
 
 def measure(asked):
     by_cargo = os.path.abspath(os.environ.get("CARGO_BUILT", f"{os.path.dirname(HERE)}/build/rust/dimacs"))
+    if not os.access(by_cargo, os.X_OK):
+        raise SystemExit(f"{by_cargo} isn't there: make rust")
     head("Built by cargo", "Work", "MB", "proved, ns an arc", "by cargo, ns an arc", "CPU ratio", "Its middle half")
     for megabytes in asked.sizes:
         ratios = []
