@@ -20,9 +20,9 @@ use Rattle.dimacs_lines.specs.{Lines.{lines}, Limits.{most_count}}
 use Rattle.dimacs_instance.proofs.{GraphLemmas.{graph_faultless, one_graph}, MaxTextLemmas.{max_faultless, one_max}}
 use Rattle.dimacs_instance.proofs.MinTextLemmas.{min_faultless, one_min}
 use Rattle.dimacs_fill.specs.{GraphFilled.{ReadsGraphInto}, MaxFilled.{ReadsMaxInto}, inside.Arcs.{arc_in, arcs_in}}
-use Rattle.dimacs_fill.specs.{MinFilled.{ReadsMinInto, supplies_of}, declared.arc_reading.ArcColumns.{ArcColumns}}
+use Rattle.dimacs_fill.specs.MinFilled.{ReadsMinInto, supplies_of}
 use Rattle.dimacs_fill.specs.Filling.{caps_of, costs_of, filled, heads_of, lows_of, tails_of}
-use Rattle.dimacs_fill.specs.inside.Columns.{AreLater, Hold, HoldArcs}
+use Rattle.dimacs_fill.specs.inside.Columns.{ArcColumns, AreLater, Hold, HoldArcs}
 use Rattle.dimacs_fill.proofs.ColumnLemmas.{filled_by}
 use Rattle.dimacs_records.specs.declared.faults.ReadError.TheVariants as read_errors
 

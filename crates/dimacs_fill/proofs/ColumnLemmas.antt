@@ -4,8 +4,7 @@ use Rattle.std.proofs.lemmas.Bool.{cases_lt}
 use Rattle.std.proofs.lemmas.List.{drop-drop, length-append, length-map, length-set, map-append, set_past, take-append-drop, take-append-le, take_all, take_more_set}
 use Rattle.std.specs.{Prelude.{slice_set}, Borrow.{MutBor}}
 use Rattle.dimacs_network.specs.declared.network.ArcView.{ArcView}
-use Rattle.dimacs_fill.specs.{declared.arc_reading.ArcColumns.{ArcColumns}, Filling.{filled}}
-use Rattle.dimacs_fill.specs.inside.Columns.{AreLater, BeginsWith, KeepsFrom}
+use Rattle.dimacs_fill.specs.{Filling.{filled}, inside.Columns.{ArcColumns, AreLater, BeginsWith, KeepsFrom}}
 
 module _ {X : Type 0} where
   --   one more item, if it fits

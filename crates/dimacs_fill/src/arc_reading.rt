@@ -43,37 +43,20 @@ impl<'a, B: Builder> ArcReading<'a, B> {
     }
 }
 
-/// The arrays, and how many arcs came.
-#[derive(Drop)]
-pub(crate) struct ArcColumns<'a> {
-    at: usize,
-    tails: &'a mut [u32],
-    heads: &'a mut [u32],
-    lows: &'a mut [i64],
-    caps: &'a mut [i64],
-    costs: &'a mut [i64],
-}
-
-/// A value, and the arrays that got its arcs.
-#[derive(Drop)]
-pub(crate) struct WithArcs<'a, V> {
-    value: V,
-    columns: ArcColumns<'a>,
-}
-
 // The contracts are those of `Reading`, in dimacs_records/src/reading.rt.
 impl<'a, B: Builder> Reading for ArcReading<'a, B> {
-    type Value = WithArcs<'a, B::Value>;
+    /// What `counted` gives, and the arrays.
+    type Value = (B::Value, ArcReading<'a, B>);
 
     ghost kind = { λ reading. B.kind };
 
     ghost stands_for = { λ reading rs. StandsFor B.built_from reading.counted.now.builder (records_of rs) × HoldArcs (columns reading) (arcs_in (records_of rs)) };
 
-    ghost gives = { λ rs read. B.gives rs read.value × HoldArcs read.columns (arcs_in (records_of rs)) };
+    ghost gives = { λ rs read. B.gives rs read.0 × HoldArcs (columns read.1) (arcs_in (records_of rs)) };
 
     ghost fixed = { λ reading. names reading };
 
-    ghost keeps = { λ reading read. AreLater (columns reading) read.columns };
+    ghost keeps = { λ reading read. AreLater (columns reading) (columns read.1) };
 
     #[inline(always)]
     fn take(&mut self, line: u64, rec: Record) -> Result<(), TakeError> {
@@ -84,17 +67,9 @@ impl<'a, B: Builder> Reading for ArcReading<'a, B> {
         Ok(())
     }
 
-    fn finish(self) -> Result<WithArcs<'a, B::Value>, TakeError> {
+    fn finish(self) -> Result<(B::Value, ArcReading<'a, B>), TakeError> {
         let value = self.counted.end()?;
-        let columns = ArcColumns {
-            at: self.at,
-            tails: self.tails,
-            heads: self.heads,
-            lows: self.lows,
-            caps: self.caps,
-            costs: self.costs,
-        };
-        Ok(WithArcs { value, columns })
+        Ok((value, self))
     }
 }
 

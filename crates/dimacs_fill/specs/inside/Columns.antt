@@ -1,10 +1,18 @@
 -- Inside: the arrays that get the arcs of a text.
-use Rattle.std.specs.{Prelude.{ℕ, ◌≡◌, ◌≤◌, ◌∷◌, [], List, length, take, drop}, Borrow.{MutBor}}
+use Rattle.std.specs.{Prelude.{ℕ, ℤ, ◌≡◌, ◌≤◌, ◌∷◌, [], List, length, take, drop}, Borrow.{MutBor}}
 use Rattle.dimacs_lines.specs.Limits.{most_count}
 use Rattle.dimacs_network.specs.declared.network.ArcView.{ArcView}
-use Rattle.dimacs_fill.specs.declared.arc_reading.ArcColumns.{ArcColumns}
 use Rattle.dimacs_fill.specs.declared.arc_reading.ArcReading.{ArcReading}
 use Rattle.dimacs_fill.specs.Filling.{tails_of, heads_of, lows_of, caps_of, costs_of}
+
+-- the arrays, and how many arcs came
+pub record ArcColumns : Type 0 where
+  pub at : ℕ
+  pub tails : MutBor (List ℕ)
+  pub heads : MutBor (List ℕ)
+  pub lows : MutBor (List ℤ)
+  pub caps : MutBor (List ℤ)
+  pub costs : MutBor (List ℤ)
 
 abbrev pub columns : {R V : Type 0} → ArcReading R V → ArcColumns
 columns reading = record { at = reading.at; tails = reading.tails; heads = reading.heads; lows = reading.lows; caps = reading.caps; costs = reading.costs }

@@ -27,5 +27,5 @@ returns-clause-reads g c = λ text coming.
     let counted : c.counted-2-1.given.0 ≡ c.read_records.new.reading.counted.now = search rules in
     let ended = (rw counted at c.in_ok-graph.ensures.reads) (lines text) (whole_inner Graph (lines text) c.in_ok-count.count _ _ whole) in
     let new = columns c.read_records.new.reading in
-    let later = c.in_ok-count.ensures.kept (record { value = c.in_ok-graph.graph; columns = new }) (later_itself new) in
+    let later = c.in_ok-count.ensures.kept (c.in_ok-graph.graph, c.read_records.new.reading) (later_itself new) in
     graph_into text c.in_ok-count.count _ _ new later _ _ (search rules) (search rules) _ (search rules) c.in_ok-graph.graph whole ended

@@ -8,7 +8,7 @@ returns-in-Some-clause-taken g c = λ rs stands before.
     (rw c.put.ensures.counted (c.in_ok-take.ensures.taken rs stands.0 before), rw (one_arc rs c.args.line c.args.rec c.in-Some.arc (sym c.arc_in.ensures ∙ c.in-Some.is)) (c.put.ensures.hold _ stands.1))
 
 pub returns-in-Some-clause-kept : goal.returns-in-Some-clause-kept
-returns-in-Some-clause-kept g c = λ value later. later_twice (columns c.args.self.now) (columns c.put.new.self) value.columns c.put.ensures.later later
+returns-in-Some-clause-kept g c = λ value later. later_twice (columns c.args.self.now) (columns c.put.new.self) (columns value.1) c.put.ensures.later later
 
 pub returns-in_default-clause-taken : goal.returns-in_default-clause-taken
 returns-in_default-clause-taken g c = λ rs stands before.
