@@ -1,7 +1,6 @@
 -- Walks from a source, arc by arc.
-use Rattle.std.proofs.Common.{below_more, None, get_or, subst, ◌≡◌, ◌≢◌, inl, inr, ℕ, ◌+◌, ◌<◌, ◌≤◌, List, [], ◌∷◌, ◌++◌, length, Contains, Some, slice_get, ℤ, pos, ◌+ℤ◌, ◌≤ℤ◌, refl, sym, ◌∙◌, arith}
+use Rattle.std.proofs.Common.{None, subst, ◌≡◌, inl, inr, ℕ, ◌<◌, ◌≤◌, List, [], ◌∷◌, ◌++◌, length, Contains, Some, ℤ, pos, ◌+ℤ◌, ◌≤ℤ◌, refl, sym, ◌∙◌, arith}
 use Rattle.std.proofs.{lemmas.Bool.{cases_eq}, lemmas.Int.{ints}, lemmas.List.{get_or_default}}
-use Rattle.std.proofs.lemmas.Option.{get_or_from_slice_get}
 use Rattle.std.specs.{FinMap.{FinMap, empty, get, insert}, Ordering.{nat_cmp}}
 use Rattle.dimacs_network.specs.{declared.network.ArcView.{ArcView}, Arcs.{arc_at, no_arc}}
 use Rattle.dimacs_network.proofs.Nodes.{get-empty, get-insert_same, get-insert_other}
@@ -64,16 +63,10 @@ least_from g walks eased (a ∷ walk) u t w at leads = elim (eased a leads.0) [
 abbrev pub AreEased : List ArcView → FinMap nat_cmp Walk → ℕ → Type 0
 AreEased g walks i = (k : ℕ) → k < i → IsEased walks (arc_at g k)
 
-pub eased_more : (g : List ArcView) (walks : FinMap nat_cmp Walk) (i : ℕ) (a : ArcView) → slice_get g i ≡ Some a → IsEased walks a → AreEased g walks i → AreEased g walks (i + 1)
-eased_more g walks i a here eased before = below_more _ _ before (subst (IsEased walks) (sym (get_or_from_slice_get g i a no_arc here)) eased)
-
 pub eased_least : (g : List ArcView) (s : ℕ) (walks : FinMap nat_cmp Walk) (i : ℕ) → length g ≤ i → AreEased g walks i → (w : Walk) × (get walks s ≡ Some w) × (w.weight ≤ℤ pos 0) → AreLeast g s walks
 eased_least g s walks i all eased start t walk leads =
     let rest = least_from g walks (λ a has. subst (IsEased walks) (get_or_default g has.0 no_arc a has.1 ∙ has.2) (eased has.0 (omega (arith, has.1, all)))) walk s t start.0 start.1 leads in
     (rest.0, rest.1, omega (arith, ints, rest.2, start.2))
-
-pub walk_begins : (g : List ArcView) (s : ℕ) → HasWalk g s s (pos 0)
-walk_begins g s = record { walk = []; leads = refl; weighs = refl }
 
 pub walk_step : (g : List ArcView) (s from to : ℕ) (before after : ℤ) → HasWalk g s from before → IsStep g from before to after → HasWalk g s to after
 walk_step g s from to before after has (a, within, tail, head, sum) =
