@@ -1,6 +1,7 @@
 -- Amounts while arcs are raised.
-use Rattle.std.proofs.Common.{◌≡◌, ◌≢◌, inl, inr, ℕ, ◌+◌, ◌<◌, ◌≤◌, List, length, All, ℤ, pos, ◌+ℤ◌, ◌-ℤ◌, ◌≤ℤ◌, ◌<ℤ◌, w64, SFits, refl, sym, subst, ap, ◌∙◌, arith}
+use Rattle.std.proofs.Common.{◌≡◌, ◌≢◌, Some, slice_get, inl, inr, ℕ, ◌+◌, ◌<◌, ◌≤◌, List, length, All, ℤ, pos, ◌+ℤ◌, ◌-ℤ◌, ◌≤ℤ◌, ◌<ℤ◌, w64, SFits, refl, sym, subst, ap, ◌∙◌, arith}
 use Rattle.std.proofs.{lemmas.Int.{ints, by_lt_z}, lemmas.Bool.{cases_eq, cases_lt}, lemmas.List.Elements.{All-get_or}}
+use Rattle.std.proofs.lemmas.Option.{get_or_from_slice_get}
 use Rattle.std.proofs.lemmas.List.{length-set, get_or-set_other, get_or-set_same}
 use Rattle.std.specs.Int.{w128}
 use Rattle.dimacs_claims.specs.declared.place.Entry.{Entry}
@@ -14,19 +15,39 @@ use Rattle.dimacs_solve.specs.inside.Rests.{AddUp, AreLows, AreRests, IsFirstPar
 use Rattle.dimacs_solve.proofs.{EndLemmas.{first_of_parallel, one_first}, RestLemmas.{sums_moved}}
 
 -- ---- sizes
-pub fits_residual : (a : ArcView) (z : ℤ) → HasBounds a → a.low ≤ℤ z → z ≤ℤ a.cap → SFits w64 (a.cap -ℤ z) × (pos 0 ≤ℤ (a.cap -ℤ z)) × SFits w64 z × SFits w64 a.cap
-fits_residual a z has low cap =
-    let whole : IsWhole a.cap = has.2 in
-    (omega (arith, ints, has.0, low, cap, whole.1), omega (arith, ints, cap), omega (arith, ints, has.0, low, cap, whole.1), omega (arith, ints, has.0, low, cap, whole.1))
+-- an amount within the bounds of its arc
+pub record IsAmountOf (a : ArcView) (z : ℤ) : Type 0 where
+  pub bounds : HasBounds a
+  pub low : a.low ≤ℤ z
+  pub fits : SFits w64 z
+  pub cap_fits : SFits w64 a.cap
+  pub residual_fits : SFits w64 (a.cap -ℤ z)
+  pub residual : pos 0 ≤ℤ (a.cap -ℤ z)
 
-pub fits_taken : (rest residual more : ℤ) → SFits w128 rest → IsMore rest residual more → SFits w128 (rest -ℤ more)
-fits_taken rest residual more fits is = elim is.from_rest [
+pub amount_of : {arcs : List ArcView} {x : List ℤ} (k : ℕ) (a : ArcView) → slice_get arcs k ≡ Some a → k < length arcs → All HasBounds arcs → AreWithin arcs x → IsAmountOf a (amount_at x k)
+amount_of {arcs} {x} k a here inside bounds within =
+    let same : arc_at arcs k ≡ a = get_or_from_slice_get arcs k a no_arc here in
+    let has : HasBounds a = rw same at (All-get_or HasBounds arcs k no_arc inside bounds) in
+    let low : a.low ≤ℤ amount_at x k = rw same at (within.low k inside) in
+    let cap : amount_at x k ≤ℤ a.cap = rw same at (within.cap k inside) in
+    let whole : IsWhole a.cap = has.2 in
+    record {
+      bounds = has;
+      low = low;
+      fits = omega (arith, ints, has.0, low, cap, whole.1);
+      cap_fits = omega (arith, ints, has.0, low, cap, whole.1);
+      residual_fits = omega (arith, ints, has.0, low, cap, whole.1);
+      residual = omega (arith, ints, cap);
+    }
+
+pub fits_taken : {rest residual more : ℤ} → SFits w128 rest → IsMore rest residual more → SFits w128 (rest -ℤ more)
+fits_taken fits is = elim is.from_rest [
   | inl none ↦ omega (arith, ints, fits, none)
   | inr some ↦ omega (arith, ints, fits, some, is.not_less)
 ]
 
-pub fits_raised : (a : ArcView) (z rest more : ℤ) → HasBounds a → a.low ≤ℤ z → IsMore rest (a.cap -ℤ z) more → SFits w64 (z +ℤ more)
-fits_raised a z rest more has low is = let whole : IsWhole a.cap = has.2 in omega (arith, ints, has.0, low, whole.1, is.not_less, is.within_residual)
+pub fits_raised : {a : ArcView} {z rest more : ℤ} → IsAmountOf a z → IsMore rest (a.cap -ℤ z) more → SFits w64 (z +ℤ more)
+fits_raised {a} at is = let whole : IsWhole a.cap = at.bounds.2 in omega (arith, ints, at.bounds.0, at.low, whole.1, is.not_less, is.within_residual)
 
 -- ---- lower bounds are within the bounds
 pub lows_within : (arcs : List ArcView) (x : List ℤ) → All HasBounds arcs → AreLows arcs (length arcs) x → AreWithin arcs x

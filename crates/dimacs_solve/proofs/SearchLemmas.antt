@@ -81,15 +81,15 @@ settled_count-same old new zero same = refl
 settled_count-same old new (suc n) same = rw (settled_count-same old new n (λ v low. same v (omega arith)), same (suc n) (omega arith)) refl
 
 -- one more node is settled
-settled_count-more : (old new : ℕ → Known) (node d n : ℕ) → IsNode n node → settled_label (old node) ≡ None → Sets old node (Settled d) new → settled_count new n ≡ settled_count old n + 1
+settled_count-more : {old new : ℕ → Known} {node : ℕ} (d n : ℕ) → IsNode n node → settled_label (old node) ≡ None → Sets old node (Settled d) new → settled_count new n ≡ settled_count old n + 1
 unfolding settled_count
-settled_count-more old new node d zero is off sets = absurd (omega (arith, is.0, is.1))
-settled_count-more old new node d (suc n) is off sets = elim (cases_eq (suc n) node) [
+settled_count-more d zero is off sets = absurd (omega (arith, is.0, is.1))
+settled_count-more {old} {new} {node} d (suc n) is off sets = elim (cases_eq (suc n) node) [
   | inl same ↦
       let before = settled_count-same old new n (λ v low. ap settled_label (sets.there v (λ at. absurd (omega (arith, at, same, low))))) in
       rw (before, same, off, sets.here) (omega arith)
   | inr apart ↦
-      let before = settled_count-more old new node d n (is.0, omega (arith, is.1, apart)) off sets in
+      let before = settled_count-more d n (is.0, omega (arith, is.1, apart)) off sets in
       rw (before, sets.there (suc n) apart) (omega arith)
 ]
 
@@ -102,22 +102,22 @@ settled_count-none node_states (suc n) unknown = rw (settled_count-none node_sta
 pub lowers_none : (node_states : ℕ → Known) → Lowers node_states node_states
 lowers_none node_states = record { settled = λ v. refl; within = λ v d w. w }
 
-lowers_more : (old mid new : ℕ → Known) → Lowers old mid → Lowers mid new → Lowers old new
-lowers_more old mid new l m = record { settled = λ v. m.settled v ∙ l.settled v; within = λ v d w. m.within v d (l.within v d w) }
+lowers_more : {old mid new : ℕ → Known} → Lowers old mid → Lowers mid new → Lowers old new
+lowers_more l m = record { settled = λ v. m.settled v ∙ l.settled v; within = λ v d w. m.within v d (l.within v d w) }
 
-lowers_count : (old new : ℕ → Known) (n : ℕ) → Lowers old new → settled_count new n ≡ settled_count old n
-lowers_count old new n l = settled_count-same old new n (λ v low. l.settled v)
+lowers_count : {old new : ℕ → Known} (n : ℕ) → Lowers old new → settled_count new n ≡ settled_count old n
+lowers_count {old} {new} n l = settled_count-same old new n (λ v low. l.settled v)
 
 -- ---- what stays when marks fall
-walk_stays : (a : Adjacency) (old new : ℕ → Known) → ((v d : ℕ) → settled_label (old v) ≡ Some (pos d) → settled_label (new v) ≡ Some (pos d)) → (o : Walk ℕ) → IsWalk a old o → IsWalk a new o
-walk_stays a old new kept o w = record { base = w.base; weight = w.weight; node = w.node; pred = kept o.pred w.base w.pred; out_arc = w.out_arc; adds = w.adds }
+walk_stays : {a : Adjacency} {old : ℕ → Known} (new : ℕ → Known) → ((v d : ℕ) → settled_label (old v) ≡ Some (pos d) → settled_label (new v) ≡ Some (pos d)) → {o : Walk ℕ} → IsWalk a old o → IsWalk a new o
+walk_stays new kept {o} w = record { base = w.base; weight = w.weight; node = w.node; pred = kept o.pred w.base w.pred; out_arc = w.out_arc; adds = w.adds }
 
-waiting_stays : (a : Adjacency) (floor : ℕ) (old new : ℕ → Known) → Lowers old new → (o : Walk ℕ) → IsQueuedWalk a floor old o → IsQueuedWalk a floor new o
-waiting_stays a floor old new l o w = record {
-  walk = walk_stays a old new (λ v d s. l.settled v ∙ s) o w.walk;
+waiting_stays : (a : Adjacency) (floor : ℕ) {old new : ℕ → Known} → Lowers old new → (o : Walk ℕ) → IsQueuedWalk a floor old o → IsQueuedWalk a floor new o
+waiting_stays a floor {old} {new} l o w = record {
+  walk = walk_stays new (λ v d s. l.settled v ∙ s) w.walk;
   beyond = w.beyond;
   within = l.within o.node o.dist w.within;
-  bound = rw (lowers_count old new a.nodes l) w.bound;
+  bound = rw (lowers_count a.nodes l) w.bound;
 }
 
 -- ---- the marks and the queue after an offer
@@ -127,7 +127,7 @@ record IsOffered (a : Adjacency) (floor : ℕ) (e : Walk ℕ) (node_states : ℕ
   within : IsReachedWithin (node_states' e.node) e.dist
   queue_bounded : length front' ≤ length front + 1
 
-module _ (a : Adjacency) (floor : ℕ) (e : Walk ℕ) (node_states node_states' : ℕ → Known) (front front' : List (Walk ℕ)) (is : IsFront a floor node_states front) (beyond : floor ≤ e.dist) (off : ¬ IsReachedWithin (node_states e.node) e.dist)
+module _ {a : Adjacency} {floor : ℕ} {e : Walk ℕ} {node_states node_states' : ℕ → Known} {front : List (Walk ℕ)} (front' : List (Walk ℕ)) (is : IsFront a floor node_states front) (beyond : floor ≤ e.dist) (off : ¬ IsReachedWithin (node_states e.node) e.dist)
     (sets : Sets node_states e.node (Reached e.dist) node_states') (moved : IsPermutation (e ∷ front) front') (walk : IsWalk a node_states e) (bound : e.dist ≤ a.greatest * settled_count node_states a.nodes) where
   taken_lowers : Lowers node_states node_states'
   taken_lowers = record {
@@ -146,10 +146,10 @@ module _ (a : Adjacency) (floor : ℕ) (e : Walk ℕ) (node_states node_states' 
 
   taken_waits : IsQueuedWalk a floor node_states' e
   taken_waits = record {
-    walk = walk_stays a node_states node_states' (λ v d s. taken_lowers.settled v ∙ s) e walk;
+    walk = walk_stays node_states' (λ v d s. taken_lowers.settled v ∙ s) walk;
     beyond = beyond;
     within = rw sets.here (omega arith);
-    bound = rw (lowers_count node_states node_states' a.nodes taken_lowers) bound;
+    bound = rw (lowers_count a.nodes taken_lowers) bound;
   }
 
   taken_front : IsFront a floor node_states' front'
@@ -157,7 +157,7 @@ module _ (a : Adjacency) (floor : ℕ) (e : Walk ℕ) (node_states node_states' 
     adjacent = is.adjacent;
     waiting = λ o h. elim (has_cases e front front' moved o h) [
       | inl same ↦ rw (← same) taken_waits
-      | inr old ↦ waiting_stays a floor node_states node_states' taken_lowers o (is.waiting o old)
+      | inr old ↦ waiting_stays a floor taken_lowers o (is.waiting o old)
     ];
     agree = λ v. elim (cases_eq v e.node) [
       | inl same ↦ rw (same, sets.here) (e.pred, has_new e front front' moved)
@@ -173,24 +173,24 @@ module _ (a : Adjacency) (floor : ℕ) (e : Walk ℕ) (node_states node_states' 
     queue_bounded = omega (arith, length_permutation (e ∷ front) front' moved);
   }
 
-offered : (a : Adjacency) (floor : ℕ) (e : Walk ℕ) (node_states : ℕ → Known) (front : List (Walk ℕ)) (node_states' : ℕ → Known) (front' : List (Walk ℕ)) → IsFront a floor node_states front → floor ≤ e.dist
+offered : {a : Adjacency} {floor : ℕ} {e : Walk ℕ} {node_states : ℕ → Known} {front : List (Walk ℕ)} (node_states' : ℕ → Known) (front' : List (Walk ℕ)) → IsFront a floor node_states front → floor ≤ e.dist
     → IsWalk a node_states e → e.dist ≤ a.greatest * settled_count node_states a.nodes → Offers e node_states front node_states' front' → IsOffered a floor e node_states front node_states' front'
-offered a floor e node_states front node_states' front' is beyond walk bound o = elim o [
+offered {a} {floor} {e} {node_states} {front} node_states' front' is beyond walk bound o = elim o [
   | inl same ↦ rw (same.1, same.2) record { waits = is; lowers = lowers_none node_states; within = same.0; queue_bounded = omega arith }
-  | inr new ↦ taken_offered a floor e node_states node_states' front front' is beyond new.0 new.1 new.2 walk bound
+  | inr new ↦ taken_offered front' is beyond new.0 new.1 new.2 walk bound
 ]
 
 -- ---- the arcs of a node
-out_lawful : (a : Adjacency) (v : ℕ) → AreByNode a → All (IsOutArc a.nodes a.greatest) (out a v)
+out_lawful : {a : Adjacency} (v : ℕ) → AreByNode a → All (IsOutArc a.nodes a.greatest) (out a v)
 unfolding out
-out_lawful a v is = All-take (IsOutArc a.nodes a.greatest) _ _ (All-drop (IsOutArc a.nodes a.greatest) _ a.out_arcs.items is.lawful)
+out_lawful {a} v is = All-take (IsOutArc a.nodes a.greatest) _ _ (All-drop (IsOutArc a.nodes a.greatest) _ a.out_arcs.items is.lawful)
 
 out_few : (a : Adjacency) (v : ℕ) → length (out a v) ≤ length a.out_arcs.items
 unfolding out
 out_few a v = simp (length-take, length-drop) (omega arith)
 
-pub out_arc_at : (a : Adjacency) (node : ℕ) (out_arcs : List WeightedArc) (i : ℕ) (d : WeightedArc) → AreByNode a → out_arcs ≡ out a node → i < length out_arcs → IsOutArc a.nodes a.greatest (get_or out_arcs i d)
-out_arc_at a node out_arcs i d is from inside = All-get_or (IsOutArc a.nodes a.greatest) out_arcs i d inside (rw from (out_lawful a node is))
+pub out_arc_at : {a : Adjacency} (node : ℕ) {out_arcs : List WeightedArc} (i : ℕ) (d : WeightedArc) → AreByNode a → out_arcs ≡ out a node → i < length out_arcs → IsOutArc a.nodes a.greatest (get_or out_arcs i d)
+out_arc_at {a} node {out_arcs} i d is from inside = All-get_or (IsOutArc a.nodes a.greatest) out_arcs i d inside (rw from (out_lawful node is))
 
 -- ---- one step of relaxing a node
 pub record IsRelaxing (a : Adjacency) (dist : ℕ) (old : ℕ → Known) (walks : List (Walk ℕ)) (out_arcs : List WeightedArc) (i : ℕ) (node_states : ℕ → Known) (front : List (Walk ℕ)) : Type 0 where
@@ -199,16 +199,16 @@ pub record IsRelaxing (a : Adjacency) (dist : ℕ) (old : ℕ → Known) (walks 
   pub relaxed : All (IsArcRelaxed node_states dist) (take i out_arcs)
   pub queue_bounded : length front ≤ length walks + i
 
-pub relaxing_none : (a : Adjacency) (node dist : ℕ) (old : ℕ → Known) (walks : List (Walk ℕ)) (out_arcs : List WeightedArc) → IsReady a node dist old walks → IsRelaxing a dist old walks out_arcs 0 old walks
-relaxing_none a node dist old walks out_arcs ready = record { waits = ready.waits; lowers = lowers_none old; relaxed = All-nil (IsArcRelaxed old dist); queue_bounded = omega arith }
+pub relaxing_none : {a : Adjacency} {node dist : ℕ} {old : ℕ → Known} {walks : List (Walk ℕ)} (out_arcs : List WeightedArc) → IsReady a node dist old walks → IsRelaxing a dist old walks out_arcs 0 old walks
+relaxing_none {dist} {old} out_arcs ready = record { waits = ready.waits; lowers = lowers_none old; relaxed = All-nil (IsArcRelaxed old dist); queue_bounded = omega arith }
 
-pub relaxing_more : (a : Adjacency) (dist node : ℕ) (old : ℕ → Known) (walks : List (Walk ℕ)) (out_arcs : List WeightedArc) (i : ℕ) (d : WeightedArc) (node_states : ℕ → Known) (front : List (Walk ℕ)) (node_states' : ℕ → Known) (front' : List (Walk ℕ))
+pub relaxing_more : {a : Adjacency} {dist node : ℕ} {old : ℕ → Known} {walks : List (Walk ℕ)} {out_arcs : List WeightedArc} {i : ℕ} (d : WeightedArc) {node_states : ℕ → Known} {front : List (Walk ℕ)} (node_states' : ℕ → Known) (front' : List (Walk ℕ))
     → IsReady a node dist old walks → out_arcs ≡ out a node → i < length out_arcs → IsRelaxing a dist old walks out_arcs i node_states front
     → Offers (record { dist = dist + (get_or out_arcs i d).weight; node = (get_or out_arcs i d).head; pred = node }) node_states front node_states' front' → IsRelaxing a dist old walks out_arcs (i + 1) node_states' front'
-relaxing_more a dist node old walks out_arcs i d node_states front node_states' front' ready from inside so_far offers =
+relaxing_more {a} {dist} {node} {old} {out_arcs} {i} d {node_states} {front} node_states' front' ready from inside so_far offers =
     let out_arc = get_or out_arcs i d in
     let e : Walk ℕ = record { dist = dist + out_arc.weight; node = out_arc.head; pred = node } in
-    let lawful : IsOutArc a.nodes a.greatest out_arc = out_arc_at a node out_arcs i d so_far.waits.adjacent from inside in
+    let lawful : IsOutArc a.nodes a.greatest out_arc = out_arc_at node i d so_far.waits.adjacent from inside in
     let walk : IsWalk a node_states e = record {
       base = dist;
       weight = out_arc.weight;
@@ -217,17 +217,17 @@ relaxing_more a dist node old walks out_arcs i d node_states front node_states' 
       out_arc = rw (← from) (Contains-get_or out_arcs i d inside);
       adds = refl;
     } in
-    let short : dist + out_arc.weight ≤ a.greatest * settled_count node_states a.nodes = rw (lowers_count old node_states a.nodes so_far.lowers) (omega (arith, lawful.weight, ready.bound)) in
-    let new = offered a dist e node_states front node_states' front' so_far.waits (omega arith) walk short offers in
+    let short : dist + out_arc.weight ≤ a.greatest * settled_count node_states a.nodes = rw (lowers_count a.nodes so_far.lowers) (omega (arith, lawful.weight, ready.bound)) in
+    let new = offered node_states' front' so_far.waits (omega arith) walk short offers in
     record {
       waits = new.waits;
-      lowers = lowers_more old node_states node_states' so_far.lowers new.lowers;
+      lowers = lowers_more so_far.lowers new.lowers;
       relaxed = All-more (IsArcRelaxed node_states' dist) out_arcs i d inside (All-weaker (IsArcRelaxed node_states dist) (IsArcRelaxed node_states' dist) (λ h p. new.lowers.within h.head (dist + h.weight) p) (take i out_arcs) so_far.relaxed) new.within;
       queue_bounded = omega (arith, new.queue_bounded, so_far.queue_bounded);
     }
 
-pub relaxing_all : (a : Adjacency) (dist node : ℕ) (old : ℕ → Known) (walks : List (Walk ℕ)) (out_arcs : List WeightedArc) (i : ℕ) (node_states : ℕ → Known) (front : List (Walk ℕ)) → out_arcs ≡ out a node → length out_arcs ≡ i → IsRelaxing a dist old walks out_arcs i node_states front → Relaxes a node dist old walks node_states front
-relaxing_all a dist node old walks out_arcs i node_states front from all is = record {
+pub relaxing_all : {a : Adjacency} {dist : ℕ} (node : ℕ) {old : ℕ → Known} {walks : List (Walk ℕ)} {out_arcs : List WeightedArc} {i : ℕ} {node_states : ℕ → Known} {front : List (Walk ℕ)} → out_arcs ≡ out a node → length out_arcs ≡ i → IsRelaxing a dist old walks out_arcs i node_states front → Relaxes a node dist old walks node_states front
+relaxing_all {a} {dist} node {out_arcs} {i} {node_states} from all is = record {
   waits = is.waits;
   lowers = is.lowers;
   relaxed = subst (All (IsArcRelaxed node_states dist)) (take_all i out_arcs (omega (arith, all)) ∙ from) is.relaxed;
@@ -235,8 +235,8 @@ relaxing_all a dist node old walks out_arcs i node_states front from all is = re
 }
 
 -- the distance after one more arc from a settled node stays below the limit
-pub out_arc_within : (a : Adjacency) (node dist limit : ℕ) (node_states : ℕ → Known) (front : List (Walk ℕ)) (out_arc : WeightedArc) → IsReady a node dist node_states front → a.nodes * a.greatest < limit → IsOutArc a.nodes a.greatest out_arc → dist + out_arc.weight < limit
-out_arc_within a node dist limit node_states front out_arc ready bounded lawful =
+pub out_arc_within : {a : Adjacency} {node dist : ℕ} (limit : ℕ) {node_states : ℕ → Known} {front : List (Walk ℕ)} {out_arc : WeightedArc} → IsReady a node dist node_states front → a.nodes * a.greatest < limit → IsOutArc a.nodes a.greatest out_arc → dist + out_arc.weight < limit
+out_arc_within {a} limit {node_states} ready bounded lawful =
     let most : a.greatest * settled_count node_states a.nodes ≤ a.greatest * a.nodes = mul-le-mul_left a.greatest (settled_count-le node_states a.nodes) in
     omega (arith, bounded, ready.bound, lawful.weight, most)
 
@@ -281,7 +281,7 @@ nearest_first_more ls l is low k d h = elim (cases_lt (k + 1) (length ls)) [
 ]
 
 -- ---- the walk that was removed from the queue
-module _ (a : Adjacency) (b : BlockValue) (node_states : ℕ → Known) (e : Walk ℕ) (front : List (Walk ℕ)) (p : IsPopped a b node_states e front) where
+module _ {a : Adjacency} {b : BlockValue} {node_states : ℕ → Known} {e : Walk ℕ} {front : List (Walk ℕ)} (p : IsPopped a b node_states e front) where
   abbrev is : IsPathSearch a b node_states p.before
   is = p.search
 
@@ -292,7 +292,7 @@ module _ (a : Adjacency) (b : BlockValue) (node_states : ℕ → Known) (e : Wal
   popped_waits = is.waits.waiting e (has_new e front p.before moved)
 
   pub popped_lawful : IsOutArc a.nodes a.greatest (out_arc_to e.node popped_waits.walk.weight)
-  popped_lawful = All-contains (IsOutArc a.nodes a.greatest) (out a e.pred) (out_arc_to e.node popped_waits.walk.weight) (out_lawful a e.pred is.waits.adjacent) popped_waits.walk.out_arc
+  popped_lawful = All-contains (IsOutArc a.nodes a.greatest) (out a e.pred) (out_arc_to e.node popped_waits.walk.weight) (out_lawful e.pred is.waits.adjacent) popped_waits.walk.out_arc
 
   popped_pending : (v d : ℕ) → v ≢ e.node → IsPending p.before v d → IsPending front v d
   popped_pending v d other q = elim (has_cases e front p.before moved (record { dist = d; node = v; pred = q.0 }) q.1) [
@@ -341,12 +341,12 @@ module _ (a : Adjacency) (b : BlockValue) (node_states : ℕ → Known) (e : Wal
     pub has_none : label b e.node ≡ None
     has_none = is.labelled e.node ∙ unsettled
 
-    module _ (marked : ℕ → Known) (sets : Sets node_states e.node (Settled e.dist) marked) where
+    module _ {marked : ℕ → Known} (sets : Sets node_states e.node (Settled e.dist) marked) where
       marked_kept : (v d : ℕ) → settled_label (node_states v) ≡ Some (pos d) → settled_label (marked v) ≡ Some (pos d)
       marked_kept v d s = rw (sets.there v (λ same. absurd (let t = rw same at s in cc))) s
 
       marked_count : settled_count marked a.nodes ≡ settled_count node_states a.nodes + 1
-      marked_count = settled_count-more node_states marked e.node e.dist a.nodes popped_lawful.node unsettled sets
+      marked_count = settled_count-more e.dist a.nodes popped_lawful.node unsettled sets
 
       marked_within : (v d : ℕ) → IsReachedWithin (node_states v) d → IsReachedWithin (marked v) d
       marked_within v d w = elim (cases_eq v e.node) [
@@ -358,7 +358,7 @@ module _ (a : Adjacency) (b : BlockValue) (node_states : ℕ → Known) (e : Wal
       marked_waiting o h =
           let w = is.waits.waiting o (has_old e front p.before moved o h) in
           record {
-            walk = walk_stays a node_states marked marked_kept o w.walk;
+            walk = walk_stays marked marked_kept w.walk;
             beyond = All-contains (λ (o : Walk ℕ). e.dist ≤ o.dist) front o p.nearest h;
             within = marked_within o.node o.dist w.within;
             bound = rw marked_count (omega (arith, w.bound));
@@ -382,9 +382,9 @@ module _ (a : Adjacency) (b : BlockValue) (node_states : ℕ → Known) (e : Wal
         waits = marked_front;
       }
 
-      module _ (node_states' : ℕ → Known) (front' : List (Walk ℕ)) (r : Relaxes a e.node e.dist marked front node_states' front') where
+      module _ {node_states' : ℕ → Known} {front' : List (Walk ℕ)} (r : Relaxes a e.node e.dist marked front node_states' front') where
         count_after : settled_count node_states' a.nodes ≡ settled_count node_states a.nodes + 1
-        count_after = lowers_count marked node_states' a.nodes r.lowers ∙ marked_count
+        count_after = lowers_count a.nodes r.lowers ∙ marked_count
 
         pub visited_less : work a node_states' front' ≤ work a node_states front
         visited_less =
@@ -418,7 +418,7 @@ module _ (a : Adjacency) (b : BlockValue) (node_states : ℕ → Known) (e : Wal
           adds = ap pos popped_waits.walk.adds;
         }
 
-        module _ (lawful : IsBlock a.nodes (with_label b added)) (node_states' : ℕ → Known) (front' : List (Walk ℕ)) (r : Relaxes a e.node e.dist marked front node_states' front') where
+        module _ (lawful : IsBlock a.nodes (with_label b added)) {node_states' : ℕ → Known} {front' : List (Walk ℕ)} (r : Relaxes a e.node e.dist marked front node_states' front') where
           labelled_after : (u : ℕ) → label (with_label b added) u ≡ settled_label (node_states' u)
           labelled_after u = elim (cases_eq e.node u) [
             | inl same ↦ rw (← same) (label_new b added has_none adds ∙ sym (r.lowers.settled e.node ∙ ap settled_label sets.here))
@@ -441,7 +441,7 @@ module _ (a : Adjacency) (b : BlockValue) (node_states : ℕ → Known) (e : Wal
             floor = e.dist;
             waits = r.waits;
             labelled = labelled_after;
-            counted = omega (arith, count_after node_states' front' r, is.counted, length-append b.labels (added ∷ []));
+            counted = omega (arith, count_after r, is.counted, length-append b.labels (added ∷ []));
             unbounded = is.unbounded;
             lawful = lawful;
             tight = All-push (HasTightOutArc a (with_label b added)) b.labels added (All-weaker (HasTightOutArc a b) (HasTightOutArc a (with_label b added)) (tight_stays b added has_none adds a) b.labels is.tight) added_tight;
@@ -451,11 +451,11 @@ module _ (a : Adjacency) (b : BlockValue) (node_states : ℕ → Known) (e : Wal
           }
 
 -- ---- the start of a search
-module _ (a : Adjacency) (source : ℕ) (node_states started : ℕ → Known) (is : AreByNode a) (node : IsNode a.nodes source) (unknown : AreUnknown node_states) (sets : Sets node_states source (Settled 0) started) where
+module _ {a : Adjacency} {source : ℕ} {node_states started : ℕ → Known} (is : AreByNode a) (node : IsNode a.nodes source) (unknown : AreUnknown node_states) (sets : Sets node_states source (Settled 0) started) where
   start_count : settled_count started a.nodes ≡ 1
   start_count =
       let zero_before = settled_count-none node_states a.nodes unknown in
-      let more = settled_count-more node_states started source 0 a.nodes node (ap settled_label (unknown source)) sets in
+      let more = settled_count-more 0 a.nodes node (ap settled_label (unknown source)) sets in
       omega (arith, zero_before, more)
 
   start_front : IsFront a 0 started []
@@ -479,7 +479,7 @@ module _ (a : Adjacency) (source : ℕ) (node_states started : ℕ → Known) (i
   abbrev bare : BlockValue
   bare = record { source = source; radius = None; labels = [] }
 
-  module _ (lawful : IsBlock a.nodes bare) (node_states' : ℕ → Known) (front' : List (Walk ℕ)) (r : Relaxes a source 0 started [] node_states' front') where
+  module _ (lawful : IsBlock a.nodes bare) {node_states' : ℕ → Known} {front' : List (Walk ℕ)} (r : Relaxes a source 0 started [] node_states' front') where
     start_labelled : (u : ℕ) → label bare u ≡ settled_label (node_states' u)
     start_labelled u = elim (eqb_tells source u) [
       | inl same ↦ rw (same.0, ← same.1, r.lowers.settled source, sets.here) refl
@@ -491,7 +491,7 @@ module _ (a : Adjacency) (source : ℕ) (node_states started : ℕ → Known) (i
       floor = 0;
       waits = r.waits;
       labelled = start_labelled;
-      counted = omega (arith, lowers_count started node_states' a.nodes r.lowers, start_count);
+      counted = omega (arith, lowers_count a.nodes r.lowers, start_count);
       unbounded = refl;
       lawful = lawful;
       tight = All-nil (HasTightOutArc a bare);
@@ -504,13 +504,13 @@ module _ (a : Adjacency) (source : ℕ) (node_states started : ℕ → Known) (i
     }
 
 -- ---- the end of a search
-module _ (a : Adjacency) (b : BlockValue) (node_states : ℕ → Known) (is : IsPathSearch a b node_states []) where
+module _ {a : Adjacency} {b : BlockValue} {node_states : ℕ → Known} (is : IsPathSearch a b node_states []) where
   over_closed : IsClosed a b
   over_closed u d h = All-weaker (IsArcRelaxed node_states d) (λ out_arc. (e : ℕ) × (label b out_arc.head ≡ Some (pos e)) × (e ≤ d + out_arc.weight))
       (λ out_arc w. rw (is.labelled out_arc.head) (settled_at_end is.floor out_arc.head (d + out_arc.weight) (node_states out_arc.head) (is.waits.agree out_arc.head) w)) (out a u) (is.relaxed u d h)
 
-  pub over_tree : (source : ℕ) → b.source ≡ source → IsPathTree a source b
-  over_tree source from = record {
+  pub over_tree : {source : ℕ} → b.source ≡ source → IsPathTree a source b
+  over_tree from = record {
     from = from;
     unbounded = is.unbounded;
     lawful = is.lawful;

@@ -10,7 +10,7 @@ relax-requires-clause-ready g c =
     let node_states = known value c.next_round.new.self in
     let started = known value c.settle.new.self in
     let sets : Sets node_states c.args.source (Settled 0) started = rw c.zero.ensures at c.in_ok-settle.ensures.settled in
-    rw (c.zero-2.ensures, c.requires.empty) (start_ready c.args.adjacency.now c.args.source node_states started c.requires.adjacent c.requires.source c.next_round.ensures.unknown sets)
+    rw (c.zero-2.ensures, c.requires.empty) (start_ready c.requires.adjacent c.requires.source c.next_round.ensures.unknown sets)
 
 pub loop-walk-init : goal.loop-walk-init
 loop-walk-init g c =
@@ -25,7 +25,7 @@ loop-walk-init g c =
     let lawful : IsBlock a.nodes (record { source = source; radius = None; labels = [] }) = rw made at (c.new-block.ensures.lawful a.nodes c.requires.source) in
     let relaxes : Relaxes a source 0 started [] node_states' c.relax.new.frontier = rw (c.zero-2.ensures, c.requires.empty) at c.in_ok-relax.ensures.relaxes in
     record {
-      search = rw made (start_search a source node_states started c.requires.adjacent c.requires.source c.next_round.ensures.unknown sets lawful node_states' c.relax.new.frontier relaxes);
+      search = rw made (start_search c.requires.adjacent c.requires.source c.next_round.ensures.unknown sets lawful relaxes);
       from = ap (λ (b : BlockValue). b.source) made;
       round = c.in_ok-relax.ensures.round ∙ (c.in_ok-settle.ensures.round ∙ c.next_round.ensures.round);
     }
@@ -39,12 +39,11 @@ loop-walk-preserved g c = record {
 
 pub loop-walk-smaller : goal.loop-walk-smaller
 loop-walk-smaller g c =
-    let popped = c.in-Some.ensures in
-    let shorter = length_permutation _ _ (IsPermutation-sym _ _ popped.0) in
+    let shorter = length_permutation _ _ (IsPermutation-sym _ _ c.in-Some.ensures.0) in
     omega (arith, shorter, c.in_ok-visit.ensures.less)
 
 pub returns-clause-tree : goal.returns-clause-tree
 returns-clause-tree g c =
     let node_states = known g.D.SearchDistance.value c.loop-walk.node_states in
     let is : IsPathSearch c.args.adjacency.now c.loop-walk.block node_states [] = rw c.in_default.ensures.0 at c.loop-walk.invariant.search in
-    over_tree c.args.adjacency.now c.loop-walk.block node_states is c.args.source c.loop-walk.invariant.from
+    over_tree is c.loop-walk.invariant.from
