@@ -72,7 +72,7 @@ push Head arcs rank x y t k amount p h falls some residual_capacity =
     }
 
 -- ---- one step back on the path
-module _ (arcs : List ArcView) (x y : List ℤ) (visits : ℕ → Visit) (t at : ℕ) (amount : ℤ)
+module _ {arcs : List ArcView} {x y : List ℤ} {visits : ℕ → Visit} {t at : ℕ} {amount : ℤ}
     (now : IsRaising arcs x y visits t at amount) (by : IsReachedBy arcs x visits at) where
   abbrev k : ℕ
   k = parent_arc_of visits at
@@ -93,7 +93,7 @@ module _ (arcs : List ArcView) (x y : List ℤ) (visits : ℕ → Visit) (t at :
   }
 
   --   the arc, and the side that was found for it
-  module _ (a : ArcView) (is : arc_at arcs k ≡ a) (side : Side) (outcome : (s : Side) → other_end s a ≡ at → end_of s a ≢ at → side ≡ s) where
+  module _ {a : ArcView} (is : arc_at arcs k ≡ a) {side : Side} (outcome : (s : Side) → other_end s a ≡ at → end_of s a ≢ at → side ≡ s) where
     side_is : side ≡ by.side
     side_is = outcome by.side (subst (λ (b : ArcView). other_end by.side b ≡ at) is by.to) (λ e. apart (subst (λ (b : ArcView). end_of by.side b ≡ at) (sym is) e))
 

@@ -27,7 +27,7 @@ cases_zero (suc n) = inr (omega arith)
 pub some_place : (n : ℕ) → n ≢ 0 → 0 < n
 some_place n ne = elim (cases_zero n) [ inl none ↦ absurd (ne none) | inr some ↦ some ]
 
-module _ (nodes : ℕ) (arcs : List ArcView) (x : List ℤ) (labels : ℕ → HeightLabel) (joined : All (JoinsNodes nodes) arcs) (bounds : All HasBounds arcs) (now : AreHeights arcs x labels) where
+module _ (nodes : ℕ) {arcs : List ArcView} {x : List ℤ} {labels : ℕ → HeightLabel} (joined : All (JoinsNodes nodes) arcs) (bounds : All HasBounds arcs) (now : AreHeights arcs x labels) where
   pub step_down : (v : ℕ) → height_of labels v ≤ℤ (height_of labels (below_of arcs (labels v)) +ℤ pos 9223372036854775808)
   step_down v = elim (cases_zero (labels v).arc_number) [
     | inl none ↦ let b = below_none arcs (labels v) none in rw b (omega (arith, ints, (now.low v none).0))
@@ -75,9 +75,9 @@ trace_none nodes labels places one others low =
     }
 
 -- ---- one path down
-pub follow_begin : (nodes : ℕ) (arcs : List ArcView) (labels : ℕ → HeightLabel) (start : ℕ) (path : List ℕ) (places : ℕ → ℕ) → start ≤ nodes → IsTrace nodes labels path places
+pub follow_begin : {nodes : ℕ} (arcs : List ArcView) {labels : ℕ → HeightLabel} (start : ℕ) {path : List ℕ} {places : ℕ → ℕ} → start ≤ nodes → IsTrace nodes labels path places
     → IsFollowing nodes arcs labels start (length path) path places start
-follow_begin nodes arcs labels start path places inside is = record {
+follow_begin arcs start inside is = record {
   first = is.first;
   some = omega (arith, (is.found 0 (omega (arith, is.first))).0, is.first);
   begun = omega arith;
@@ -92,8 +92,8 @@ follow_begin nodes arcs labels start path places inside is = record {
   started = inl refl;
 }
 
-module _ (nodes : ℕ) (arcs : List ArcView) (x : List ℤ) (labels : ℕ → HeightLabel) (joined : All (JoinsNodes nodes) arcs) (bounds : All HasBounds arcs) (now : AreHeights arcs x labels)
-    (start begin : ℕ) (path : List ℕ) (places : ℕ → ℕ) (at : ℕ) (is : IsFollowing nodes arcs labels start begin path places at) where
+module _ {nodes : ℕ} {arcs : List ArcView} {x : List ℤ} {labels : ℕ → HeightLabel} (joined : All (JoinsNodes nodes) arcs) (bounds : All HasBounds arcs) (now : AreHeights arcs x labels)
+    {start begin : ℕ} {path : List ℕ} {places : ℕ → ℕ} {at : ℕ} (is : IsFollowing nodes arcs labels start begin path places at) where
   abbrev longer : List ℕ
   longer = path ++ at ∷ []
 
@@ -127,7 +127,7 @@ module _ (nodes : ℕ) (arcs : List ArcView) (x : List ℤ) (labels : ℕ → He
 
     pub follow_more : IsFollowing nodes arcs labels start begin longer after next
     follow_more =
-        let down = step_down nodes arcs x labels joined bounds now at in
+        let down = step_down nodes joined bounds now at in
         record {
           first = others 0 (not_at 0 (omega (arith, is.first))) ∙ is.first;
           some = is.some;
@@ -159,7 +159,7 @@ module _ (nodes : ℕ) (arcs : List ArcView) (x : List ℤ) (labels : ℕ → He
           ];
           steps = λ j behind less. steps_to j behind (omega (arith, less, length_is));
           link = λ j behind same. let e : j ≡ length path = omega (arith, same, length_is) in rw (e, last_is) refl;
-          inside = below_inside nodes arcs x labels joined bounds now at;
+          inside = below_inside nodes joined bounds now at;
           started = inr (elim is.started [ inl same ↦ subst (λ u. 0 < after u) same (omega (arith, here)) | inr seen ↦ follow_keeps start seen ]);
         }
 
@@ -220,9 +220,9 @@ module _ (nodes : ℕ) (arcs : List ArcView) (x : List ℤ) (labels : ℕ → He
   follow_back more = let e : length longer - 1 ≡ length path = omega (arith, length_is) in rw e (back more)
 
 -- ---- all paths down
-pub all_low : (nodes : ℕ) (arcs : List ArcView) (x : List ℤ) (labels : ℕ → HeightLabel) (path : List ℕ) (places : ℕ → ℕ) → AreHeights arcs x labels → IsTrace nodes labels path places
+pub all_low : {nodes : ℕ} {arcs : List ArcView} {x : List ℤ} {labels : ℕ → HeightLabel} {path : List ℕ} {places : ℕ → ℕ} → AreHeights arcs x labels → IsTrace nodes labels path places
     → ((k : ℕ) → k < length arcs → (0 < places (arc_at arcs k).tail) × (0 < places (arc_at arcs k).head)) → BelowBound (nodes + 1) labels
-all_low nodes arcs x labels path places now is seen v = elim (cases_zero (labels v).arc_number) [
+all_low {arcs} {labels} {places} now is seen v = elim (cases_zero (labels v).arc_number) [
   | inl none ↦ omega (arith, ints, (now.low v none).1)
   | inr some ↦
       let r = now.raised v some in

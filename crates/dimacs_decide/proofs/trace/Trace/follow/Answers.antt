@@ -1,4 +1,4 @@
-use Rattle.std.proofs.Common.{◌≡◌, ◌+◌, ◌<◌, ◌≤◌, ◌∙◌, ap, sym, subst, arith, length, ◌++◌, ◌∷◌, []}
+use Rattle.std.proofs.Common.{◌≡◌, ◌+◌, ◌∙◌, ap, sym, subst, arith, length, ◌++◌, ◌∷◌, []}
 use Rattle.std.proofs.lemmas.List.{length-append}
 use Rattle.dimacs_network.specs.Tables.{value_of}
 use Rattle.dimacs_decide.specs.{inside.Heights.{below_of}, inside.Traces.{IsFollowing}}
@@ -10,7 +10,7 @@ pub loop-self-init : goal.loop-self-init
 loop-self-init g c =
     let path = c.args.self.now.path.items in
     let places = value_of c.args.self.now.places in
-    let begun = follow_begin (g.N.Network.node_count c.args.network.now) (g.N.Network.list c.args.network.now) (value_of c.args.labels.now) c.args.start path places c.requires.start c.requires.trace in
+    let begun = follow_begin (g.N.Network.list c.args.network.now) c.args.start c.requires.start c.requires.trace in
     record {
       following = subst (λ b. IsFollowing (g.N.Network.node_count c.args.network.now) (g.N.Network.list c.args.network.now) (value_of c.args.labels.now) c.args.start b path places c.args.start) (sym (c.len-begin.ensures ∙ c.args.self.now.path.ok.0)) begun;
       keeps = λ v some. some;
@@ -30,39 +30,25 @@ loop-self-smaller g c =
 
 pub loop-self-preserved : goal.loop-self-preserved
 loop-self-preserved g c =
-    let nodes = g.N.Network.node_count c.args.network.now in
-    let arcs = g.N.Network.list c.args.network.now in
-    let labels = value_of c.args.labels.now in
     let path = c.loop-self.self.path.items in
-    let places = value_of c.loop-self.self.places in
     let after = value_of c.set.new.self in
     let at = c.loop-self.at in
     let is = c.loop-self.invariant.following in
-    let none : places at ≡ 0 = sym c.get.ensures.value ∙ c.loop-self-test.true in
+    let none : value_of c.loop-self.self.places at ≡ 0 = sym c.get.ensures.value ∙ c.loop-self-test.true in
     let longer : c.push.new.self.items ≡ path ++ at ∷ [] = c.in_ok-push.ensures.items in
     let here : after at ≡ length path + 1 = c.in_ok-set.ensures.set ∙ c.len.ensures ∙ c.push.new.self.ok.0 ∙ ap length longer ∙ length-append path (at ∷ []) in
-    let next : c.below-at.result ≡ below_of arcs (labels at) = c.below-at.ensures ∙ ap (below_of arcs) c.get-in-loop-self.ensures.value in
-    let more = follow_more nodes arcs c.requires.heights.0 labels c.requires.joined c.requires.bounds c.requires.heights.1 c.args.start c.len-begin.result path places at is none after here c.in_ok-set.ensures.others in
+    let below = below_of (g.N.Network.list c.args.network.now) in
+    let next : c.below-at.result ≡ below (value_of c.args.labels.now at) = c.below-at.ensures ∙ ap below c.get-in-loop-self.ensures.value in
     record {
-      following = rw (longer, next) more;
-      keeps = λ v some. follow_keeps nodes arcs c.requires.heights.0 labels c.requires.joined c.requires.bounds c.requires.heights.1 c.args.start c.len-begin.result path places at is none after here c.in_ok-set.ensures.others v (c.loop-self.invariant.keeps v some);
+      following = rw (longer, next) (follow_more c.requires.joined c.requires.bounds c.requires.heights.1 is none after here c.in_ok-set.ensures.others);
+      keeps = λ v some. follow_keeps c.requires.joined c.requires.bounds c.requires.heights.1 is none after here c.in_ok-set.ensures.others v (c.loop-self.invariant.keeps v some);
     }
 
 pub returns-then-place-begin-clause-followed : goal.returns-then-place-begin-clause-followed
 returns-then-place-begin-clause-followed g c =
-    let nodes = g.N.Network.node_count c.args.network.now in
-    let arcs = g.N.Network.list c.args.network.now in
-    let places = value_of c.loop-self.self.places in
-    let at = c.loop-self.at in
-    let seen : 0 < places at = some_place (places at) (λ e. c.loop-self-test.false (c.get.ensures.value ∙ e)) in
-    let within : places at ≤ c.len-begin.result = rw c.get-place.ensures.value at c.if-place-begin.true in
-    follow_over nodes arcs c.requires.heights.0 (value_of c.args.labels.now) c.requires.joined c.requires.bounds c.requires.heights.1 c.args.start c.len-begin.result c.loop-self.self.path.items places at c.loop-self.invariant.following seen within
+    let seen = some_place (value_of c.loop-self.self.places c.loop-self.at) (λ e. c.loop-self-test.false (c.get.ensures.value ∙ e)) in
+    follow_over c.requires.joined c.requires.bounds c.requires.heights.1 c.loop-self.invariant.following seen (rw c.get-place.ensures.value at c.if-place-begin.true)
 
 pub returns-clause-followed : goal.returns-clause-followed
 returns-clause-followed g c =
-    let nodes = g.N.Network.node_count c.args.network.now in
-    let arcs = g.N.Network.list c.args.network.now in
-    let places = value_of c.loop-self.self.places in
-    let at = c.loop-self.at in
-    let more : c.len-begin.result < places at = rw c.get-place.ensures.value at c.if-place-begin.false in
-    rw (c.in_ok-push-2.ensures.items, c.get-place.ensures.value) (follow_back nodes arcs c.requires.heights.0 (value_of c.args.labels.now) c.requires.joined c.requires.bounds c.requires.heights.1 c.args.start c.len-begin.result c.loop-self.self.path.items places at c.loop-self.invariant.following more)
+    rw (c.in_ok-push-2.ensures.items, c.get-place.ensures.value) (follow_back c.requires.joined c.requires.bounds c.requires.heights.1 c.loop-self.invariant.following (rw c.get-place.ensures.value at c.if-place-begin.false))
