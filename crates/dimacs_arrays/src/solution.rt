@@ -125,7 +125,7 @@ fn claimed_flow<N: Network>(
     alloc: Global,
     placed: &Placed<FlowPlaces<'_, N>>,
 ) -> Result<ClaimedFlow, JudgeError>
-    ensures { ClaimsFlow placed.now.place placed.now.value placed.now.value_line result }
+    ensures { ClaimsFlow placed.now result }
 {
     let flow = placed.place.flow()?.copy(alloc)?;
     match whole(placed.value) {
