@@ -1,9 +1,25 @@
 -- Facts about flows.
-use Rattle.std.specs.Prelude.{List, ℤ, neg_ℤ}
-use Rattle.dimacs_claims.specs.Potentials.{PotentialsValue, potential_of}
-use Rattle.dimacs_instance.specs.MinFlows.{MinValue}
-use Rattle.dimacs_judging.specs.{Optimum.{Least}, Potentials.{Slack}}
+use Rattle.std.specs.Prelude.{ℕ, ◌≡◌, ◌≢◌, ◌<◌, List, length, ℤ, pos, neg_ℤ, ◌≤ℤ◌}
+use Rattle.dimacs_claims.specs.{Potentials.{PotentialsValue, potential_of}, SolutionTexts.{SolutionValue}}
+use Rattle.dimacs_network.specs.Arcs.{arc_at}
+use Rattle.dimacs_instance.specs.{MaxFlows.{MaxValue}, MinFlows.{MinValue}}
+use Rattle.dimacs_judging.specs.{Feasible.{FeasibleMax, FeasibleMin, value}, Flows.{cost}, Claims.{Carries}}
+use Rattle.dimacs_judging.specs.{Optimum.{Least}, Potentials.{Slack, reduced_cost}, Rows.{amount_at}}
 
 -- with the opposite sign of each potential they are slack for the flow, and it costs least
 abbrev pub OppositeShows : MinValue → List ℤ → PotentialsValue → Type 0
 OppositeShows i x p = Slack i.arcs x (λ v. neg_ℤ (potential_of p v)) × Least i x
+
+-- the flow is feasible, and has this value
+abbrev pub HasValue : MaxValue → List ℤ → ℤ → Type 0
+HasValue i x v = FeasibleMax i x × (v ≡ value i x)
+
+-- the flow is feasible, and costs this
+abbrev pub HasCost : MinValue → List ℤ → ℤ → Type 0
+HasCost i x c = FeasibleMin i x × (c ≡ cost i.arcs x)
+
+-- a feasible flow that costs as little as the claimed one carries the same on each arc whose reduced cost isn't 0
+abbrev pub SameButTight : MinValue → SolutionValue → PotentialsValue → Type 0
+SameButTight i s p =
+    (x : List ℤ) × Carries i.arcs s.entries x × ((y : List ℤ) → FeasibleMin i y → cost i.arcs y ≤ℤ cost i.arcs x
+    → (k : ℕ) → k < length i.arcs → reduced_cost (potential_of p) (arc_at i.arcs k) ≢ pos 0 → amount_at x k ≡ amount_at y k)

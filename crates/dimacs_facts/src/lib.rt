@@ -3,6 +3,7 @@
 #![tactic(auto)]
 
 mod cycle;
+mod feasible;
 mod laws;
 mod least;
 mod no_flow;
@@ -11,14 +12,17 @@ mod search;
 mod steps;
 mod sums;
 mod too_near;
+mod unreached;
 mod walks;
 
 pub use cycle::is_negative_cycle;
-pub use laws::negative_cycle_has_no_distance;
+pub use feasible::{excess, feasible_cost, feasible_value};
+pub use laws::{negative_cycle_has_no_distance, same_but_tight};
 pub use no_flow::{all_nodes, one_node, shows_no_flow};
 pub use opposite::opposite_shows;
 pub use search::walks_from;
 pub use steps::Steps;
 pub use sums::{cost_of, flow_value};
 pub use too_near::{TooNear, first_too_near};
+pub use unreached::{Unreached, unreached_from};
 pub use walks::{Walk, Walks};
