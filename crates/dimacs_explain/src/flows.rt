@@ -7,7 +7,7 @@ use crate::sums::{bound, number_of};
 use dimacs_facts::{all_nodes, one_node, shows_no_flow};
 use dimacs_judging::{bounds_across, supply_in};
 use dimacs_network::{ArcView, CapacityArc, Network, WeightArc};
-use dimacs_quote::Value::{Arc, Cap, Node, Operand};
+use dimacs_quote::Value::{Arc, Cap, Node, Operand, Typed};
 use dimacs_quote::{
     OrStop, Reopen, Said, TextFile, Wanted, ending, entry_between, is_file, range_of, say,
 };
@@ -232,14 +232,14 @@ impl<'a, A: Reopen> Explanation<'a, A> {
     /// Writes a command about a claim; if its texts are in no files, what it does.
     fn write_command(&mut self, verb: &str, last: &str) -> Said<'a> {
         let instance = self.page.texts.instance()?;
-        let name = instance.typed();
+        let name = Typed(instance);
         match (instance.kind, self.page.texts.claim()) {
             _ if !is_file(instance.file) => say!(self; "{} it\n", verb),
             (TextKind::Graph, Ok(queries)) => self.write_paths(instance, queries)?,
             (TextKind::Min, Ok(claim)) =>
-                say!(self; "run dimacs {}-min {} {}{}\n", verb, name, claim.typed(), last),
+                say!(self; "run dimacs {}-min {} {}{}\n", verb, name, Typed(claim), last),
             (_, Ok(claim)) =>
-                say!(self; "run dimacs {}-max {} {}{}\n", verb, name, claim.typed(), last),
+                say!(self; "run dimacs {}-max {} {}{}\n", verb, name, Typed(claim), last),
             _ => say!(self; "run dimacs certify-infeasible {}\n", name),
         }
         Ok(())
@@ -253,11 +253,11 @@ impl<'a, A: Reopen> Explanation<'a, A> {
             file,
         };
         if self.page.has(distances, Wanted::Problem) {
-            say!(self; "run dimacs certify-paths {} {}\n", graph.typed(), distances.typed());
+            say!(self; "run dimacs certify-paths {} {}\n", Typed(graph), Typed(distances));
         } else if self.page.has(graph, Wanted::NegativeWeight) {
-            say!(self; "write `p distances` for `p dist`, drop PRED and RADIUS, and run dimacs certify-paths {} DISTANCES\n", graph.typed());
+            say!(self; "write `p distances` for `p dist`, drop PRED and RADIUS, and run dimacs certify-paths {} DISTANCES\n", Typed(graph));
         } else {
-            say!(self; "run dimacs solve-paths {} {} LABELS\n", graph.typed(), queries.typed());
+            say!(self; "run dimacs solve-paths {} {} LABELS\n", Typed(graph), Typed(queries));
         }
         Ok(())
     }
@@ -293,7 +293,7 @@ impl<'a, A: Reopen> Explanation<'a, A> {
             why = "to find out whether any flow is feasible";
         }
         if is_file(instance.file) && self.page.has(instance, Wanted::NotMetBy0) {
-            say!(self; "{}, run dimacs certify-infeasible {}\n", why, instance.typed());
+            say!(self; "{}, run dimacs certify-infeasible {}\n", why, Typed(instance));
         }
         Ok(())
     }

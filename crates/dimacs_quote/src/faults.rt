@@ -6,7 +6,7 @@ use crate::lookups::{Wanted, declared};
 use crate::numbers::{is_no_distance, meant_number};
 use crate::page::{Page, Reopen};
 use crate::say;
-use crate::sentence::Value::{Node, Word};
+use crate::sentence::Value::{Node, Typed, Word};
 use crate::sentence::ending;
 use crate::stop::{OrStop, Said, Stop};
 use crate::texts::{TextFile, is_file};
@@ -65,7 +65,7 @@ impl<'a, A: Reopen> Page<'a, A> {
             say!(self; "distances have no PRED and no RADIUS; to judge labels, run dimacs judge-paths GRAPH QUERY LABELS\n");
         }
         if let Some(file) = self.exchanged(text, fault.found) {
-            say!(self; "the files {} and {} are exchanged\n", text.typed(), file.typed());
+            say!(self; "the files {} and {} are exchanged\n", Typed(text), Typed(file));
             return true;
         }
         let is_instance = self.texts.instance().is_ok_and(|it| is_file(it.file));
@@ -186,7 +186,7 @@ impl<'a, A: Reopen> Page<'a, A> {
             }
             let file = instance
                 .filter(|text| is_file(text.file))
-                .map_or(Word("INSTANCE"), TextFile::typed);
+                .map_or(Word("INSTANCE"), Typed);
             say!(self; "a solution is a flow; to find out whether none is feasible, run dimacs certify-infeasible {}\n", file);
         } else if name == "DIST" && is_no_distance(word) {
             say!(self; "a node that no walk reaches has no line: leave it out\n");

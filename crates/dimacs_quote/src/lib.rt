@@ -1,5 +1,5 @@
-//! Quotes lines of texts, and explains what is wrong with a text by itself, for `dimacs_explain`. Nothing is proved about
-//! what is written.
+//! Quotes lines of texts, and explains what is wrong with a text by itself, for `dimacs_explain`. What is written isn't
+//! proved, but for the words of files in commands.
 #![tactic(auto)]
 
 mod escape;

@@ -9,6 +9,7 @@ pub(crate) const MARKS: [char; 3] = ['\u{1}', '\u{2}', '\u{3}'];
 /// A text that is written piece by piece. If memory runs out, it is lost.
 #[derive(Drop)]
 pub struct Prose {
+    pub(crate) alloc: Global,
     pub(crate) text: String,
     /// Memory ran out.
     pub is_lost: bool,
@@ -18,7 +19,11 @@ impl Prose {
     /// An empty text.
     pub fn new(alloc: Global) -> Prose {
         let (text, is_lost) = (String::new(alloc), false);
-        Prose { text, is_lost }
+        Prose {
+            alloc,
+            text,
+            is_lost,
+        }
     }
 
     /// Adds a text.

@@ -2,7 +2,7 @@
 
 use crate::escape::write_name;
 use crate::prose::{MARKS, Prose};
-use crate::shell_word::{can_be_typed, write_word};
+use crate::shell_word::shell_word;
 use crate::texts::TextFile;
 
 /// Writes a sentence to a page or other text, with the next value for each `{}`.
@@ -20,8 +20,8 @@ pub enum Value<'a> {
     Word(&'a str),
     /// The name of a file.
     File(&'a str),
-    /// The same, as it is typed in a command.
-    Typed(&'a str),
+    /// The file of a text as it is typed in a command; if it can't be, a word for it.
+    Typed(TextFile<'a>),
     /// The number of an arc.
     Arc(u32),
     /// The ID of a node.
@@ -45,16 +45,6 @@ impl<'a> From<&'a str> for Value<'a> {
 impl<'a> From<TextFile<'a>> for Value<'a> {
     fn from(text: TextFile<'a>) -> Value<'a> {
         Value::File(text.file)
-    }
-}
-
-impl<'a> TextFile<'a> {
-    /// Its file as it is typed in a command; if that can't be, a word for it.
-    pub fn typed(self) -> Value<'a> {
-        match can_be_typed(self.file) {
-            true => Value::Typed(self.file),
-            false => Value::Word(self.word()),
-        }
     }
 }
 
@@ -93,7 +83,7 @@ impl Prose {
         let written = match value {
             Value::Word(word) => out.push_str(word),
             Value::File(name) => return write_name(self, name.trim_start_matches('\0')),
-            Value::Typed(name) => return write_word(self, name.trim_start_matches('\0')),
+            Value::Typed(text) => return self.write_typed(text),
             Value::Arc(number) => write!(out, "{arc}{number}"),
             Value::Node(id) => write!(out, "{node}{id}"),
             Value::Cap(cap) => write!(out, "{mark_of_cap}{cap}"),
@@ -103,6 +93,18 @@ impl Prose {
             Value::Number(number) | Value::Operand(number) => write!(out, "{number}"),
         };
         self.is_lost |= written.is_err();
+    }
+
+    fn write_typed(&mut self, text: TextFile<'_>) {
+        let name = text.file.trim_start_matches('\0');
+        match shell_word(self.alloc, name) {
+            Ok(Some(word)) if !text.is_open_here() => match str::from_utf8(&word) {
+                Ok(word) => self.push(word),
+                Err(_) => self.is_lost = true,
+            },
+            Ok(_) => self.push(text.word()),
+            Err(_) => self.is_lost = true,
+        }
     }
 }
 

@@ -32,6 +32,14 @@ impl<'a> TextFile<'a> {
         }
     }
 
+    /// Whether it is a pipe that this run alone has open.
+    pub(crate) fn is_open_here(self) -> bool {
+        let is_open_here = ["/dev/fd/", "/dev/stdin", "/proc/self/fd/"];
+        is_open_here
+            .iter()
+            .any(|front| self.file.starts_with(front))
+    }
+
     /// Whether it stands for arrays of a caller.
     pub fn is_of_arrays(self) -> bool {
         self.file.starts_with("\0\0")
