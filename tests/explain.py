@@ -122,16 +122,19 @@ CASES = [
     ("FieldCount", "solve-paths G L Q", {"L": "p dist 4 1\nt 1 0\n"}, ["L:1: p dist 4 1", "that of distance labels (dist), in the place of queries (query)", "\nQ is empty: a solve run", "before it reads"]),
     ("NegativeWeight", "solve-paths G Q L", {"G": "p sp 2 1\na 1 2 -4\n"}, ["the WEIGHT -4", "\nL is empty: "]),
     ("NodeRange", "solve-max I S C", {"I": "p max 1 1\nn 1 s\nn 2 t\n"}, ["\nS is empty: ", "\nC is empty: "]),
-    ("NotMaximum", "certify-max I S", {"S": "s 0\n"}, ["S:1: s 0", "a better one has the value 6: name a file after the solution to get it\n"]),
-    ("NotLeast", "certify-min MI S", {"S": DEAR}, ["S:1: s 15", "a better one costs 14: name a file after the solution to get it\n"]),
+    ("NotMaximum", "certify-max I S", {"S": "s 0\n"}, ["S:1: s 0\n       ^\nanother flow is feasible, and has 6 more than the 0 that is claimed: name a file after the solution to get it\n$"]),
+    ("NotLeast", "certify-min MI S", {"S": DEAR}, ["S:1: s 15", "another flow is feasible, and costs 1 less than the 15 that is claimed: name a file after the solution to get it\n$"]),
     ("NotMaximum", "certify-max I S B", {"S": "s 0\n"}, ["S:1: s 0", "B:1: s 6", "has 6 more than the 0"]),
     ("NotLeast", "certify-min MI S B", {"S": DEAR}, ["B:1: s 14", "costs 1 less than the 15"]),
+    # The claim is overwritten by the better flow.
+    ("NotMaximum", "certify-max I S ./S", {"S": "s 0\n"}, ["^a flow was found: it goes to ./S\n$"]),
+    ("NotLeast", "certify-min MI S ./S", {"S": DEAR}, ["^the instance has a feasible flow, which costs 14: it goes to ./S\n$"]),
     # It isn't written, with and without a solution in its file.
-    ("NotLeast", "certify-min I S B", {"I": f"p min 1 1\na 1 1 0 {HUGE} {-HUGE}\n", "S": "s 0\n"}, ["S:1: s 0", "better one, whose cost, added up arc by arc, leaves -10^30 to 10^30: it isn't written\n"]),
-    ("NotLeast", "certify-min I S B", {"I": f"p min 1 1\na 1 1 0 {HUGE} {-HUGE}\n", "S": "s 0\n", "B": "s -1\n"}, ["^\nthe flow is feasible, and there is a better one, whose cost, added up"]),
+    ("NotLeast", "certify-min I S B", {"I": f"p min 1 1\na 1 1 0 {HUGE} {-HUGE}\n", "S": "s 0\n"}, ["S:1: s 0", "a flow was found, but isn't written: its cost, added up arc by arc, leaves -10^30 to 10^30\n$"]),
+    ("NotLeast", "certify-min I S B", {"I": f"p min 1 1\na 1 1 0 {HUGE} {-HUGE}\n", "S": "s 0\n", "B": "s -1\n"}, ["^\na flow was found, but isn't written: its cost, added up"]),
     ("Feasible", "certify-infeasible MI", {}, ["feasible flow, which costs ", ": name a file after the instance to get it\n"]),
     ("Feasible", "certify-infeasible MI B", {}, ["feasible flow, which costs ", ": it goes to B\n"]),
-    ("Feasible", "certify-infeasible I B", {"I": f"p min 1 1\na 1 1 {HUGE} {HUGE} {HUGE}\n", "B": "s 0\n"}, ["feasible flow, whose cost, added up arc by arc, leaves -10^30 to 10^30: it isn't written\n"]),
+    ("Feasible", "certify-infeasible I B", {"I": f"p min 1 1\na 1 1 {HUGE} {HUGE} {HUGE}\n", "B": "s 0\n"}, ["^a flow was found, but isn't written: its cost, added up arc by arc, leaves -10^30 to 10^30\n$"]),
     # A cycle of -1 that the source reaches, one that it doesn't, and one through it.
     ("NotShortest", "certify-paths G D", {"G": "p sp 4 4\na 1 2 3\na 2 3 4\na 3 2 -5\na 3 4 1\n", "D": "p distances 4 1\nt 1 3\nd 2 3\nd 3 7\nd 4 8\n"}, ["G:4: a 3 2 -5", "a cycle that the source reaches weighs less than 0; its arcs: 2\n  arc 2: 2 -> 3, WEIGHT 4\n  arc 3: 3 -> 2, WEIGHT -5\n4 - 5 = -1: with each round a walk weighs less, so the nodes that it leads to have no distance\n"]),
     ("NotShortest", "judge-paths G Q L", {"G": "p sp 2 2\na 1 2 3\na 2 1 -4\n", "L": "p dist 2 1\nt 1 1\nd 2 3 1\n"}, ["G:3: a 2 1 -4", "its arcs: 2\n  arc 1: 1 -> 2, WEIGHT 3\n  arc 2: 2 -> 1, WEIGHT -4\n3 - 4 = -1: "]),
@@ -232,7 +235,7 @@ CASES = [
 # The same of a text whose file can't be read again. The command of the package for Python says more of
 # these: it keeps what it reads and makes.
 UNREAD = [
-    ("NotMaximum", "certify-max I S /dev/null", {"S": "s 0\n"}, ["S:1: s 0", "a better one has the value 6: it goes to /dev/null\n"]),
+    ("NotMaximum", "certify-max I S /dev/null", {"S": "s 0\n"}, ["S:1: s 0", "another flow is feasible, and has 6 more than the 0 that is claimed: it goes to /dev/null\n$"]),
 ]
 
 # Reasons that no case gives: one that no text is refused for, and one of 10^12 lines.
@@ -311,7 +314,7 @@ def fault_of(binary, case):
         return f"prints\n{explanation}instead of\n{lines}"
     place = 0
     for part in parts:
-        found = f"{explanation}$".find(part, place)
+        found = f"^{explanation}$".find(part, place)
         if found < 0:
             return f"lacks {part!r}:\n{explanation}"
         place = found + len(part)
@@ -360,7 +363,7 @@ LEFT_OUT_LINES = "/dev/stdin: is no file that can be read again, so its lines ar
 
 # A claim from a pipe that isn't kept, and a better flow.
 LONG = "(echo s 0; yes c | head -c {1}000000) | '{0}' explain certify-max I /dev/stdin B"
-OF_BETTER = "the flow is feasible, and a better one has the value 6: it goes to B\n"
+OF_BETTER = "a flow was found: it goes to B\n"
 
 # A file whose name has a line feed.
 NAMED = "printf 'p sp 1 1\\n' >$'\u00e9\\nv max 6'; '{}' explain convert gr $'\u00e9\\nv max 6'"

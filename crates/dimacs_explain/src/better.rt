@@ -1,63 +1,98 @@
 //! Explains that there is a better flow than the claimed one, or a feasible one where none is claimed.
 
 use crate::explanation::Explanation;
+use dimacs_facts::{excess, feasible_cost, feasible_value};
+use dimacs_judging::Flow;
+use dimacs_network::Network;
 use dimacs_quote::{OrStop, Reopen, Said, Stop, TextFile, Value, Wanted, is_file, range_of, say};
 use dimacs_records::{At, Record, TextKind};
-
-/// How much better a value is than a claimed one, or a cost; none if it isn't.
-fn gain(kind: TextKind, value: i128, claimed: i128) -> Option<i128> {
-    let gain = match kind {
-        TextKind::Min => claimed.saturating_sub(value),
-        _ => value.saturating_sub(claimed),
-    };
-    if gain > 0 { Some(gain) } else { None }
-}
-
-fn solution_in(file: &str) -> TextFile<'_> {
-    let kind = TextKind::Solution;
-    TextFile { kind, file }
-}
 
 impl<'a, A: Reopen> Explanation<'a, A> {
     pub(crate) fn explain_better(&mut self, at: At) -> Said<'a> {
         let (kind, claim) = (self.page.texts.instance()?.kind, self.page.texts.claim()?);
-        let claimed = self.value_on(claim, Wanted::Line(at))?;
+        let made = self.made.map(|it| it.value);
         // A claim that isn't worse was overwritten by the better flow.
-        if let Some(claimed) = claimed
-            && self.made.is_none_or(|it| gain(kind, it, claimed).is_some())
-        {
+        let claimed = self
+            .value_on(claim, Wanted::Line(at))?
+            .filter(|it| made.is_none_or(|made| is_better(kind, made, *it)));
+        if claimed.is_some() {
             self.page.quote_there(claim, Wanted::Line(at))?;
-            if self.compare_better(kind, claimed)? {
-                return Ok(());
-            }
         }
-        let with = match kind {
-            TextKind::Min => "a better one costs {}",
-            _ => "a better one has the value {}",
+        self.explain_found(claimed)
+    }
+
+    /// Explains that a flow was found, and how much better it is than one with a claimed value or cost.
+    pub(crate) fn explain_found(&mut self, claimed: Option<i128>) -> Said<'a> {
+        if self.made.is_none() && !self.page.texts.are_arrays() {
+            say!(self; "a flow was found, but isn't written: its cost, added up arc by arc, leaves {}\n", range_of("VALUE"));
+            return Ok(());
+        }
+        let shown = match (self.page.texts.instance()?.kind, claimed) {
+            (TextKind::Min, claimed) => self.compare_cost(claimed),
+            (_, Some(claimed)) => self.compare_value(claimed),
+            _ => Err(Stop::Done),
         };
-        say!(self; "the flow is feasible, and ");
-        self.write_made(with, "there is a better one", "better", "solution");
+        if matches!(shown, Err(Stop::Done | Stop::Unread(_))) {
+            say!(self; "a flow was found");
+            self.write_place(None);
+            return Ok(());
+        }
+        shown
+    }
+
+    /// Compares the value of the flow that was found with a claimed one.
+    fn compare_value(&mut self, claimed: i128) -> Said<'a> {
+        let max = self.max_instance()?;
+        let (flow, text) = self.found(max.network())?;
+        if let Some(value) = feasible_value(self.page.alloc, &max, &flow)
+            && let Some(more) = excess(value, claimed)
+        {
+            let name = self.quote_found(text)?;
+            self.write_greater(&max, &flow, name, claimed, more);
+            self.write_place(text);
+            return Ok(());
+        }
+        Err(Stop::Done)
+    }
+
+    /// The same of its cost; without a claim, gives that.
+    fn compare_cost(&mut self, claimed: Option<i128>) -> Said<'a> {
+        let min = self.min_instance()?;
+        let (flow, text) = self.found(min.network())?;
+        let Some(cost) = feasible_cost(self.page.alloc, &min, &flow) else {
+            return Err(Stop::Done);
+        };
+        if let Some(claimed) = claimed
+            && let Some(less) = excess(claimed, cost)
+        {
+            let name = self.quote_found(text)?;
+            self.write_cheaper(&min, &flow, name, claimed, less);
+            self.write_place(text);
+        } else {
+            self.write_feasible_cost(&min, &flow, cost);
+            self.write_place(None);
+        }
         Ok(())
     }
 
-    /// Quotes the value of the better flow from its file, and compares it. Returns whether the file has it.
-    fn compare_better(&mut self, kind: TextKind, claimed: i128) -> OrStop<'a, bool> {
-        let Some(file) = self.made.and(self.page.texts.written()) else {
-            return Ok(false);
-        };
-        let text = solution_in(file);
-        let value = self.value_on(text, Wanted::Value)?;
-        let Some(gain) = value.and_then(|value| gain(kind, value, claimed)) else {
-            return Ok(false);
+    /// The flow in the text that the run wrote, if that can be read again, else as it was made.
+    fn found<N: Network>(&self, network: &N) -> OrStop<'a, (Flow, Option<TextFile<'a>>)> {
+        if let Some(file) = self.page.texts.written()
+            && let Ok(solution) = self.solution_in(solution_text(file))
+        {
+            return Ok((self.flow(network, &solution)?, Some(solution_text(file))));
+        }
+        let made = self.made.ok_or(Stop::Done)?;
+        Ok((self.flow(network, made)?, None))
+    }
+
+    /// Quotes the value or the cost in a text of the flow that was found, and returns a name of that flow.
+    fn quote_found(&mut self, text: Option<TextFile<'a>>) -> OrStop<'a, &'static str> {
+        let Some(text) = text else {
+            return Ok("another flow");
         };
         self.page.quote(text, Wanted::Value)?;
-        let (verb, word) = match kind {
-            TextKind::Min => ("costs", "less"),
-            _ => ("has", "more"),
-        };
-        let flow = self.page.words("this flow", "the flow in `better`");
-        say!(self; "{} is feasible, and {} {} {} than the {} that is claimed\n", flow, verb, gain, word, claimed);
-        Ok(true)
+        Ok(self.page.words("this flow", "the flow in `better`"))
     }
 
     /// The value on a line of a text; none without one, or if the text can't be read again.
@@ -72,32 +107,37 @@ impl<'a, A: Reopen> Explanation<'a, A> {
         }
     }
 
-    /// Whether a text has the value of the flow that the run made.
-    fn is_in(&self, file: &'a str) -> bool {
-        let value = self.value_on(solution_in(file), Wanted::Value);
-        matches!(value, Ok(value) if value == self.made)
-    }
-
-    pub(crate) fn explain_feasible(&mut self) -> Said<'a> {
-        say!(self; "the instance has a feasible flow");
-        self.write_made(", which costs {}", "", "flow", "instance");
-        Ok(())
-    }
-
-    /// Writes the value or the cost of the flow that the run made, and what has it: a field, a file, or one to be named.
-    fn write_made(&mut self, with: &str, without: &str, field: &str, last: &str) {
-        match self.made {
-            Some(made) => say!(self; with, made),
-            None => say!(self; without),
-        }
+    /// Ends a sentence on the flow that was found by where it is, if no text of it is quoted.
+    fn write_place(&mut self, quoted: Option<TextFile<'a>>) {
+        let (field, last) = match self.page.texts.claim() {
+            Ok(_) => ("better", "solution"),
+            Err(_) => ("flow", "instance"),
+        };
         match self.page.texts.written() {
+            _ if quoted.is_some() => say!(self; "\n"),
             _ if self.page.texts.are_arrays() => say!(self; ": it is in `{}`\n", field),
-            _ if self.made.is_none() =>
-                say!(self; ", whose cost, added up arc by arc, leaves {}: it isn't written\n", range_of("VALUE")),
             Some(file) if is_file(file) => say!(self; ": it goes to {}\n", Value::File(file)),
             Some(file) if self.is_in(file) => say!(self; ": it is in `{}`\n", Value::File(file)),
             Some(_) => say!(self; "\n"),
             None => say!(self; ": name a file after the {} to get it\n", last),
         }
     }
+
+    /// Whether a text has the value or the cost of the flow that was made.
+    fn is_in(&self, file: &'a str) -> bool {
+        let value = self.value_on(solution_text(file), Wanted::Value);
+        matches!(value, Ok(Some(value)) if self.made.is_some_and(|it| it.value == value))
+    }
+}
+
+fn is_better(kind: TextKind, value: i128, claimed: i128) -> bool {
+    match kind {
+        TextKind::Min => value < claimed,
+        _ => value > claimed,
+    }
+}
+
+fn solution_text(file: &str) -> TextFile<'_> {
+    let kind = TextKind::Solution;
+    TextFile { kind, file }
 }

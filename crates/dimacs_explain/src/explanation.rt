@@ -1,5 +1,6 @@
 //! The explanation of an answer.
 
+use dimacs_claims::Solution;
 use dimacs_facts::Steps;
 use dimacs_lines::Memory;
 use dimacs_quote::{Page, Reopen, Texts, Value};
@@ -9,15 +10,15 @@ use std::alloc::Global;
 #[derive(Drop)]
 pub struct Explanation<'a, A> {
     pub(crate) page: Page<'a, A>,
-    /// The value or the cost of the solution that the run made in place of a certificate.
-    pub(crate) made: Option<i128>,
+    /// The solution that the run made in place of a certificate.
+    pub(crate) made: Option<&'a Solution>,
     /// What is left of the steps that all its searches share.
     pub(crate) steps: Steps,
 }
 
 impl<'a, A: Reopen> Explanation<'a, A> {
-    /// An empty one, about a run over these texts, which are read again. If it made a solution, `made` is its value or cost.
-    pub fn new(alloc: Global, again: &'a A, texts: Texts<'a>, made: Option<i128>) -> Self {
+    /// An empty one, about a run over these texts, which are read again, and the solution that it made.
+    pub fn new(alloc: Global, again: &'a A, texts: Texts<'a>, made: Option<&'a Solution>) -> Self {
         let page = Page::new(alloc, again, texts);
         let steps = Steps::all();
         Explanation { page, made, steps }

@@ -1,14 +1,16 @@
 //! The sentences that are verdicts of their own. Each is written by one function here, which requires its fact.
 
-ghost use Rattle.std.specs.Prelude.{◌≡◌};
+ghost use Rattle.std.specs.Prelude.{◌≡◌, ◌+ℤ◌, ◌-ℤ◌, ◌<ℤ◌, None, pos};
 ghost use Rattle.dimacs_claims.specs.SolutionTexts.{claimed};
-ghost use Rattle.dimacs_facts.specs.{Cycles.{HasNegativeCycle}, Facts.{OppositeShows}, Walks.{IsNear}};
+ghost use Rattle.dimacs_facts.specs.{Cycles.{HasNegativeCycle}, Walks.{IsNear}};
+ghost use Rattle.dimacs_facts.specs.Facts.{HasCost, HasValue, OppositeShows, SameButTight};
 ghost use Rattle.dimacs_judging.specs.{Feasible.{value}, Flows.{cost}, Labels.{AreDistances}, Optimum.{NoFlow}};
-ghost use Rattle.dimacs_judging.specs.{MaxJudge.{ShowsMaximum}, MinJudge.{ShowsLeast}, Walks.{Beyond}};
+ghost use Rattle.dimacs_judging.specs.{MaxJudge.{ShowsMaximum}, MinJudge.{ShowsLeast}, Walks.{Beyond, IsDistance}};
 
 use crate::explanation::Explanation;
 use crate::sums::Sum;
-use dimacs_claims::{Cut, Labels, Potentials, Solution};
+use dimacs_claims::{Block, Cut, Labels, Potentials, Solution};
+use dimacs_facts::Unreached;
 use dimacs_instance::{Graph, MaxInstance, MinInstance};
 use dimacs_judging::Flow;
 use dimacs_network::Network;
@@ -45,8 +47,7 @@ impl<'a, A: Reopen> Explanation<'a, A> {
         say!(self; ": no flow costs less\n");
     }
 
-    /// Writes how many arcs have the reduced cost 0. By `SameCostLaw` another flow of this cost carries the same on the
-    /// others.
+    /// Writes how many arcs have the reduced cost 0, on which alone another flow of this cost can differ.
     pub(crate) fn write_same_cost<N: Network>(
         &mut self,
         min: &MinInstance<N>,
@@ -54,7 +55,7 @@ impl<'a, A: Reopen> Explanation<'a, A> {
         _potentials: &Potentials,
         count: u64,
     )
-        requires { ShowsLeast min.now (claimed _solution.now) _potentials.now }
+        requires { SameButTight min.now (claimed _solution.now) _potentials.now }
     {
         if count == 0 {
             return say!(self; "no arc has r = 0: no other flow costs as little");
@@ -87,28 +88,33 @@ impl<'a, A: Reopen> Explanation<'a, A> {
         say!(self; "{} is claimed, and the flow costs {}\n", claim, found);
     }
 
-    /// Writes that no walk leads from the source to a node, or without one to any other; with a radius, that none within it
-    /// does.
-    pub(crate) fn write_no_walk<N: Network>(
+    /// Writes that no walk leads to a node; with a radius, that none within it does.
+    pub(crate) fn write_no_walk<N: Network>(&mut self, _graph: &Graph<N>, to: u32, it: Unreached)
+        requires { IsDistance _graph.now.arcs it.source to None it.radius }
+    {
+        let (from, to) = (Node(it.source), Node(to));
+        match it.radius {
+            None =>
+                say!(self; "no walk from {} to {}: no arc leads out of the nodes that {} reaches", from, to, from),
+            Some(radius) =>
+                say!(self; "no walk from {} to {} weighs at most {}, the RADIUS: each arc from a node with a label to one without leads past it, and no WEIGHT is negative\n",
+                from, to, radius),
+        }
+    }
+
+    /// The same of all nodes but the source of a block without labels.
+    pub(crate) fn write_alone<N: Network>(
         &mut self,
         _graph: &Graph<N>,
         _labels: &Labels,
-        source: u32,
-        to: Option<u32>,
-        radius: Option<i128>,
+        block: &Block,
     )
         requires { AreDistances _graph.now.arcs _labels.now.blocks }
     {
-        let from = Node(source);
-        match (to, radius) {
-            (Some(to), None) =>
-                say!(self; "no walk from {} to {}: no arc leads out of the nodes that {} reaches", from, Node(to), from),
-            (Some(to), Some(radius)) =>
-                say!(self; "no walk from {} to {} weighs at most {}, the RADIUS: each arc from a node with a label to one without leads past it, and no WEIGHT is negative\n",
-                from, Node(to), radius),
-            (None, None) =>
-                say!(self; "{} reaches no other node: no arc leads from it to another\n", from),
-            (None, Some(radius)) =>
+        let from = Node(block.source());
+        match block.radius() {
+            None => say!(self; "{} reaches no other node: no arc leads from it to another\n", from),
+            Some(radius) =>
                 say!(self; "no other node is within {}, the RADIUS, of {}: each arc from it to another leads past it\n", radius, from),
         }
     }
@@ -126,6 +132,47 @@ impl<'a, A: Reopen> Explanation<'a, A> {
         let name = self.page.words("label", "distance");
         say!(self; "no walk is shorter: from the source, whose {} is 0, each arc raises the {} by its WEIGHT at most\n",
             name, name);
+    }
+
+    /// Writes that a flow is feasible, and how much more its value is than the claimed one.
+    pub(crate) fn write_greater<N: Network>(
+        &mut self,
+        _max: &MaxInstance<N>,
+        _flow: &Flow,
+        name: &str,
+        claimed: i128,
+        more: i128,
+    )
+        requires more { pos 0 <ℤ more }
+        requires value { HasValue _max.now _flow.now (claimed +ℤ more) }
+    {
+        say!(self; "{} is feasible, and has {} more than the {} that is claimed", name, more, claimed);
+    }
+
+    /// The same of how much less it costs.
+    pub(crate) fn write_cheaper<N: Network>(
+        &mut self,
+        _min: &MinInstance<N>,
+        _flow: &Flow,
+        name: &str,
+        claimed: i128,
+        less: i128,
+    )
+        requires less { pos 0 <ℤ less }
+        requires cost { HasCost _min.now _flow.now (claimed -ℤ less) }
+    {
+        say!(self; "{} is feasible, and costs {} less than the {} that is claimed", name, less, claimed);
+    }
+
+    pub(crate) fn write_feasible_cost<N: Network>(
+        &mut self,
+        _min: &MinInstance<N>,
+        _flow: &Flow,
+        cost: i128,
+    )
+        requires { HasCost _min.now _flow.now cost }
+    {
+        say!(self; "the instance has a feasible flow, which costs {}", cost);
     }
 
     pub(crate) fn write_no_flow<N: Network>(&mut self, _min: &MinInstance<N>)

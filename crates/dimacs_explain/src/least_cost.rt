@@ -6,7 +6,7 @@ ghost use Rattle.dimacs_judging.specs.MinJudge.{ShowsLeast};
 use crate::explanation::Explanation;
 use crate::sums::{SHOWN, Sum, bound, number_of};
 use dimacs_claims::{Potentials, Solution};
-use dimacs_facts::{cost_of, opposite_shows};
+use dimacs_facts::{cost_of, opposite_shows, same_but_tight};
 use dimacs_instance::MinInstance;
 use dimacs_judging::Flow;
 use dimacs_network::{ArcView, Network};
@@ -206,6 +206,7 @@ impl<'a, A: Reopen> Explanation<'a, A> {
                 }
             }
         }
+        same_but_tight(min, solution, potentials);
         self.write_same_cost(min, solution, potentials, count);
         self.page.out.append(&list);
         say!(self; if count > SHOWN { " ..\n" } else { "\n" });

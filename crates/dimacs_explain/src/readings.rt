@@ -29,7 +29,10 @@ impl<'a, A: Reopen> Explanation<'a, A> {
     }
 
     pub(crate) fn solution(&self) -> OrStop<'a, Solution> {
-        let text = self.page.texts.claim()?;
+        self.solution_in(self.page.texts.claim()?)
+    }
+
+    pub(crate) fn solution_in(&self, text: TextFile<'a>) -> OrStop<'a, Solution> {
         read_solution(self.page.alloc, &mut self.page.source(text)?).map_err(|_| text.unread())
     }
 

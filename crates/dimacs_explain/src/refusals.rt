@@ -9,7 +9,7 @@ impl<'a, A: Reopen> Explanation<'a, A> {
     /// Explains why a text of this kind is refused.
     pub fn explain_refusal(&mut self, kind: TextKind, at: At, reason: Reason) {
         let said = match reason {
-            Reason::Feasible => self.explain_feasible(),
+            Reason::Feasible => self.explain_found(None),
             Reason::NodesDiffer => self.explain_nodes(),
             _ => self.explain_text(kind, at, reason),
         };

@@ -5,6 +5,7 @@ ghost use Rattle.dimacs_judging.specs.Labels.{AreDistances};
 use crate::explanation::Explanation;
 use crate::sums::{SHOWN, Sum};
 use dimacs_claims::{Block, Label, Labels};
+use dimacs_facts::unreached_from;
 use dimacs_instance::{Graph, Queries};
 use dimacs_lines::Memory;
 use dimacs_network::Network;
@@ -118,9 +119,11 @@ impl<'a, A: Reopen> Explanation<'a, A> {
             self.write_route(source, &route);
             return Ok(true);
         }
-        self.write_no_walk(graph, labels, source, Some(to), block.radius());
-        if block.radius().is_none() {
-            self.write_reached(block);
+        if let Some(it) = unreached_from(graph, labels, source, to) {
+            self.write_no_walk(graph, to, it);
+            if it.radius.is_none() {
+                self.write_reached(block);
+            }
         }
         Ok(false)
     }
@@ -144,7 +147,7 @@ impl<'a, A: Reopen> Explanation<'a, A> {
         requires { AreDistances graph.now.arcs labels.now.blocks }
     {
         let Some(farthest) = farthest(block) else {
-            self.write_no_walk(graph, labels, block.source(), None, block.radius());
+            self.write_alone(graph, labels, block);
             return Ok(false);
         };
         let count = block.labels().len();

@@ -48,10 +48,10 @@ impl OutputText {
         }
     }
 
-    /// The value or the cost of a solution.
-    pub(crate) fn value(&self) -> Option<i128> {
+    /// The solution, if it is one.
+    pub(crate) fn solution(&self) -> Option<&Solution> {
         match self {
-            OutputText::Solution(solution) => Some(solution.value),
+            OutputText::Solution(solution) => Some(solution),
             _ => None,
         }
     }
