@@ -39,6 +39,11 @@ REVERSED = dict(zip("GD", explained_yes.late_block(1001, lambda arcs: arcs[::-1]
 # Of a pipe that gives more MB nothing is kept.
 MOST_KEPT = 64
 
+# What a limit counts.
+LIMIT_OF_FLOWS = "^the limit, {}, counts flows, the flow 0 first and each of a greater value than the last: none of them is maximum, so no answer is written\n"
+LIMIT_OF_STEPS = "^the limit, {}, counts steps, each to a better flow: they lead to none that costs least, or the costs of one that does, added up arc by arc, leave -10^30 to 10^30: no answer is written\n"
+GREATER = "a greater one may do, as --limit N: N is at most 1000000000, and 1000000 without it\n"
+
 # The texts that commands name; a case gives others in their place.
 TEXTS = {"I": MAX, "S": FLOW, "C": CUT, "MI": MIN, "MS": LEAST, "P": POT, "G": CYCLE, "Q": ASKED}
 
@@ -135,6 +140,11 @@ CASES = [
     ("Feasible", "certify-infeasible MI", {}, ["feasible flow, which costs ", ": name a file after the instance to get it\n"]),
     ("Feasible", "certify-infeasible MI B", {}, ["feasible flow, which costs ", ": it goes to B\n"]),
     ("Feasible", "certify-infeasible I B", {"I": f"p min 1 1\na 1 1 {HUGE} {HUGE} {HUGE}\n", "B": "s 0\n"}, ["^a flow was found, but isn't written: its cost, added up arc by arc, leaves -10^30 to 10^30\n$"]),
+    # Solvers that gave up.
+    ("limit", "solve-max I S C --limit 1", {}, [LIMIT_OF_FLOWS.format(1), f"{GREATER}S is empty: ", "\nC is empty: "]),
+    ("limit", "solve-max I S C --limit 0", {}, [LIMIT_OF_FLOWS.format(0), f"{GREATER}S is empty: "]),
+    ("limit", "solve-min I S P --limit 0", {"I": "p min 2 1\nn 1 1\nn 2 -1\na 1 2 0 1 1\n"}, [LIMIT_OF_STEPS.format(0), f"{GREATER}S is empty: "]),
+    ("limit", "solve-min I S P --limit 1000000000", {"I": f"p min 1 1\na 1 1 0 {HUGE} {-HUGE}\n"}, [LIMIT_OF_STEPS.format(10**9), "\nS is empty: "]),
     # A cycle of -1 that the source reaches, one that it doesn't, and one through it.
     ("NotShortest", "certify-paths G D", {"G": "p sp 4 4\na 1 2 3\na 2 3 4\na 3 2 -5\na 3 4 1\n", "D": "p distances 4 1\nt 1 3\nd 2 3\nd 3 7\nd 4 8\n"}, ["G:4: a 3 2 -5", "a cycle that the source reaches weighs less than 0; its arcs: 2\n  arc 2: 2 -> 3, WEIGHT 4\n  arc 3: 3 -> 2, WEIGHT -5\n4 - 5 = -1: with each round a walk weighs less, so the nodes that it leads to have no distance\n"]),
     ("NotShortest", "judge-paths G Q L", {"G": "p sp 2 2\na 1 2 3\na 2 1 -4\n", "L": "p dist 2 1\nt 1 1\nd 2 3 1\n"}, ["G:3: a 2 1 -4", "its arcs: 2\n  arc 1: 1 -> 2, WEIGHT 3\n  arc 2: 2 -> 1, WEIGHT -4\n3 - 4 = -1: "]),
@@ -305,7 +315,7 @@ def fault_of(binary, case):
     """What is wrong with the explanation of a case; none if nothing is."""
     reason, _, _, parts = case
     (status, plain, _), (explained_status, printed, lines) = explained(binary, case)
-    if status != (reason > "") or not plain.endswith(f" {reason}\n" * (reason > "")):
+    if status != (5 if reason == "limit" else reason > "") or not plain.endswith(f" {reason}\n" * (reason > "")):
         return f"prints {plain} without explain"
     if explained_status != status or not printed.startswith(plain):
         return f"status {explained_status}, prints {printed}"

@@ -6,7 +6,7 @@
 
 #define TEXT(s) (const uint8_t *)(s), strlen(s)
 
-static uint8_t out[400], shown[400], solved[400];
+static uint8_t out[600], shown[400], solved[400];
 static size_t needed, shown_needed, solved_needed;
 #define OUT out, sizeof out, &needed
 #define SHOWN shown, sizeof shown, &shown_needed
@@ -91,7 +91,13 @@ static void explains(void) {
               "  S:2: f 1 2 4\n");
     explained("show max \xff", "?", 0, "i max 4 5 1 4\n");
     explained("spread-max I S O", flow, 0, "");
-    explained("solve-max I S C --limit 0", flow, 5, "g limit\n");
+    explained("solve-max I S C --limit 0", flow, 5,
+              "g limit\n"
+              "the limit, 0, counts flows, the flow 0 first and each of a greater value than the last: none of them is maximum, "
+              "so no answer is written\n"
+              "a greater one may do, as --limit N: N is at most 1000000000, and 1000000 without it\n"
+              "S is empty: a solve run creates the files that it writes, or empties them, before it reads the others\n"
+              "C is empty: a solve run creates the files that it writes, or empties them, before it reads the others\n");
     explained("solve-max I S C --limit", flow, 2, "");
     explained("explain judge-max I S C", flow, 2, "");
     explained("help", flow, 2, "");

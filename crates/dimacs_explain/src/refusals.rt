@@ -2,8 +2,13 @@
 
 use crate::explanation::Explanation;
 use dimacs_judging::Where;
-use dimacs_quote::{Reopen, Said, Stop, Value, Wanted, say};
+use dimacs_quote::{Reopen, Said, Stop, Value, Wanted, range_of, say};
 use dimacs_records::{At, End, Reason, TextKind};
+
+/// The limits of solvers.
+const GREATEST_LIMIT: u64 = 1_000_000_000;
+
+const DEFAULT_LIMIT: u64 = 1_000_000;
 
 impl<'a, A: Reopen> Explanation<'a, A> {
     /// Explains why a text of this kind is refused.
@@ -37,6 +42,22 @@ impl<'a, A: Reopen> Explanation<'a, A> {
             (unread, _) => unread,
         };
         self.end_refusal(said);
+    }
+
+    /// Explains that a solver gave up at its limit.
+    pub fn explain_gave_up(&mut self, limit: u64) {
+        match self.page.texts.instance().map(|it| it.kind) {
+            Ok(TextKind::Min) =>
+                say!(self; "the limit, {}, counts steps, each to a better flow: they lead to none that costs least, or the costs of one that does, added up arc by arc, leave {}: no answer is written\n",
+                    limit, range_of("VALUE")),
+            _ =>
+                say!(self; "the limit, {}, counts flows, the flow 0 first and each of a greater value than the last: none of them is maximum, so no answer is written\n",
+                    limit),
+        }
+        if limit < GREATEST_LIMIT {
+            say!(self; "a greater one may do, as --limit N: N is at most {}, and {} without it\n", GREATEST_LIMIT, DEFAULT_LIMIT);
+        }
+        self.end_refusal(Ok(()));
     }
 
     /// Names the file that can't be read again, and the files that a solver which refuses has emptied.
