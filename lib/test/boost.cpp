@@ -268,9 +268,6 @@ static void hidden_vertices() {
     check_that("a property map over another", !get(outside, Vertex(0)) && get(outside, Vertex(1)));
 }
 
-__extension__ typedef __int128 Wide;
-__extension__ typedef unsigned __int128 UnsignedWide;
-
 /* Which numbers of a type 64 bits hold, and which of those that 64 bits hold it holds. */
 template <class Number>
 static void narrows(const char *name) {

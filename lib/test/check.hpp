@@ -6,6 +6,9 @@
 
 #include <string>
 
+__extension__ typedef __int128 Wide;
+__extension__ typedef unsigned __int128 UnsignedWide;
+
 inline void is(const char *name, const std::string &got, const std::string &wanted) {
     check_that(name, got == wanted);
     if (got != wanted) printf("%s: wanted '%s', got '%s'\n", name, wanted.c_str(), got.c_str());

@@ -282,8 +282,6 @@ static void refuses_texts() {
 }
 
 /* What converts to a value, and is the same number. */
-__extension__ typedef __int128 Wide;
-__extension__ typedef unsigned __int128 UnsignedWide;
 template <class Number>
 static constexpr bool converts =
     std::is_constructible_v<Value, Number> || std::is_convertible_v<Number, Value>;

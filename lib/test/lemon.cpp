@@ -137,8 +137,6 @@ struct Made {
 };
 
 /* The numbers that end what 64 bits hold, in maps of 64 and more; boost.cpp has those of all types. */
-__extension__ typedef __int128 Wide;
-
 static void limits() {
     Graph graph;
     const Node from = graph.addNode(), to = graph.addNode(), alone = graph.addNode();
