@@ -39,7 +39,23 @@ def put(path, content):
         it.write(content.encode() if isinstance(content, str) else content)
 
 
-class Installed(scripts.Counts):
+class Commands(scripts.Counts):
+    """Commands that are run in a folder `place`, where nothing is set but an `environment`."""
+
+    def run(self, *words, **how):
+        """Runs a command, and returns what it prints."""
+        how = {"cwd": self.place, "env": self.environment} | how
+        ran = subprocess.run(words, capture_output=True, text=True, check=False, **how)
+        self.succeeded = ran.returncode == 0
+        self.message = f"$ {' '.join(words)}: status {ran.returncode}\n{ran.stdout}{ran.stderr}"
+        return ran.stdout + ran.stderr
+
+    def expect(self, name, is_so):
+        """Counts a case; of one that failed it prints what was run last."""
+        super().expect(name, is_so, f"\n{self.message}")
+
+
+class Installed(Commands):
     """What is installed below a folder `usr` for a system, and commands that find it there and nowhere else."""
 
     def __init__(self, place, usr, triplet="x86_64-linux-gnu"):
@@ -54,18 +70,6 @@ class Installed(scripts.Counts):
         texts = {"one.max": MAX, "one.solution": FLOW, "list": "one.max one.solution\n", "shown.c": IN_C}
         for name, text in texts.items():
             put(f"{place}/{name}", text)
-
-    def run(self, *words, **how):
-        """Runs a command where nothing is set but what finds this; what it prints."""
-        how = {"cwd": self.place, "env": self.environment} | how
-        ran = subprocess.run(words, capture_output=True, text=True, check=False, **how)
-        self.succeeded = ran.returncode == 0
-        self.message = f"$ {' '.join(words)}: status {ran.returncode}\n{ran.stdout}{ran.stderr}"
-        return ran.stdout + ran.stderr
-
-    def expect(self, name, is_so):
-        """Counts a case; of one that failed it prints what was run last."""
-        super().expect(name, is_so, f"\n{self.message}")
 
     def has(self, name, *tools):
         """Whether these tools are there. What needs them is left out else."""

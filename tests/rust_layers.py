@@ -10,11 +10,11 @@ these sources.
 import os
 import re
 import shutil
-import subprocess
 import sys
 import tempfile
 
 import scripts
+from installed import Commands, put
 from scripts import TOP
 
 sys.path.insert(0, f"{TOP}/tools")
@@ -44,7 +44,7 @@ LACKING = [
 ]
 
 
-class Layers(scripts.Counts):
+class Layers(Commands):
     """A copy of the repository, which finds the build, and commands by which nothing else is found."""
 
     def __init__(self, build, place):
@@ -57,34 +57,18 @@ class Layers(scripts.Counts):
         others = ("DIMACS_LIB_DIR", "DIMACS_LIBRARY", "PKG_CONFIG_PATH", "PYTHONPATH", "RUSTFLAGS")
         self.environment = {name: it for name, it in os.environ.items() if name not in others} | mine
 
-    def run(self, *words, **how):
-        """What a command prints."""
-        how = {"cwd": self.place, "env": self.environment} | how
-        ran = subprocess.run(words, capture_output=True, text=True, check=False, **how)
-        self.message = f"$ {' '.join(words)}: status {ran.returncode}\n{ran.stdout[-2000:]}{ran.stderr[-2000:]}"
-        return ran.stdout + ran.stderr
-
-    def put(self, name, text):
-        os.makedirs(os.path.dirname(f"{self.place}/{name}"), exist_ok=True)
-        with open(f"{self.place}/{name}", "w", encoding="utf-8") as it:
-            it.write(text)
-        return f"{self.place}/{name}"
-
-    def expect_printed(self, name, pattern, printed):
-        """Counts a case; of one that failed it prints what was run."""
-        self.expect(name, re.search(pattern, printed), f"\n{self.message}")
-
     def test_rust(self):
-        manifest = self.put("called/Cargo.toml", MANIFEST.format(f"{self.copy}/lib/rust"))
-        self.put("called/src/main.rs", PROGRAM)
+        manifest = f"{self.place}/called/Cargo.toml"
+        put(manifest, MANIFEST.format(f"{self.copy}/lib/rust"))
+        put(f"{self.place}/called/src/main.rs", PROGRAM)
         printed = self.run("cargo", "run", "--offline", "-q", "--manifest-path", manifest)
-        self.expect_printed("a program in Rust", r"\(by rustc \S+\) \(not proved\) false\n", printed)
+        self.expect("a program in Rust", re.search(r"\(by rustc \S+\) \(not proved\) false\n", printed))
         printed = self.run("cargo", "test", "--offline", "--manifest-path", f"{self.copy}/lib/rust/Cargo.toml")
-        self.expect_printed("the crate's tests", r"(?s)\A(?!.*; [1-9]\d* failed).* passed; 0 failed", printed)
+        self.expect("the crate's tests", re.search(r"(?s)\A(?!.*; [1-9]\d* failed).* passed; 0 failed", printed))
 
     def test_python(self):
         lacks = "import sys, importlib.util as it; sys.exit(not all(map(it.find_spec, ('pip', 'hatchling'))))"
-        python = next((it for it in ("python3", "/usr/bin/python3") if "" == self.run(it, "-c", lacks) and "status 0" in self.message), None)
+        python = next((it for it in ("python3", "/usr/bin/python3") if "" == self.run(it, "-c", lacks) and self.succeeded), None)
         if not python:
             print("left out: the package for Python: no pip with hatchling")
             return
@@ -92,24 +76,25 @@ class Layers(scripts.Counts):
         self.run(python, "-m", "pip", "install", *words, f"{self.copy}/lib/python")
         wanted = scripts.read("VERSION").strip().replace("-dev", ".dev0")
         printed = self.run(python, "-c", CALL, env=self.environment | {"PYTHONPATH": f"{self.place}/installed"})
-        self.expect_printed("the package for Python", rf"\A{re.escape(wanted)}\+unproved False i cut 4 1\n", printed)
+        self.expect("the package for Python", printed.startswith(f"{wanted}+unproved False i cut 4 1\n"))
 
     def test_packing(self):
         words = ["--workspace", "--offline", "--allow-dirty", "--no-verify"]
         printed = self.run("cargo", "package", *words, cwd=f"{self.build}/crates")
         names = set(re.findall(r"Packaging (\w+) ", printed))
         wanted = re.findall(r'"(\w+)"', scripts.read(os.path.relpath(f"{self.build}/crates/Cargo.toml", TOP)).split("\n\n")[0])
-        self.expect("each crate is packed", names == set(wanted) - {"2"} and len(names) > 15, self.message)
+        self.expect("each crate is packed", names == set(wanted) - {"2"} and len(names) > 15)
 
     def test_lacking(self):
         for program, wanted in LACKING:
-            cargo = self.put("tools/cargo", f"#!/bin/sh\n{program}\n") if program else f"{self.place}/gone/cargo"
+            cargo = f"{self.place}/tools/cargo" if program else f"{self.place}/gone/cargo"
             if program:
+                put(cargo, f"#!/bin/sh\n{program}\n")
                 os.chmod(cargo, 0o755)
             environment = self.environment | {"CARGO": cargo}
             printed = self.run(sys.executable, f"{self.copy}/tools/rust_build.py", f"{self.place}/none", env=environment)
             is_so = printed.replace(os.path.dirname(cargo) + "/", "").startswith(f"rust_build.py: {wanted}")
-            self.expect(wanted, is_so and printed.count("\n") == 1, self.message)
+            self.expect(wanted, is_so and printed.count("\n") == 1)
 
     def test_plain_libraries(self):
         made = f"{self.place}/plain"
@@ -118,7 +103,7 @@ class Layers(scripts.Counts):
             words = ["-I", f"{TOP}/lib/include", f"{TOP}/examples/library/certify.c", f"{made}/{library}", "-o", "certify"]
             self.run("cc", *words, f"-Wl,-rpath,{made}")
             pipes = [f"{TOP}/examples/pipes.{it}" for it in ("max", "solution")]
-            self.expect_printed(library, r"\Av max 12\np cut 5 3\n", self.run("./certify", *pipes))
+            self.expect(library, self.run("./certify", *pipes).startswith("v max 12\np cut 5 3\n"))
 
 
 def main():
