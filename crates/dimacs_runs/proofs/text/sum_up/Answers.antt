@@ -1,4 +1,4 @@
-use Rattle.std.proofs.{Common.{Err, inr}, lemmas.Result.{err_from_is_err_and}}
+use Rattle.std.proofs.{Common.{Err, inr, refl}, lemmas.Result.{err_from_is_err_and}}
 use Rattle.dimacs_runs.specs.{declared.status.Status.TheVariants.{Done}, Runs.{IsPrinted}}
 use Rattle.dimacs_runs.specs.inside.Judgings.{FaultIn, text_spells}
 use Rattle.dimacs_runs.proofs.{WritingLemmas.{report_written}, ReportLemmas.{unread_printed, value_printed}}
@@ -19,4 +19,4 @@ pub returns-in-Err-clause-reports : goal.returns-in-Err-clause-reports
 returns-in-Err-clause-reports g c = λ bytes coming.
     let text = text_spells g.T.Summary.kind g.T.Summary.spells bytes in
     report_written (FaultIn text (IsPrinted g.T.Summary.shown)) c.outcome_of-answer.result c.write_outcome.result (g.K.Sink.seen c.args.sink.now) (g.K.Sink.seen c.write_outcome.new.report)
-    (rw c.outcome_of-answer.ensures (unread_printed text g.T.Summary.shown c.in-Err.unread (Err c.from.result) c.from.ensures (c.in-Err.ensures.reads bytes coming))) c.write_outcome.ensures.ends
+    (rw c.outcome_of-answer.ensures (unread_printed text g.T.Summary.shown c.in-Err.ended (Err c.in-Err.ended) refl (c.in-Err.ensures.reads bytes coming))) c.write_outcome.ensures.ends
