@@ -184,21 +184,21 @@ module _ {empty : Option (List ℕ)} {result : Result Status CommandError} {old 
   writes_unnamed {new} puts = no_text {new = new} [] (no_files (shown_texts p)) puts
 
   -- there is no text
-  pub writes_no_text : {new : Written} (names : List (List ℕ)) → p.certificate ≡ Nothing → WritesReport p result old new → WritesOutcome p names empty result (seen_by b old) (seen_by b new)
-  writes_no_text {new} names is puts = no_text {new = new} names (no_file_for_nothing p.certificate (report_lines p.report) names is) puts
+  pub writes_no_text : {new : Written} (names : List (List ℕ)) → p.shown ≡ Nothing → WritesReport p result old new → WritesOutcome p names empty result (seen_by b old) (seen_by b new)
+  writes_no_text {new} names is puts = no_text {new = new} names (no_file_for_nothing p.shown (report_lines p.report) names is) puts
 
   -- the file for the text could not be created
-  pub writes_nowhere : {name : List ℕ} {error : CommandError} {c : FilesSeen} → p.certificate ≢ Nothing → IsErrAnd result (λ e. e ≡ error) → FailsWith (NotCreated name) b c error → WritesOutcome p (name ∷ []) empty result (seen_by b old) (seen_by c old)
+  pub writes_nowhere : {name : List ℕ} {error : CommandError} {c : FilesSeen} → p.shown ≢ Nothing → IsErrAnd result (λ e. e ≡ error) → FailsWith (NotCreated name) b c error → WritesOutcome p (name ∷ []) empty result (seen_by b old) (seen_by c old)
   writes_nowhere {name} {error} has_text is fails = rw (is_error result error is) record {
     events = NotCreated name fails.cause ∷ [];
     seen = fails.seen;
     failure = append-nil (failures (NotCreated name fails.cause)) ∙ fails.failure;
     faults = sym (fails.output old.faults);
-    ends = inl (record { name = name; error = fails.cause; whole = refl; happened = refl; text = file_for_text p.certificate (report_lines p.report) (name ∷ []) has_text; failed = refl; nothing_written = refl });
+    ends = inl (record { name = name; error = fails.cause; whole = refl; happened = refl; text = file_for_text p.shown (report_lines p.report) (name ∷ []) has_text; failed = refl; nothing_written = refl });
   }
 
   -- the file for the text was created, written and closed
-  pub writes_text : {new : Written} {name : List ℕ} {c d : FilesSeen} (seen : Written) (ended : Result Status RunError) (failure : Option Failure) → p.certificate ≢ Nothing → Sees (Created name ∷ []) b c → Sees (closed_written name seen ∷ []) c d
+  pub writes_text : {new : Written} {name : List ℕ} {c d : FilesSeen} (seen : Written) (ended : Result Status RunError) (failure : Option Failure) → p.shown ≢ Nothing → Sees (Created name ∷ []) b c → Sees (closed_written name seen ∷ []) c d
       → result ≡ named ended failure → IsFirstOf failure (failures (closed_written name seen)) → EndsWriting (Ok p) ended (nowhere ∷ record { accepted = empty; faults = 0 } ∷ old ∷ []) (nowhere ∷ seen ∷ new ∷ [])
       → WritesOutcome p (name ∷ []) empty result (seen_by b old) (seen_by d new)
   writes_text {new} {name} {c} {d} seen ended failure has_text created closed is first ends =
@@ -214,7 +214,7 @@ module _ {empty : Option (List ℕ)} {result : Result Status CommandError} {old 
         faults = fails.1;
         ends = inr (record {
           written = file ∷ [];
-          all_written = sym (file_for_text p.certificate (report_lines p.report) (name ∷ []) has_text);
+          all_written = sym (file_for_text p.shown (report_lines p.report) (name ∷ []) has_text);
           happened = refl;
           reports = reports_all_named (IsWritten p) ended failure _ _ (shown_written (IsWritten p) (Ok p) ended (fresh ∷ old ∷ []) (seen ∷ new ∷ []) (refl, refl) ends);
           something_written = why_nothing ⊥ (inr file ∷ []) ended failure one (never_memory p ended _ _ ends) (λ unread. unread);
