@@ -131,9 +131,6 @@ CASES = [
     ("NotLeast", "certify-min MI S", {"S": DEAR}, ["S:1: s 15", "another flow is feasible, and costs 1 less than the 15 that is claimed: name a file after the solution to get it\n$"]),
     ("NotMaximum", "certify-max I S B", {"S": "s 0\n"}, ["S:1: s 0", "B:1: s 6", "has 6 more than the 0"]),
     ("NotLeast", "certify-min MI S B", {"S": DEAR}, ["B:1: s 14", "costs 1 less than the 15"]),
-    # The claim is overwritten by the better flow.
-    ("NotMaximum", "certify-max I S ./S", {"S": "s 0\n"}, ["^a flow was found: it goes to ./S\n$"]),
-    ("NotLeast", "certify-min MI S ./S", {"S": DEAR}, ["^the instance has a feasible flow, which costs 14: it goes to ./S\n$"]),
     # It isn't written, with and without a solution in its file.
     ("NotLeast", "certify-min I S B", {"I": f"p min 1 1\na 1 1 0 {HUGE} {-HUGE}\n", "S": "s 0\n"}, ["S:1: s 0", "a flow was found, but isn't written: its cost, added up arc by arc, leaves -10^30 to 10^30\n$"]),
     ("NotLeast", "certify-min I S B", {"I": f"p min 1 1\na 1 1 0 {HUGE} {-HUGE}\n", "S": "s 0\n", "B": "s -1\n"}, ["^\na flow was found, but isn't written: its cost, added up"]),
@@ -144,7 +141,7 @@ CASES = [
     ("limit", "solve-max I S C --limit 1", {}, [LIMIT_OF_FLOWS.format(1), f"{GREATER}S is empty: ", "\nC is empty: "]),
     ("limit", "solve-max I S C --limit 0", {}, [LIMIT_OF_FLOWS.format(0), f"{GREATER}S is empty: "]),
     ("limit", "solve-min I S P --limit 0", {"I": "p min 2 1\nn 1 1\nn 2 -1\na 1 2 0 1 1\n"}, [LIMIT_OF_STEPS.format(0), f"{GREATER}S is empty: "]),
-    ("limit", "solve-min I S P --limit 1000000000", {"I": f"p min 1 1\na 1 1 0 {HUGE} {-HUGE}\n"}, [LIMIT_OF_STEPS.format(10**9), "\nS is empty: "]),
+    ("limit", "solve-min I S P --limit 1000000000", {"I": f"p min 1 1\na 1 1 0 {HUGE} {-HUGE}\n"}, [f"{LIMIT_OF_STEPS.format(10**9)}S is empty: "]),
     # A cycle of -1 that the source reaches, one that it doesn't, and one through it.
     ("NotShortest", "certify-paths G D", {"G": "p sp 4 4\na 1 2 3\na 2 3 4\na 3 2 -5\na 3 4 1\n", "D": "p distances 4 1\nt 1 3\nd 2 3\nd 3 7\nd 4 8\n"}, ["G:4: a 3 2 -5", "a cycle that the source reaches weighs less than 0; its arcs: 2\n  arc 2: 2 -> 3, WEIGHT 4\n  arc 3: 3 -> 2, WEIGHT -5\n4 - 5 = -1: with each round a walk weighs less, so the nodes that it leads to have no distance\n"]),
     ("NotShortest", "judge-paths G Q L", {"G": "p sp 2 2\na 1 2 3\na 2 1 -4\n", "L": "p dist 2 1\nt 1 1\nd 2 3 1\n"}, ["G:3: a 2 1 -4", "its arcs: 2\n  arc 1: 1 -> 2, WEIGHT 3\n  arc 2: 2 -> 1, WEIGHT -4\n3 - 4 = -1: "]),
