@@ -9,6 +9,7 @@ pub mod CertifyingLemmas
 pub mod TextLemmas
 mod TrueClaims
 mod FixedPoint
+mod InMemoryLemmas
 pub mod MakingLemmas
 pub mod SpreadLemmas
 mod LabelCounts

@@ -2,6 +2,7 @@ pub mod Certified
 pub mod Commands
 pub mod Explained
 pub mod Files
+pub mod InMemory
 pub mod Jobs
 pub mod Judged
 pub mod Judgings

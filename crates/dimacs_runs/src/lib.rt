@@ -15,9 +15,11 @@ mod command;
 mod discard;
 mod early_end;
 mod explained;
+mod explained_in_memory;
 mod explained_texts;
 mod failure;
 mod files;
+mod in_memory;
 mod jobs;
 mod judge;
 mod laws;
@@ -25,6 +27,7 @@ mod open_files;
 mod outcome;
 mod outcome_file;
 mod refusal;
+mod refused_text;
 mod report;
 mod runs_that_make;
 mod runs_that_read;
@@ -41,8 +44,10 @@ pub use build::{PROVED, version};
 pub use certify::run_certify;
 pub use command::{command_status, run_command, run_job};
 pub use explained::explain_job;
+pub use explained_in_memory::{StandFor, explain_in_memory};
 pub use failure::{CommandError, Failure, FileCall};
 pub use files::Files;
+pub use in_memory::{MemoryTexts, Ran, run_in_memory};
 pub use jobs::{Job, JudgeKind, Request, SolveJob, SpreadKind};
 pub use judge::run_judge;
 pub use laws::{
@@ -50,6 +55,7 @@ pub use laws::{
     solved_is_judged_yes, true_claims_are_certified,
 };
 pub use refusal::put_refusal;
+pub use refused_text::refuses_text;
 pub use report::Report;
 pub use solve::run_solve;
 pub use spread::run_spread;

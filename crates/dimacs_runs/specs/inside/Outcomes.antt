@@ -77,6 +77,11 @@ EndsWriting (Ok o) (Err error) old new =
     (error ≡ Device) × AcceptInTurn (outcome_texts o) (accepted_by old) (accepted_by new) × OneMore (faults_by old) (faults_by new)
 EndsWriting (Err error) result old new = (result ≡ Err error) × (new ≡ old)
 
+-- these are the texts of an outcome, and its status
+abbrev pub Keeps : {O : Type 0} → (Outcome → O) → Result Outcome RunError → Status → O → Type 0
+Keeps texts (Ok o) status out = (status ≡ report_status o.report) × (out ≡ texts o)
+Keeps texts (Err error) status out = ⊥
+
 -- why a run stops: a text of this kind can't be read, or a judge or a solver has an error
 abbrev pub unread_end : TextKind → ReadError → EarlyEnd
 unread_end kind (read_errors.Refused place reason) = ends.Report (reports.Refused kind place reason)
