@@ -137,7 +137,7 @@ linked: $(FROM)/dimacs_c.a
 %/linked: %/libdimacs.a %/libdimacs.so
 	cd $* && sha256sum dimacs_c.a libdimacs.a libdimacs.so.0 >linked
 
-build/man build/man-unproved: tools/man_pages.py VERSION crates/dimacs/src/usage.rt $(wildcard man/*.md docs/*.md *.md recipes/README.md)
+build/man build/man-unproved: tools/man_pages.py VERSION crates/dimacs_usage/src/usage.rt $(wildcard man/*.md docs/*.md *.md recipes/README.md)
 	rm -rf $@ $@.new
 	mkdir -p $@.new
 	tools/man_pages.py $@.new $(if $(filter %unproved,$@),unproved)

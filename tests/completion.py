@@ -50,7 +50,7 @@ SHELLS = {
 def usage():
     """The places of each command in the usage text, by its word, and the kinds."""
     commands = {word: re.sub(r"[][]", "", words).split()[1:] for word, words in usages().items()}
-    table = re.search(r'^KIND:\n(.*?)"', scripts.read("crates/dimacs/src/usage.rt"), re.MULTILINE | re.DOTALL)[1]
+    table = re.search(r'^KIND:\n(.*?)"', scripts.read("crates/dimacs_usage/src/usage.rt"), re.MULTILINE | re.DOTALL)[1]
     return commands, re.findall(r"(?:^|  )(\w+)  ", table, re.MULTILINE)
 
 

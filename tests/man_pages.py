@@ -31,7 +31,7 @@ def wanted():
     """Yields what a page has to have: the page, what it is, and the words."""
     for words in usages().values():
         yield "dimacs.1", "command", f"dimacs {words}"
-    for status in re.findall(r"^  (\d)  ", read("crates/dimacs/src/usage.rt"), re.MULTILINE):
+    for status in re.findall(r"^  (\d)  ", read("crates/dimacs_usage/src/usage.rt"), re.MULTILINE):
         yield "dimacs.1", "status", f" {status} "
     for reason in re.findall(r"`x \S+ \S+ (?:\S+ )?(\w+)`", read("docs/JUDGING.md")):
         if reason not in ("NodeRange", "PredUnknown"):  # of arrays alone

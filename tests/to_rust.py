@@ -38,7 +38,7 @@ a final method     | final fn f() {}                              | fn f() {}
 a formatter        | fn fmt<W: fmt::Write>(f: &mut Formatter<W>)  | fn fmt(f: &mut Formatter<'_>)
 the kit's std      | use std::io; ::std::a; a::std::b; memchr::memchr(1) | use kit ::io; ::std::a; a::std::b; kit::memchr ::memchr(1)
 macros             | vec![in alloc; 0; 9]; write!(a, "vec!")      | kit::vec ![in alloc; 0; 9]; write!(a, "vec!")
-an allocator       | a.to_vec(alloc); a.collect(rt.alloc()); a.collect() | a.to_vec_by (alloc); a.collect_by (rt.alloc()); a.collect()
+an allocator       | a.to_vec(alloc); a.collect(rt.alloc()); a.collect(); a.repeat(alloc, 2) | a.to_vec_by (alloc); a.collect_by (rt.alloc()); a.collect(); a.repeat_by (alloc, 2)
 traits             | trait A {} trait B: C {} trait D<T>: Drop {} | trait A : Sized {} trait B : Sized + C {} trait D <T>: Sized {}
 a main function    | fn main(rt: HostRuntime) -> ExitCode {}      | kit::main!(started); fn started (rt: HostRuntime) -> ExitCode {}
 what is proved     | pub const PROVED: bool = true; const PROVED: u8 = 1; | pub const PROVED: bool = false ; const PROVED: u8 = 1;

@@ -90,7 +90,7 @@ SLIPS = [
 
 def usages():
     """The words of each command in the table of usage.rt, by its name."""
-    words = re.findall(r'\(\s*"([a-z][^"]*)",\s*"[^"]*",?\s*\)', scripts.read("crates/dimacs/src/usage.rt"))
+    words = re.findall(r'\(\s*"([a-z][^"]*)",\s*"[^"]*",?\s*\)', scripts.read("crates/dimacs_usage/src/usage.rt"))
     return {it.split()[0]: it for it in words}
 
 

@@ -171,7 +171,7 @@ def heading(title, level):
 
 def usage():
     """The commands of the usage text, with their files in italics."""
-    commands = re.findall(r'\(\s*"([a-z][^"]*)",\s*"[^"]*",?\s*\)', read("crates/dimacs/src/usage.rt"))
+    commands = re.findall(r'\(\s*"([a-z][^"]*)",\s*"[^"]*",?\s*\)', read("crates/dimacs_usage/src/usage.rt"))
     shown = (re.sub(r"\b([A-Z]+)\b", r"\\fI\1\\fR", literal(words)) for words in commands)
     return [it for words in shown for it in (f"\\fBdimacs\\fR {words}", ".br")][:-1]
 

@@ -91,9 +91,9 @@ def c_function(it):
 
 REWRITTEN = [
     (r"(?<!:: )\bstd (?=::)", "kit "),
-    (r"(?<!:: )\b(clap|itoa|memchr|strsim) (?=::)", r"kit::\1 "),
+    (r"(?<!:: )\b(itoa|memchr|strsim) (?=::)", r"kit::\1 "),
     (r"\b(format|vec|println|eprintln|eprint) (?=! )", r"kit::\1 "),
-    (r"(?<=\. )(to_vec|collect|to_ascii_lowercase) (?=\(\d+ (?:alloc|rt) )", r"\1_by "),
+    (r"(?<=\. )(to_vec|collect|repeat|to_ascii_lowercase) (?=\(\d+ (?:alloc|rt) )", r"\1_by "),
     (r"\bFormatter < W > ", "Formatter<'_> "),
     (r"\btrait (\w+ )(< [^{:]*> )?(: (?!Drop )|: Drop )?", trait),
     (r"\bfn main (?=\(\d+ rt : HostRuntime \))", "kit::main!(started); fn started "),

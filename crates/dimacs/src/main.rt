@@ -4,22 +4,23 @@
 //! and files, the words of help and complaints, and the status.
 #![tactic(auto)]
 
+ghost use Rattle.std.specs.{Prelude.{IfOk, List, map, ℕ}, String.{string_bytes}};
+ghost use Rattle.dimacs_runs.specs.Jobs.{HasFiles};
+ghost use Rattle.dimacs_usage.specs.Answers.{Answers};
+
 mod files;
 mod kept;
-mod misuse;
-mod targets;
-mod usage;
+mod same;
 
 use crate::files::SystemFiles;
-use crate::misuse::{complaint_of, complaint_of_bytes, complaint_of_slip};
-use crate::targets::Slip;
-use crate::usage::Command;
-use dimacs_lines::{FileSink, Sink, put_all};
+use crate::same::same_files;
+use dimacs_lines::{FileSink, Sink, StdoutSink, put_all};
 use dimacs_quote::Shown;
 use dimacs_runs::{
-    CommandError, Failure, Job, NO_RUN, Request, RunError, Status, command_status, complaint,
-    exit_status, explain_job, request, run_job, version,
+    CommandError, Failure, NO_RUN, RunError, Status, command_status, complaint, exit_status,
+    explain_job, run_job,
 };
+use dimacs_usage::{Asked, Run, ask, complaint_of_bytes};
 use std::alloc::{AllocError, Global};
 use std::fs::File;
 use std::io::ErrorKind;
@@ -50,26 +51,58 @@ fn stand_in(rt: &HostRuntime) -> Option<File> {
 
 /// Does what these arguments, without the program's name, ask for, and returns the exit status.
 fn run(rt: &HostRuntime, arguments: &[String]) -> u8 {
-    let Some(wanted) = request(arguments) else {
-        return refuse(rt, complaint_of(rt.alloc(), arguments));
-    };
-    let slip = Slip::of(rt, arguments, wanted);
-    match (wanted, slip) {
-        (Request::Run(Job::Solve(..)), _) | (_, None) => {}
-        (_, Some(slip)) => return refuse(rt, complaint_of_slip(rt.alloc(), arguments, slip)),
-    }
-    let mut files = match wanted {
-        Request::Explain(_) => SystemFiles::that_keep(rt),
-        _ => SystemFiles::new(rt),
-    };
+    let mut files = SystemFiles::new(rt);
     let mut output = FileSink::new(io::writer(rt));
-    let ended = match wanted {
-        Request::Help => print(usage::of_all(rt.alloc()), &mut output),
-        Request::HelpOn(name) => print(help_on(rt.alloc(), name), &mut output),
-        Request::Version => print(version_line(rt.alloc()), &mut output),
-        Request::Run(job) => run_job(rt.alloc(), job, &mut files, &mut output),
-        Request::Explain(job) => explain_job(rt.alloc(), job, &mut files, &mut output),
+    match asked(rt, arguments) {
+        Ok(Asked::Nothing(text)) => refuse(rt, Ok(text)),
+        Ok(Asked::Text(text)) => {
+            let printed = print(text.as_str(), &mut output);
+            end(rt, printed, &files, &output)
+        }
+        Ok(Asked::Run(run)) => {
+            if run.explains {
+                files = SystemFiles::that_keep(rt);
+            }
+            let status = run_asked(rt, &run, &mut files, &mut output);
+            let _ = eprint!(rt; "{}", run.told);
+            status
+        }
+        Err(_) => end(rt, Err(CommandError::Memory), &files, &output),
+    }
+}
+
+/// What these arguments ask for.
+fn asked<'a>(rt: &HostRuntime, arguments: &'a [String]) -> Result<Asked<'a>, AllocError>
+    ensures { IfOk result (λ asked. (same : List ℕ) × Answers (map string_bytes arguments.now) same asked) }
+{
+    let same = same_files(rt, arguments)?;
+    ask(rt.alloc(), arguments, &same)
+}
+
+/// Runs it, and returns the exit status.
+fn run_asked(
+    rt: &HostRuntime,
+    run: &Run<'_>,
+    files: &mut SystemFiles<'_>,
+    output: &mut StdoutSink<'_, HostRuntime>,
+) -> u8
+    requires { HasFiles run.now.job }
+{
+    let ended = if run.explains {
+        explain_job(rt.alloc(), run.job, files, output)
+    } else {
+        run_job(rt.alloc(), run.job, files, output)
     };
+    end(rt, ended, files, output)
+}
+
+/// Complains of what has ended so, if it failed, and returns the exit status.
+fn end(
+    rt: &HostRuntime,
+    ended: Result<Status, CommandError<'_>>,
+    files: &SystemFiles<'_>,
+    output: &StdoutSink<'_, HostRuntime>,
+) -> u8 {
     let status = command_status(&Some(ended));
     complain(rt, status);
     if let Err(CommandError::Device(failure)) = ended {
@@ -79,41 +112,14 @@ fn run(rt: &HostRuntime, arguments: &[String]) -> u8 {
         };
         print_failure(rt, failure, reason);
     }
-    if let Request::Run(job) | Request::Explain(job) = wanted
-        && let Some(name) = job.written_twice()
-    {
-        let _ = eprintln!(rt; "dimacs: {}: written twice", Shown(name));
-    }
-    if let Some(slip) = slip {
-        let _ = eprintln!(rt; "dimacs: {slip}");
-    }
     status
 }
 
-/// Prints a text, unless memory ran out.
-fn print<'a, K: Sink>(
-    text: Result<String, AllocError>,
-    output: &mut K,
-) -> Result<Status, CommandError<'a>> {
-    let Ok(text) = text else {
-        return Err(CommandError::Memory);
-    };
+/// Prints a text.
+fn print<'a, K: Sink>(text: &str, output: &mut K) -> Result<Status, CommandError<'a>> {
     match put_all(output, text.as_bytes()) {
         Ok(()) => Ok(Status::Done),
         Err(_) => Err(CommandError::Device(Failure::Output)),
-    }
-}
-
-/// The line that `--version` prints.
-fn version_line(alloc: Global) -> Result<String, AllocError> {
-    format!(in alloc; "dimacs {}\n", version())
-}
-
-/// The usage of the command with this name.
-fn help_on(alloc: Global, name: &str) -> Result<String, AllocError> {
-    match Command::named(name) {
-        Some(command) => usage::of_one(alloc, command),
-        None => usage::of_all(alloc),
     }
 }
 
@@ -135,9 +141,11 @@ fn without_arguments(rt: &HostRuntime, error: io::Error) -> u8 {
 /// Complains of arguments that are wrong, and returns the exit status. If memory runs out, no more than the first
 /// line is written.
 fn refuse(rt: &HostRuntime, text: Result<String, AllocError>) -> u8 {
-    complain(rt, NO_RUN);
-    if let Ok(text) = text {
-        let _ = eprint!(rt; "{text}");
+    match text {
+        Ok(text) => {
+            let _ = eprint!(rt; "{text}");
+        }
+        Err(_) => complain(rt, NO_RUN),
     }
     NO_RUN
 }

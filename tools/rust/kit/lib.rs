@@ -31,7 +31,6 @@ macro_rules! holds {
 pub(crate) use holds;
 
 mod boxes;
-pub mod clap;
 pub mod collections;
 pub mod ffi;
 mod files;

@@ -75,10 +75,19 @@ impl fmt::Debug for String {
 
 /// Methods of text that take memory.
 pub trait StrIn {
+    fn repeat_by(&self, alloc: Global, count: usize) -> Result<String, AllocError>;
     fn to_ascii_lowercase_by(&self, alloc: Global) -> Result<String, AllocError>;
 }
 
 impl StrIn for str {
+    fn repeat_by(&self, alloc: Global, count: usize) -> Result<String, AllocError> {
+        let mut made = String::new(alloc);
+        for _ in 0..count {
+            made.push_str(self)?;
+        }
+        Ok(made)
+    }
+
     fn to_ascii_lowercase_by(&self, alloc: Global) -> Result<String, AllocError> {
         let mut made = String::from_str(alloc, self)?;
         made.0.make_ascii_lowercase();

@@ -1,9 +1,9 @@
 //! What is wrong with arguments. `dimacs_runs::request` decides whether they ask for anything.
 
-use crate::targets::Slip;
 use crate::usage;
 use crate::usage::{COMMANDS, Command, KINDS};
 use dimacs_quote::Shown;
+use dimacs_runs::{NO_RUN, complaint};
 use std::alloc::{AllocError, Global};
 use strsim::osa_distance;
 
@@ -24,16 +24,17 @@ impl Misuse {
         }
     }
 
-    /// The line, and the usage of the command that the arguments name, or where to find it; of all without a line.
+    /// The complaint of its status, the line, and the usage of the command that the arguments name, or where to find it; of
+    /// all without a line.
     fn text(self, alloc: Global) -> Result<String, AllocError> {
-        if self.line.is_empty() {
-            return usage::of_all(alloc);
-        }
+        let first = complaint(NO_RUN).unwrap_or_default();
         let usage = match self.command {
+            _ if self.line.is_empty() => usage::of_all(alloc)?,
             Some(command) => usage::of_one(alloc, command)?,
             None => usage::of_none(alloc)?,
         };
-        format!(in alloc; "{}\n{usage}", self.line)
+        let end = if self.line.is_empty() { "" } else { "\n" };
+        format!(in alloc; "{first}\n{}{end}{usage}", self.line)
     }
 }
 
@@ -42,14 +43,14 @@ pub fn complaint_of(alloc: Global, arguments: &[String]) -> Result<String, Alloc
     misuse_of(alloc, arguments)?.text(alloc)
 }
 
-/// The complaint of a slip.
+/// The complaint of arguments that ask for a run which a slip stops, with a line on it.
 pub fn complaint_of_slip(
     alloc: Global,
     arguments: &[String],
-    slip: Slip<'_>,
+    line: String,
 ) -> Result<String, AllocError> {
     let misuse = Misuse {
-        line: format!(in alloc; "{slip}")?,
+        line,
         command: Command::among(arguments),
     };
     misuse.text(alloc)

@@ -1,4 +1,4 @@
-//! The usage texts, of one table of commands. clap only renders them: `dimacs_runs::request` reads the arguments.
+//! The usage texts, of one table of commands. `dimacs_runs::request` reads the arguments.
 
 use dimacs_runs::version;
 use std::alloc::{AllocError, Global};
@@ -194,6 +194,11 @@ pub static KINDS: [&str; 9] = [
     "distances",
 ];
 
+const ABOUT: &str =
+    "Reads, converts, judges and makes the DIMACS texts of flows and shortest paths";
+
+const USAGE: &str = "Usage: dimacs COMMAND FILE...";
+
 /// The end of the usage text of all commands.
 static ENDING: &str = "\
 Exit status:
@@ -207,37 +212,28 @@ Example:
 
 /// The usage text of all commands, after the version.
 pub fn of_all(alloc: Global) -> Result<String, AllocError> {
-    let mut notes = notes(alloc, None)?;
-    notes.push_str("\n\n")?;
-    notes.push_str(ENDING)?;
-    let mut program = clap::Command::new(alloc, "dimacs")
-        .about("Reads, converts, judges and makes the DIMACS texts of flows and shortest paths")
-        .override_usage("dimacs COMMAND FILE...")
-        .after_help(notes.as_str());
+    let mut text = format!(in alloc; "dimacs {}\n{ABOUT}\n\n{USAGE}\n\nCommands:\n", version())?;
     for &Command(words, about) in &COMMANDS {
-        program = program.subcommand(clap::Command::new(alloc, words).about(about))?;
+        write!(text, "  {words:<51}  {about}\n")?;
     }
-    let text = rendered(program)?;
-    format!(in alloc; "dimacs {}\n{text}", version())
+    write!(text, "\n{}\n\n{ENDING}\n", notes(alloc, None)?)?;
+    Ok(text)
 }
 
 /// The usage text of arguments that name no command.
 pub fn of_none(alloc: Global) -> Result<String, AllocError> {
-    let program = clap::Command::new(alloc, "dimacs").override_usage("dimacs COMMAND FILE...");
-    rendered(program.after_help("`dimacs help` lists the commands"))
+    format!(in alloc; "{USAGE}\n\n`dimacs help` lists the commands\n")
 }
 
 /// The usage text of one command.
 pub fn of_one(alloc: Global, command: Command) -> Result<String, AllocError> {
-    let usage = format!(in alloc; "dimacs {}", command.0)?;
+    let Command(words, about) = command;
+    let mut text = format!(in alloc; "{about}\n\nUsage: dimacs {words}\n")?;
     let notes = notes(alloc, Some(command))?;
-    let mut program = clap::Command::new(alloc, "dimacs")
-        .about(command.1)
-        .override_usage(usage.as_str());
     if !notes.is_empty() {
-        program = program.after_help(notes.as_str());
+        write!(text, "\n{notes}\n")?;
     }
-    rendered(program)
+    Ok(text)
 }
 
 /// The notes on a command, or on all, with an empty line between them.
@@ -252,11 +248,4 @@ fn notes(alloc: Global, command: Option<Command>) -> Result<String, AllocError> 
         }
     }
     Ok(text)
-}
-
-fn rendered(program: clap::Command<'_>) -> Result<String, AllocError> {
-    program
-        .disable_help_subcommand(true)
-        .disable_help_flag(true)
-        .render_help()
 }

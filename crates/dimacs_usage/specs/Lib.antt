@@ -1,0 +1,4 @@
+pub mod Answers
+pub mod Plans
+pub mod Slips
+pub mod inside
