@@ -56,10 +56,12 @@ enum {
     DIMACS_REFUSED = 1,   /* a no: a text has a fault, or a test fails */
     DIMACS_MISUSED = 2,   /* nothing was judged. If a number names no kind, or an array has a wrong length, nothing is
                              handed out. If a number of an instance in arrays is past its limit, the line names it */
+    DIMACS_DEVICE = 3,    /* the caller can't read a text that a command comes to. Nothing is handed out */
     DIMACS_NO_MEMORY = 4, /* out of memory: the claim is undecided. Nothing is handed out */
-    DIMACS_GAVE_UP = 5    /* a limit was reached, the least cost is out of range, or an answer doesn't fit an array: a
+    DIMACS_GAVE_UP = 5,   /* a limit was reached, the least cost is out of range, or an answer doesn't fit an array: a
                              distance is 2^63 - 1 or more, or two potentials are 2^64 or more apart (others may fit).
                              Only `g limit` is handed out */
+    DIMACS_RUN = 6        /* the words of a command ask for a run, whose plan is handed out */
 };
 
 /* Kinds of claim. All are judged and certified, the first two are spread, and all but DIMACS_INFEASIBLE are solved. */
@@ -138,21 +140,33 @@ uint32_t dimacs_convert(uint32_t kind, const uint8_t *text, size_t length, uint8
 /* Hands out a line that describes a text of this kind, or the line of its fault. */
 uint32_t dimacs_show(uint32_t kind, const uint8_t *text, size_t length, uint8_t *out, size_t room, size_t *needed);
 
-/* Runs a command over texts, and hands out what `dimacs explain` prints: what the command prints, then lines that explain
- * it. `command` is the command as it is typed, without `dimacs explain`, such as `judge-max instance solution cut`. Its
- * words that name files are names of `first`, `second` and `third`, in order: the lines quote them. They should differ,
- * since a name that stands twice has its first text. A command with fewer files doesn't read the other texts. What it
- * writes to a file is dropped. The lines after a yes read the texts of a claim and of a certificate that it writes: give
- * what it wrote, or name no file for a certifier, which then certifies twice. Returns what the command would, or
- * DIMACS_MISUSED if the words aren't a command with its files, as `explain`, `help` and `--version` aren't. If memory
- * runs out after the command's own lines, some or all of the lines after them are missing.
- *
- * If each name begins with a byte 0, no line says what a run does with files. If with two, the texts stand for arrays too:
- * no line quotes one, the flow on line K + 1 is that of arc K, and the number of an arc follows a byte 1, the ID of a
- * node a byte 2, a capacity a byte 3. */
-uint32_t dimacs_explain(const uint8_t *command, size_t command_length, const uint8_t *first, size_t first_length,
-                        const uint8_t *second, size_t second_length, const uint8_t *third, size_t third_length,
-                        uint8_t *out, size_t room, size_t *needed);
+/* What the texts of a command are. */
+enum {
+    DIMACS_FILES = 0,
+    DIMACS_TEXTS = 1, /* in no file: no line says what a run does with files */
+    DIMACS_ARRAYS = 2 /* made of arrays: no line quotes one either, the flow on line K + 1 is that of arc K, and the
+                         number of an arc follows a byte 1, the ID of a node a byte 2, a capacity a byte 3 */
+};
+
+/* Hands out what the words of a command ask for. They come without `dimacs`, and each ends with a byte 0. `same` has for
+ * each word the place, from 0, of the first that names the same regular file, or its own: a run that would replace what
+ * it reads is misused. DIMACS_DONE: the text to print, of help or the version. DIMACS_MISUSED: what to tell on the
+ * standard error. DIMACS_RUN: a line with a mark for each word, `-` if it names no file, `r` if the run reads the file,
+ * `c` if it creates or empties the file before it reads, `w` if it writes the file once it has a text for it; then a
+ * line for each file with its name as messages have it; then what to tell on the standard error after the run. */
+uint32_t dimacs_request(const uint8_t *words, size_t words_length, const uint32_t *same, size_t same_length, uint8_t *out,
+                        size_t room, size_t *needed);
+
+/* Runs a command over texts, and hands out what it prints, and the one or two texts that it writes to files. Its words
+ * come as above, such as "explain\0judge-max\0instance\0solution\0cut" with the 0 of C. Those that name files are names
+ * of `first`, `second` and `third`, in order: lines that explain an answer quote them. A command with fewer files
+ * doesn't read the other texts. Text number `unread`, from 1, can't be read; 0 if all can: the call returns
+ * DIMACS_DEVICE if the run comes to it. Returns what the command would, or DIMACS_MISUSED if the words ask for no run.
+ * If memory runs out after the command's own lines, some or all of the lines after them are missing. */
+uint32_t dimacs_command(uint32_t form, const uint8_t *words, size_t words_length, uint32_t unread, const uint8_t *first,
+                        size_t first_length, const uint8_t *second, size_t second_length, const uint8_t *third,
+                        size_t third_length, uint8_t *out, size_t room, size_t *needed, uint8_t *made, size_t made_room,
+                        size_t *made_needed, uint8_t *more, size_t more_room, size_t *more_needed);
 
 /* ---- Arrays in memory ----
  *

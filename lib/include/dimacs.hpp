@@ -998,15 +998,26 @@ inline Answer<std::string, Refused> show(Text kind, std::string_view text) {
 }
 
 // The lines that `dimacs explain` prints for a command over texts: its own, then what explains them. The words that
-// name files are names of the texts, in order, as "judge-max instance solution cut". For texts that the command writes,
-// give what it wrote. Throws std::invalid_argument if the words aren't a command with its files.
-inline std::string explain(std::string_view command, std::string_view first, std::string_view second = {},
-                           std::string_view third = {}) {
+// name files are names of the texts, in order, as {"judge-max", "my pipes.max", "flow", "cut"}. Throws
+// std::invalid_argument if the words aren't a command with its files.
+inline std::string explain(const std::vector<std::string_view> &command, std::string_view first,
+                           std::string_view second = {}, std::string_view third = {}) {
+    std::string words("explain"), typed;
+    for (const std::string_view it : command) {
+        words.append(1, '\0').append(it);
+        typed.append(1, ' ').append(it);
+    }
+    words.append(1, '\0');
     detail::TextRoom lines(16 * detail::line_room);
+    const std::uint32_t form = DIMACS_FILES, unread = 0;
+    std::uint8_t *const none = nullptr;
+    const std::size_t no_room = 0;
+    std::size_t made = 0, more = 0;
     try {
-        detail::call(dimacs_explain, command, first, second, third, lines);
+        detail::call(dimacs_command, form, std::string_view(words), unread, first, second, third, lines, none, no_room,
+                     &made, none, no_room, &more);
     } catch (const WrongLength &) {
-        throw std::invalid_argument("no command with its files: " + std::string(command));
+        throw std::invalid_argument("no command with its files:" + typed);
     }
     return lines.take();
 }

@@ -42,7 +42,8 @@ static void clear(Handed *it) {
 #define BEFORE (uint32_t *)to->shown, 100, &to->shown_needed
 #define MARKS (uint8_t *)to->marks, 400, &to->marks_needed
 #define SOLVE(kind, instance, limit) dimacs_solve(kind, TEXT(instance), TEXT(pairs), limit, OUT, BETTER_TEXT, SHOWN)
-#define EXPLAIN(claim) dimacs_explain(TEXT("judge-max I S C"), TEXT(max), TEXT(claim), TEXT(cut), OUT)
+#define EXPLAIN(claim) \
+    dimacs_command(DIMACS_FILES, WORDS("explain\0judge-max\0I\0S\0C"), 0, TEXT(max), TEXT(claim), TEXT(cut), OUT, BETTER_TEXT, SHOWN)
 
 /* A name, the status, and the call. */
 #define CALLS(X) \

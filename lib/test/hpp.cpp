@@ -22,13 +22,15 @@ static void throws_limit(const char *name, const Call &call, const std::string &
 }
 
 static void explains_texts() {
-    const std::string no = explain("judge-max I S C", max, "s 4\nf 1 2 4\n", cut);
+    const std::string no = explain({"judge-max", "I", "S", "C"}, max, "s 4\nf 1 2 4\n", cut);
     check_that("a refusal explained", no.rfind("x node 2 Balance\n0 leaves node 2, 4 enters it", 0) == 0);
-    const std::string yes = explain("judge-max I S C", max, flow, cut);
+    const std::string yes = explain({"judge-max", "I", "S", "C"}, max, flow, cut);
     check_that("a yes explained", yes.rfind("v max 6\non the source's side of the cut, 1 of the 4 nodes: 1\n", 0) == 0);
-    is("a single text", explain("show cut C", cut), "i cut 4 1\n");
+    const std::string quoted = explain({"judge-max", "two words", "S", "C"}, "p max 1 x\n", flow, cut);
+    check_that("a name with a blank", quoted.rfind("x instance 1 4 BadNumber\ntwo words:1: p max 1 x\n", 0) == 0);
+    is("a single text", explain({"show", "cut", "C"}, cut), "i cut 4 1\n");
     throws<std::invalid_argument>(
-        "no command", [] { explain("judge-max I S", max, flow, cut); },
+        "no command", [] { explain({"judge-max", "I", "S"}, max, flow, cut); },
         "no command with its files: judge-max I S");
 }
 

@@ -75,46 +75,62 @@ static void reads_any_bytes(void) {
     }
 }
 
-static void explained(const char *command, const char *claim, uint32_t wanted, const char *output) {
-    needed = 99;
-    CHECK(*command ? command : "no command", dimacs_explain(TEXT(command), TEXT(max), TEXT(claim), TEXT(cut), OUT),
-          wanted, output);
-}
+#define COMMAND(form, words, claim) \
+    dimacs_command(form, WORDS(words), 0, TEXT(max), TEXT(claim), TEXT(cut), OUT, SOLVED, SHOWN)
+#define COMMANDED(words, claim, wanted, output) \
+    needed = 99; \
+    CHECK(words, COMMAND(DIMACS_FILES, words, claim), wanted, output)
 
 /* What explains an answer is whole as tests/explain.py has it. */
 static void explains(void) {
-    explained(" judge-max\t I S  C", "s 4\nf 1 2 4\n", 1,
+    COMMANDED("explain\0judge-max\0I\0my S\0C", "s 4\nf 1 2 4\n", 1,
               "x node 2 Balance\n"
               "0 leaves node 2, 4 enters it: 4 too little leaves\n"
               "entries out of it: 0\n"
               "entries into it: 1\n"
-              "  S:2: f 1 2 4\n");
-    explained("show max \xff", "?", 0, "i max 4 5 1 4\n");
-    explained("spread-max I S O", flow, 0, "");
-    explained("solve-max I S C --limit 0", flow, 5,
+              "  my S:2: f 1 2 4\n");
+    COMMANDED("explain\0show\0max\0I", "?", 0, "i max 4 5 1 4\n");
+    COMMANDED("show\0max\0I", "?", 0, "i max 4 5 1 4\n");
+    COMMANDED("explain\0show\0max\0\xff", "?", 2, "");
+    COMMANDED("explain\0spread-max\0I\0S\0O", flow, 0, "");
+    COMMANDED("explain\0solve-max\0I\0S\0C\0--limit\0" "0", flow, 5,
               "g limit\n"
               "the limit, 0, counts flows, the flow 0 first and each of a greater value than the last: none of them is maximum, "
               "so no answer is written\n"
               "a greater one may do, as --limit N: N is at most 1000000000, and 1000000 without it\n"
               "S is empty: a solve run creates the files that it writes, or empties them, before it reads the others\n"
               "C is empty: a solve run creates the files that it writes, or empties them, before it reads the others\n");
-    explained("solve-max I S C --limit", flow, 2, "");
-    explained("explain judge-max I S C", flow, 2, "");
-    explained("help", flow, 2, "");
-    explained("", flow, 2, "");
-    static const char of_arrays[] = "judge-max \0\0I \0\0S \0\0C";
-    CHECK("texts that stand for arrays", dimacs_explain((const uint8_t *)of_arrays, sizeof of_arrays - 1, TEXT(max),
-          TEXT("s 4\nf 1 2 4\n"), TEXT(cut), OUT), 1,
+    COMMANDED("explain\0solve-max\0I\0S\0C\0--limit", flow, 2, "");
+    COMMANDED("explain\0explain\0judge-max\0I\0S\0C", flow, 2, "");
+    COMMANDED("explain\0help", flow, 2, "");
+    COMMANDED("help", flow, 2, "");
+    COMMANDED("", flow, 2, "");
+    CHECK("texts that stand for arrays", COMMAND(DIMACS_ARRAYS, "explain\0judge-max\0I\0S\0C", "s 4\nf 1 2 4\n"), 1,
           "x node 2 Balance\n"
           "0 leaves node \0022, 4 enters it: 4 too little leaves\n"
           "flows out of it: 0\n"
           "flows into it: 1\n"
           "  arc \0011: \0021 -> \0022, FLOW 4\n");
-    uint32_t status = dimacs_explain(TEXT("judge-max a a a"), TEXT(max), TEXT(flow), TEXT(cut), OUT);
-    static const char quoted[] = "x solution 1 1 UnknownLine\na:1: p max 4 5\n";
-    check_that("a name that stands twice has its first text", status == 1 && !memcmp(out, quoted, strlen(quoted)));
-    status = dimacs_explain(NULL, 0, NULL, 0, NULL, 0, NULL, 0, NULL, 0, &needed);
-    check_that("nothing at all", status == 2 && needed == 0);
+    uint32_t status = dimacs_command(0, NULL, 0, 0, NULL, 0, NULL, 0, NULL, 0, NULL, 0, &needed, NULL, 0, &solved_needed,
+                                     NULL, 0, &shown_needed);
+    check_that("nothing at all", status == 2 && needed == 0 && solved_needed == 0 && shown_needed == 0);
+    status = dimacs_command(0, WORDS("judge-max\0I\0S\0C"), 2, TEXT(max), NULL, 0, TEXT(cut), OUT, SOLVED, SHOWN);
+    check_that("a text that can't be read", status == 3 && needed == 0);
+    CASE("the texts for files", COMMAND(DIMACS_FILES, "solve-max\0I\0S\0C", ""), 0, "v max 6\n", cut);
+    check_that("the first of them", solved_needed > 4 && !memcmp(solved, "s 6\n", 4));
+}
+
+static void requests(void) {
+    static const uint32_t same[] = {0, 1, 2, 3}, twice[] = {0, 1, 2, 1};
+    CHECK("a run", dimacs_request(WORDS("certify-max\0my I\0S\0C"), same, 4, OUT), 6, "-rrw\nmy I\nS\nC\n");
+    CHECK("one that is told of", dimacs_request(WORDS("solve-max\0I\0C\0C"), same, 4, OUT), 6,
+          "-rcc\nI\nC\nC\ndimacs: C: written twice\n");
+    uint32_t status = dimacs_request(WORDS("certify-max\0I\0S\0C"), twice, 4, OUT);
+    static const char slip[] = "dimacs: usage\nINSTANCE and CERTIFICATE are the same file: C\n";
+    check_that("a slip", status == 2 && !memcmp(out, slip, strlen(slip)));
+    status = dimacs_request(WORDS("--version"), same, 1, OUT);
+    check_that("the version", status == 0 && !memcmp(out, "dimacs 0.", 9));
+    check_that("no words", dimacs_request(NULL, 0, NULL, 0, OUT) == 2 && needed > 100);
 }
 
 int main(void) {
@@ -122,5 +138,6 @@ int main(void) {
     keeps_to_the_room();
     reads_any_bytes();
     explains();
+    requests();
     return count();
 }

@@ -2,6 +2,9 @@
 #ifndef TEXTS_H
 #define TEXTS_H
 
+/* Words of a command, each with a 0 at its end. */
+#define WORDS(s) (const uint8_t *)(s), sizeof(s)
+
 /* 1 to 4; a maximum flow has the value 6. */
 static const char max[] = "p max 4 5\nn 1 s\nn 4 t\na 1 2 4\na 1 3 2\na 2 3 2\na 2 4 3\na 3 4 5\n";
 static const char flow[] = "s 6\nf 1 2 4\nf 1 3 2\nf 2 3 1\nf 2 4 3\nf 3 4 3\n";

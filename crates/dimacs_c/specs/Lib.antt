@@ -1,8 +1,9 @@
 pub mod ArrayTexts
 pub mod Arrays
 pub mod Calls
-pub mod Explained
+pub mod Command
 pub mod Kinds
 pub mod Laws
 pub mod Reading
+pub mod Requests
 pub mod inside

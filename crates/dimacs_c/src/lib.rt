@@ -7,9 +7,9 @@
 
 mod answer;
 mod certify;
+mod command;
 mod cut;
 mod distances;
-mod explain;
 mod infeasible;
 mod judge;
 mod kinds;
@@ -18,18 +18,19 @@ mod laws;
 mod lines;
 mod max;
 mod min;
-mod named_texts;
 mod paths;
 mod potentials;
 mod printed;
 mod queries;
 mod read_instance;
 mod reading;
+mod request;
 mod solution;
 mod solve;
 mod spread;
 mod texts;
 mod version;
+mod words;
 mod write_instance;
 mod written;
 
