@@ -8,6 +8,8 @@ pub const MISUSED: u32 = 2;
 pub const NO_MEMORY: u32 = 4;
 pub const GAVE_UP: u32 = 5;
 
+pub const FILES: u32 = 0;
+
 /// Declares functions by the types of their arguments, of which some stand for several, as in [`call`].
 macro_rules! functions {
     (@ $name:ident, ($($done:ty,)*)) => { extern "C" { pub fn $name($(_: $done),*) -> u32; } };
@@ -36,7 +38,7 @@ functions! {
     dimacs_solve(u32, [u8], [u8], u64, {u8}, {u8}, {u8});
     dimacs_convert(u32, [u8], {u8});
     dimacs_show(u32, [u8], {u8});
-    dimacs_explain([u8], [u8], [u8], [u8], {u8});
+    dimacs_command(u32, [u8], u32, [u8], [u8], [u8], {u8}, {u8}, {u8});
     dimacs_judge_max_arrays(*const Max, [i64], [u8], {u8});
     dimacs_judge_min_arrays(*const Min, [i64], [i64], {u8});
     dimacs_judge_infeasible_arrays(*const Min, [u8], {u8});
