@@ -92,6 +92,11 @@ def rows(table):
                 yield [unescaped(cell).replace(";", "\n") for cell in re.split(r" \|(?: |$)", line)]
 
 
+def odd_words():
+    """The words of odd command lines, as bytes; none at first."""
+    return [[], *([it.encode("latin-1") for it in words] for words in rows("words"))]
+
+
 class Runs(Folder):
     """Runs of the program over files of one folder."""
 

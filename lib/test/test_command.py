@@ -1,81 +1,67 @@
 """The command of the package, next to the program: statuses, lines and files."""
 
-import io
 import os
 import pathlib
 import subprocess
 import sys
 import tempfile
 import unittest
-import warnings
 from unittest import mock
 
 import explain  # tests/explain.py
 import usage
 from dimacs import __main__
-from rows import rows
+from rows import odd_words, rows
 
-TOP = pathlib.Path(__file__).parents[2]
 PROGRAM = pathlib.Path(os.environ.get("DIMACS_LIBRARY", "")).parent / "dimacs"
 
-# What no row of tests/rows/commands has, and no words of tests/usage.py.
-RUNS = """
-solve-max pipe a b --limit +07
-solve-max pipe a a
-solve-max absent a a
-solve-min supply a b --limit 1000000000
-spread-max max turned absent/a
-show dist .
-judge-max road . cut
-judge-max max road .
-judge-max max flow .
-judge-max max . absent
-judge-infeasible flow .
-judge-infeasible supply .
-certify-paths flow . out
-spread-max road . out
-solve-paths max . out
-convert
-show infeasible unmet
---version now
---version
-"""
-COMMANDS = RUNS.strip().splitlines() + [words for words, *_ in [*rows("commands"), *usage.SLIPS]]
-WRONG = [words for words, _, _ in usage.WRONG if all(isinstance(it, str) for it in words)]
-
-# Names with characters that separate words, or might stand in for these.
-ODD = {"two words.max": "pipes.max", "two\1words.max": "pipes-careless.solution", "two\twords.max": "pipes.cut"}
-NAMED = [
-    ["certify-max", "two words.max", "pipes.solution"],
-    ["judge-max", *ODD],
-    ["judge-max", *reversed(ODD)],
-]
-
-EXAMPLES = {it.name: it.read_bytes() for it in (TOP / "examples").glob("*.*")}
-EXAMPLES.update({name: EXAMPLES[it] for name, it in ODD.items() if it in EXAMPLES})
+COMMANDS = [words.split() for words, *_ in [*rows("commands"), *usage.SLIPS]]
 FILES = dict(rows("files")) | usage.SLIPPED
+
+# What a shell runs: standard streams that are full or closed, or named as files.
+STREAMS = """
+dimacs --version >/dev/full
+dimacs --version >&-
+dimacs show max max >/dev/full
+dimacs show max max >&-
+dimacs show max absent 2>/dev/full
+dimacs frobnicate 2>/dev/full
+dimacs frobnicate 2>&-
+dimacs solve-max pipe a b >&-
+dimacs solve-max pipe /dev/full b 2>&-
+cat unmet | dimacs judge-infeasible /dev/stdin /dev/stdin
+cat unmet | dimacs explain judge-infeasible /dev/stdin /dev/stdin
+"""
 
 
 def by_program(words, folder):
-    ran = subprocess.run([PROGRAM, *words], cwd=folder, capture_output=True, check=False)
+    return ended([PROGRAM, *words], folder)
+
+
+def ended(words, folder):
+    ran = subprocess.run(words, cwd=folder, capture_output=True, check=False)
     return ran.returncode, ran.stdout, ran.stderr
 
 
 def by_package(words, folder):
     """The same in this process, which takes less time than another Python."""
-    here, out, err = os.getcwd(), io.TextIOWrapper(io.BytesIO()), io.StringIO()
+    here, kept = os.getcwd(), [os.dup(it) for it in (1, 2)]
     os.chdir(folder)
     try:
-        with mock.patch.multiple(sys, argv=["dimacs", *words], stdout=out, stderr=err), mock.patch("signal.signal"):
-            with warnings.catch_warnings():
-                warnings.simplefilter("ignore")  # the end of the process closes files
+        with tempfile.TemporaryFile() as out, tempfile.TemporaryFile() as err:
+            for stream, it in enumerate([out, err], 1):
+                os.dup2(it.fileno(), stream)
+            with mock.patch.object(sys, "argv", ["dimacs", *map(os.fsdecode, words)]), mock.patch("signal.signal"):
                 status = __main__.main()
+            return status, *(os.pread(it.fileno(), 2**20, 0) for it in (out, err))
     finally:
         os.chdir(here)
-    return status, out.buffer.getvalue(), err.getvalue().encode()
+        for stream, it in enumerate(kept, 1):
+            os.dup2(it, stream)
+            os.close(it)
 
 
-@unittest.skipUnless(EXAMPLES and PROGRAM.is_file(), "no program or examples beside it")
+@unittest.skipUnless(PROGRAM.is_file(), "no program beside it")
 class Command(unittest.TestCase):
     def ran(self, run, words, texts):
         """The status, both outputs and the files that a command leaves in a folder with these texts."""
@@ -86,48 +72,29 @@ class Command(unittest.TestCase):
             return *run(words, folder), {it.name: it.read_bytes() for it in pathlib.Path(folder).iterdir() if it.is_file()}
 
     def same(self, words, texts=FILES):
-        """Runs both; their status. Messages about words that ask for nothing differ: both begin alike."""
+        """Runs both; their status."""
         with self.subTest(words):
             theirs, ours = (self.ran(it, words, texts) for it in (by_program, by_package))
-            if theirs[0] == 2:
-                theirs, ours = ((*it[:2], it[2].split(b"\n")[0], it[3]) for it in (theirs, ours))
             self.assertEqual(ours, theirs)
             return ours[0]
 
     def test_runs(self):
-        statuses = {self.same(it) for it in [[], *WRONG, *map(str.split, COMMANDS)]}
+        statuses = {self.same(it) for it in odd_words() + COMMANDS}
         self.assertEqual(statuses, {0, 1, 2, 3, 5})
 
     def test_explained(self):
-        for words in map(str.split, COMMANDS):
-            if words[0] not in ("show", "convert") and "/dev/null" not in words:  # which can't be read again
+        for words in COMMANDS:
+            if words[0] not in ("explain", "show", "convert") and "/dev/null" not in words:  # which can't be read again
                 self.same(["explain", *words])
-        for words in NAMED:
-            self.same(["explain", *words], EXAMPLES)
         for _, words, own, _ in explain.CASES + explain.YES + explain.OTHERS:
             self.same(["explain", *words.split()], {**explain.TEXTS, **own})
 
-    def test_a_stream_that_is_named_twice(self):
-        """The program can't read a pipe again, to explain it. The answer is the same."""
-        for command in ["judge-infeasible"], ["explain", "judge-infeasible"]:
-            answers = []
-            for by in [PROGRAM], [sys.executable, "-m", "dimacs"]:
-                words = [*by, *command, "/dev/stdin", "/dev/stdin"]
-                ran = subprocess.run(words, input=EXAMPLES["shortage.min"], capture_output=True, check=False)
-                answers.append((ran.returncode, *ran.stdout.splitlines()[:1]))
-            self.assertEqual(*answers)
-
-    def test_help(self):
-        for words in ["help"], ["--help"], ["help", "solve-max"]:
-            self.assertIn(b"solve-max INSTANCE SOLUTION CUT [--limit N]", self.ran(by_package, words, {})[1])
-        self.assertEqual(self.ran(by_package, ["help", "help"], {})[:2], (0, b"dimacs help [COMMAND]\n"))
-
-    def test_a_closed_output(self):
-        words = [sys.executable, "-m", "dimacs", "show", "max", "pipes.max"]
-        with open("/dev/full", "wb") as full:
-            ran = subprocess.run(words, cwd=TOP / "examples", stdout=full, stderr=subprocess.PIPE, check=False)
-        self.assertEqual(ran.returncode, 3)
-        self.assertIn(b"dimacs: standard output: cannot be written: No space left on device (os error 28)\n", ran.stderr)
+    def test_streams(self):
+        for line in STREAMS.strip().splitlines():
+            with self.subTest(line):
+                shells = [["sh", "-c", f'dimacs() {{ {it} "$@"; }}; {line}'] for it in (PROGRAM, f"{sys.executable} -m dimacs")]
+                theirs, ours = (self.ran(ended, it, FILES) for it in shells)
+                self.assertEqual(ours, theirs)
 
 
 class Modules(unittest.TestCase):

@@ -2,6 +2,8 @@
 
 from __future__ import annotations
 
+import array
+import os
 from typing import Any, Callable, Sequence
 
 from . import library
@@ -31,6 +33,29 @@ _VERBS: dict[str, tuple[int, Callable[[int, int], list[int]]]] = {
     "convert": (1, lambda first, second: [LINE + first]),
     "show": (1, lambda first, second: [LINE]),
 }
+
+
+def _ended(words: Sequence[str]) -> Buffer:
+    """The words of a command as the library takes them."""
+    return bytes_of(b"".join(os.fsencode(it) + b"\0" for it in words))
+
+
+def request(words: Sequence[str], same: array.array[int]) -> tuple[int, bytes]:
+    """What the words of a command ask for; `same` has for each the place of the first that names the same regular file, or its
+    own. Returns any status, and the text or the plan."""
+    status, (text,) = library.handed(library.request, *_ended(words).words(), *same.buffer_info(), rooms=[16 * LINE])
+    return status, text
+
+
+def run_words(form: int, words: Sequence[str], texts: Sequence[Buffer], unread: int = 0) -> tuple[int, list[bytes]]:
+    """Runs a command over the texts that its files stand for, of which the one at the place `unread`, from 1, can't be read.
+    Returns any status, what it prints, and the texts that it makes."""
+    read = [*texts, _NO_TEXT, _NO_TEXT, _NO_TEXT][:3]
+    verb, _, kind = words[words[0] == "explain"].partition("-")
+    printed, *made = _VERBS[verb][1](read[0].length, read[1].length)
+    made = [*made[(verb, kind) == ("solve", "paths") :], 0, 0][:2]  # labels are the only text for a file then
+    given = [form, *_ended(words).words(), unread, *(word for it in read for word in it.words())]
+    return library.handed(library.command, *given, rooms=[printed + 16 * LINE, *made], read=read)
 
 
 def run(verb: str, kind: str, texts: Sequence[Buffer], limit: int = LIMIT) -> tuple[int, bytes, list[bytes]]:

@@ -7,9 +7,9 @@ import re
 import threading
 from typing import Any, Callable, Iterator, Sequence, TypeVar
 
-from . import library
+from . import commands, library
 from .answers import Explainable, PastLimit, Refused
-from .buffers import UNLIMITED, Room, array_of, bytes_of
+from .buffers import LIMIT, UNLIMITED, Room, array_of, bytes_of
 from .given import DISTANCES, FLOWS, HEADS, INSIDE, MAX, MIN, POTENTIALS, PREDECESSORS, TAILS, Array, Given, Names
 from .writing import text_of, text_of_instance
 
@@ -27,9 +27,6 @@ _NAMES = {
 ROLES = {"query": "query", "solution": "solution", "distances": "distances"}
 ROLES |= dict.fromkeys(("max", "min", "gr"), "instance") | dict.fromkeys(("cut", "pot", "dist"), "certificate")
 
-#: Begins the name of a text that is in no file; twice, of one that stands for arrays.
-_NO_FILE = "\0"
-
 _Answer = TypeVar("_Answer", bound=Explainable)
 _Made = TypeVar("_Made")
 
@@ -46,10 +43,9 @@ def like(answer: _Answer, old: Explainable) -> _Answer:
     return kept(answer, old._asked)
 
 
-def _explanation(command: str, texts: Sequence[Any]) -> list[str]:
-    words = [bytes_of(command.encode("ascii")), *map(bytes_of, [*texts, b"", b"", b""][:3])]
-    given = (word for it in words for word in it.words())
-    _, (lines,) = library.call_for_texts(library.explain, *given, rooms=[16 * library.LINE], read=words[1:])
+def _explanation(form: int, command: Sequence[str], texts: Sequence[Any]) -> list[str]:
+    status, (lines, *_) = commands.run_words(form, ["explain", *command], [bytes_of(it) for it in texts])
+    library.raise_for(status, b"", library.command, [LIMIT])
     return lines.decode().splitlines()
 
 
@@ -75,14 +71,14 @@ class Asked:
         """What the call is about: "max", "min", "infeasible" or "paths"."""
         return self._call.partition("_")[2]
 
-    def command(self) -> str:
+    def command(self) -> list[str]:
         """The command, and the names of its texts. A certifier that shows nothing writes nothing."""
         if self._call not in _NAMES:
-            return self._call
+            return self._call.split()
         names = _NAMES[self._call].replace("certificate", self._shown).split()
         if self._call.startswith("certify"):
             names = names[: len(self._texts)]
-        return " ".join([self._call.replace("_", "-"), *(_NO_FILE + it for it in names)])
+        return [self._call.replace("_", "-"), *names]
 
     def lines(self) -> list[str]:
         lines = self.told()
@@ -90,7 +86,7 @@ class Asked:
         return [str(self.printed), "the texts hold something else now: the refusal isn't theirs"] if is_changed else lines
 
     def told(self) -> list[str]:
-        return _explanation(self.command(), self._texts)
+        return _explanation(library.IN_NO_FILE, self.command(), self._texts)
 
     def explain(self) -> str:
         return "".join(f"{it}\n" for it in self.lines())
@@ -158,10 +154,9 @@ class AskedOfArrays(Asked):
         if not self._call.startswith("judge"):
             read = 1 if self._call == "certify_infeasible" else 2
             names = [*names[:read], *(it for it in self._more if it == "better")]
-        command = [self._call.replace("_", "-"), *(2 * _NO_FILE + it for it in names)]
-        command += [2 * _NO_FILE + "certificate"] if self._call == "solve_paths" else []
+        command = [self._call.replace("_", "-"), *names, *["certificate"] * (self._call == "solve_paths")]
         try:
-            first, *more = _explanation(" ".join(command), [self._text(it) for it in names])
+            first, *more = _explanation(library.OF_ARRAYS, command, [self._text(it) for it in names])
         except PastLimit:
             return [_CHANGED] if self.printed is None else [self.printed, self.said]
         except Refused:

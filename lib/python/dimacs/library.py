@@ -11,7 +11,10 @@ from typing import Any, Callable, Iterable, Sequence
 from .answers import Beyond, GaveUp, Pair, PastLimit, Refused, Verdict
 from .buffers import Buffer, Room
 
-DONE, REFUSED, MISUSED, NO_MEMORY, GAVE_UP = 0, 1, 2, 4, 5
+DONE, REFUSED, MISUSED, DEVICE, NO_MEMORY, GAVE_UP, RUN = range(7)
+
+#: What the texts of a command are: files, in no file, or made of arrays.
+FILES, IN_NO_FILE, OF_ARRAYS = range(3)
 
 #: Room for any line, except for answers to pairs.
 LINE = 256
@@ -85,7 +88,8 @@ spread = _export("dimacs_spread", _number, texts=2, rooms=2)
 solve = _export("dimacs_solve", _number, texts=2, more=[_limit], rooms=3)
 convert = _export("dimacs_convert", _number, texts=1)
 show = _export("dimacs_show", _number, texts=1)
-explain = _export("dimacs_explain", texts=4)
+request = _export("dimacs_request", texts=2)
+command = _export("dimacs_command", _number, texts=1, more=[_number, *[_address, _size] * 3], rooms=3)
 
 
 def _reader(
@@ -214,21 +218,26 @@ def call(function: _Call, *words: Any, read: Sequence[Buffer] = ()) -> tuple[int
 
 
 def call_for_texts(function: _Call, *words: Any, rooms: Sequence[int], read: Sequence[Buffer] = ()) -> tuple[int, list[bytes]]:
-    """Makes a call that hands out texts, again if one of them is longer than its room. Returns its status and the texts. What it
-    reads, the instance first, says whether it is a long one."""
+    """Makes a call that hands out texts. Returns its status and the texts."""
+    status, outputs = handed(function, *words, rooms=rooms, read=read)
+    raise_for(status, outputs[0], function, words)
+    return status, outputs
+
+
+def handed(function: _Call, *words: Any, rooms: Sequence[int], read: Sequence[Buffer] = ()) -> tuple[int, list[bytes]]:
+    """The same for any status. A call is made again if a text is longer than its room. What it reads, the instance first, says
+    whether it is a long one."""
     arcs = read[0].length // _ARC if read else 0
     while True:
         needed = [_size() for _ in rooms]
         texts = [ctypes.create_string_buffer(room) for room in rooms]
-        handed = [word for it in zip(texts, rooms, map(ctypes.byref, needed)) for word in it]
-        status = _status(function, (*words, *handed), arcs, read)
+        places = [word for it in zip(texts, rooms, map(ctypes.byref, needed)) for word in it]
+        status = _status(function, (*words, *places), arcs, read)
         lengths = [it.value for it in needed]
         if all(length <= room for length, room in zip(lengths, rooms)):
             break
         rooms = [max(it) for it in zip(lengths, rooms)]
-    outputs = [ctypes.string_at(*it) for it in zip(texts, lengths)]
-    raise_for(status, outputs[0], function, words)
-    return status, outputs
+    return status, [ctypes.string_at(*it) for it in zip(texts, lengths)]
 
 
 def call_with_rooms(function: _Call, words: Sequence[Any], rooms: Iterable[Room], arcs: int = 0) -> tuple[int, bytes]:
