@@ -1,7 +1,7 @@
 # Builds for other systems, of the module kept beside what was built for this one: in build/TARGET, or with UNPROVED=1 in
 # build/quick/TARGET. The Makefile includes it.
 CALLS = $(shell grep -o '^uint32_t dimacs_[a-z_]*' lib/include/dimacs.h | cut -d' ' -f2)
-PAGE_CALLS = $(addprefix dimacs_,proved version_text judge certify solve explain)
+PAGE_CALLS = $(addprefix dimacs_,proved version_text command)
 TOOLCHAIN = $(or $(KIT),kit-is-missing)/toolchain/bin
 
 ## make wasm: builds build/wasm/dimacs.wasm, which is not proved but compiled from what is; UNPROVED=1 takes what isn't
@@ -35,12 +35,11 @@ npm: $(FROM)/npm/dimacs.tgz
 
 JS = $(filter-out lib/js/package.json,$(wildcard lib/js/*.js lib/js/*.ts lib/js/*.json lib/js/README.md))
 
-%/npm/dimacs.tgz: %/wasm/dimacs.wasm %/dimacs lib/js/package.json $(JS) tools/targets/usage.py VERSION
+%/npm/dimacs.tgz: %/wasm/dimacs.wasm lib/js/package.json $(JS) VERSION
 	rm -rf $(@D)
 	mkdir -p $(@D)/package
 	cp $(JS) $< $(@D)/package
 	sed 's/"version": .*/"version": "$(VERSION)$(if $(UNPROVED),-unproved)",/' lib/js/package.json >$(@D)/package/package.json
-	tools/targets/usage.py $*/dimacs $(@D)/package/usage.json
 	cd $(@D) && tar --sort=name --mtime=@0 --owner=0 --group=0 --numeric-owner -c package | gzip -9n >dimacs.tgz
 
 ## make page: makes build/page/dimacs.html, one file that checks and solves in a browser, and needs no server

@@ -31,7 +31,7 @@ import scripts
 import usage
 from instances import Folder
 from library import CC, TEST, WARN, WRAPPED, package, run
-from rows import rows
+from rows import odd_words, rows
 from scripts import TOP
 
 JS = f"{TOP}/tests/js"
@@ -159,39 +159,6 @@ def runs_over_examples():
     return found
 
 
-# What no example shows, no row of tests/rows/commands, and no words of tests/usage.py: a line for each.
-SPECIAL = """
-
-convert gr examples
-certify-max examples/pipes.max examples/pipes-careless.solution examples/missing/out
-certify-min examples/freight.min examples
-certify-paths examples/road-faulty.gr examples out
-judge-max examples/pipes.max examples/road.gr examples
-judge-max examples/pipes.max examples examples/pipes.cut
-judge-infeasible examples/shortage.min examples
-solve-max examples/pipes.max out cut --limit +1000
-solve-min examples/freight.min out pot --limit 2
-solve-min examples/freight.min out out
-solv-max
-slove-max
-show idst examples/road.dist
-show POTS examples/road.dist
-help constructor
-solve-max --limit --limit 5
-solve-max examples/pipes.max out cut --limit --limit 5
-explain explain
-explain convert gr examples/road-faulty.gr
-explain show gr missing
-"""
-
-# Names with blanks, and with what might stand in for one.
-ODD = {"two words": "pipes.max", "two\1words": "pipes-careless.solution", "two\twords": "pipes.cut"}
-ODDLY_NAMED = [
-    ["explain", "certify-max", "examples/pipes.max", "examples/pipes-careless.solution", "one \tname"],
-    ["explain", "judge-max", *ODD],
-    ["explain", "judge-max", *reversed(ODD)],
-]
-
 # What is run with an output that is full.
 FULL = ["help", "--version", "help help", "help show", "frobnicate", "show gr examples/road.gr", "show gr missing"]
 
@@ -199,46 +166,41 @@ FULL = ["help", "--version", "help help", "help show", "frobnicate", "show gr ex
 def outcome(words, room, **outputs):
     """The status, output, complaint and files of a command."""
     place = tempfile.mkdtemp(dir=room)
-    for name, example in {"examples": "", **ODD}.items():
-        os.symlink(f"{TOP}/examples/{example}", f"{place}/{name}")
+    os.symlink(f"{TOP}/examples", f"{place}/examples")
     os.mkdir(f"{place}/denied")
     for name, text in {**dict(rows("files")), **usage.SLIPPED}.items():
         Folder(place).write(name, text)
     outputs = {"stdout": subprocess.PIPE, "stderr": subprocess.PIPE} | outputs
     ran = subprocess.run(words, cwd=place, check=False, **outputs)
     files = {}
-    for name in set(os.listdir(place)) - {"examples", "denied", *ODD}:
+    for name in set(os.listdir(place)) - {"examples", "denied"}:
         with open(f"{place}/{name}", "rb") as it:
             files[name] = it.read()
     return ran.returncode, ran.stdout or b"", ran.stderr or b"", files
 
 
 def compare_commands(tests, name, words, likened=lambda text: text):
-    """Runs another command as the program for this system: over the examples, for help and misuse, and with a full output."""
+    """Runs another command as the program for this system: over the examples, for odd words, and with a full output."""
     over_examples = runs_over_examples()
     every = 1 if tests.is_all else max(1, len(over_examples) // 40)
-    special = [line.split() for line in SPECIAL.split("\n")[1:-1]] + [words.split() for words, _ in usage.SLIPS]
+    given = [words.split() for words, _ in usage.SLIPS]
     for row, *_ in rows("commands"):
-        special.append(row.split() if row.startswith(("convert", "show")) else ["explain", *row.split()])
-    helped = ["--help", "-h", "--version", "-V", "help", *(f"help {it}" for it in usage.usages())]
-    wrong = [it for it, _, _ in usage.WRONG]
+        given.append(row.split() if row.startswith(("convert", "show")) else ["explain", *row.split()])
 
     def compare(arguments, **outputs):
         ran = [outcome([*it, *arguments], tests.room, **outputs) for it in ([f"{tests.build}/dimacs"], words)]
-        wanted, found = ((status, likened(out), likened(told), files) for status, out, told, files in ran)
+        wanted, found = ((status, likened(out), told, files) for status, out, told, files in ran)
         tests.expect(f"{name} {arguments}", found == wanted, f"{found}\nand not {wanted}")
 
-    words_alone = [*map(str.split, helped), *wrong, ["show", "gr", "two\n\u202elines\t"], *ODDLY_NAMED]
-    for it in [*over_examples[::every], *special, *words_alone]:
+    for it in [*over_examples[::every], *given, *odd_words()]:
         compare(it)
     with open("/dev/full", "wb") as full:
         for it, output in itertools.product(FULL, ("stdout", "stderr")):
             compare(it.split(), **{output: full})
 
 
-def in_words_of_node(text):
-    """Node says in its own words why the system failed a file."""
-    text = re.sub(rb"(: cannot be \w+): .*", rb"\1", text)
+def untranslated(text):
+    """The version in node says more."""
     return re.sub(rb"^compiled to WebAssembly, .*\n", b"", text, flags=re.MULTILINE)
 
 
@@ -246,7 +208,7 @@ def test_command(tests):
     if not tests.made("npm/dimacs.tgz", "dimacs"):
         return
     command = ["node", f"{tests.build}/npm/package/cli.js"]
-    compare_commands(tests, "npx dimacs", command, in_words_of_node)
+    compare_commands(tests, "npx dimacs", command, untranslated)
     for module in ("/dev/null", f"{tests.room}/missing"):
         environment = {**os.environ, "DIMACS_WASM": module}
         ran = run(*command, "show", "gr", f"{TOP}/examples/road.gr", env=environment)

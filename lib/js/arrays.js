@@ -22,13 +22,13 @@ function keeping(name, given, lines, handed, call) {
     const kind = name.split("_")[1];
     try {
         const answer = call();
-        return kept(answer, `judge-${kind}`, given.asked.with(handed), null);
+        return kept(answer, () => given.asked.with(handed).explanation(`judge-${kind}`));
     } catch (why) {
-        if (why instanceof Infeasible) kept(why, "judge-infeasible", given.asked.with({inside: why.inside}), null);
+        if (why instanceof Infeasible) kept(why, () => given.asked.with({inside: why.inside}).explanation("judge-infeasible"));
         else if (why instanceof Refused) {
             const better = why instanceof NotOptimal ? why.better : why instanceof Feasible ? why.flow : null;
             const asked = better ? given.asked.with({better}) : given.asked;
-            kept(why, name.replace("_", "-"), asked, lines[0], why.message);
+            kept(why, () => asked.explanation(name.replace("_", "-"), lines[0], why.message));
         }
         throw why;
     }

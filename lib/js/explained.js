@@ -1,11 +1,11 @@
-// What explains an answer: the command that gives it, run once more over the same texts, or over texts made of arrays.
+// What explains an answer: the command that gives it, run once more over the same texts.
 // The printed line is proved to be the answer's; the lines after it aren't.
 import {bytesOf, inFormOf} from "./bytes.js";
-import {DONE, LINE, Room, VERBS} from "./library.js";
-import {library, texts} from "./loaded.js";
+import {IN_NO_FILE} from "./library.js";
+import {texts} from "./loaded.js";
 
 /** The names of each command's texts, which the lines quote: those that refusals have for them. */
-function namesOf(command) {
+export function namesOf(command) {
     const [verb, kind] = command.split("-");
     if (verb === "spread") return ["instance", "solution", "spread"];
     if (kind === "infeasible") return ["instance", "certificate"];
@@ -23,114 +23,32 @@ export const SINGLE = {
     dist: "certificate",
 };
 
-/** What answers were asked of, which lives as long as they do. */
-const ASKED = new WeakMap();
+/** What explains answers. It lives as long as they do. */
+const EXPLAINED = new WeakMap();
 
-/** An answer, kept with the command and the texts that it was asked of. */
-export function kept(answer, ...asked) {
-    ASKED.set(answer, asked);
+/** An answer, kept with the call that explains it. */
+export function kept(answer, explains) {
+    EXPLAINED.set(answer, explains);
     return answer;
 }
 
-/** Begins the name of a text that is in no file; twice, of one that stands for arrays. */
-const NO_FILE = "\0";
-
-/** The command as it is typed. A certifier with no third text names none, and shows what it found by another name. */
-function commandOf(command, count, shown, front) {
+/** The words of a command. A certifier with no third text names none, and shows what it found by another name. */
+export function wordsOf(command, count, shown = "certificate") {
     const [verb, kind] = command.split(" ");
-    if (kind) return `${command} ${SINGLE[kind] ?? "instance"}`;
-    const names = namesOf(verb).map((name) => front + (name === "certificate" ? shown : name));
-    return [verb, ...(verb.startsWith("certify") ? names.slice(0, count) : names)].join(" ");
+    if (kind) return [verb, kind, SINGLE[kind] ?? "instance"];
+    const names = namesOf(verb).map((name) => (name === "certificate" ? shown : name));
+    return [verb, ...(verb.startsWith("certify") ? names.slice(0, count) : names)];
 }
 
 /** The lines that `dimacs explain` prints. */
 export function explanationOf(answer) {
-    if (!ASKED.has(answer)) throw new TypeError("this answer doesn't keep what it was asked of");
-    const [command, given, shown, said] = ASKED.get(answer);
-    if (typeof command === "function") return command();
-    return given instanceof AskedOfArrays ? given.explanation(command, shown, said) : explanation(command, given, shown);
+    if (!EXPLAINED.has(answer)) throw new TypeError("this answer doesn't keep what it was asked of");
+    return EXPLAINED.get(answer)();
 }
 
 /** The lines for a command over texts; `shown` names the last one, if it isn't the certificate. */
-export function explanation(command, given, shown, front = NO_FILE) {
-    const words = bytesOf(commandOf(command, given.length, shown, front));
-    const {handed: [lines]} = texts.explain(words, given.map(bytesOf));
+export function explanation(command, given, shown, form = IN_NO_FILE) {
+    const words = ["explain", ...wordsOf(command, given.length, shown)];
+    const {handed: [lines]} = texts.command(form, words, given.map(bytesOf));
     return inFormOf("", lines);
-}
-
-// ---- arrays
-
-const CHANGED = "the arrays hold other numbers now, and these are refused: the answer isn't theirs\n";
-
-/** The marks in lines about arrays, before some numbers. */
-const MARKS = /[\x01-\x03]/g;
-
-/** The text that the library writes of arrays, or null if it refuses them. */
-function written(name, ...words) {
-    const {status, handed: [text]} = library.call(`dimacs_write_${name}`, words, [new Room(Uint8Array, LINE)]);
-    return status === DONE ? inFormOf("", text) : null;
-}
-
-/**
- * A call over arrays: the form of its instance, the instance as the library takes it, its numbers, and arrays by their
- * names.
- */
-export class AskedOfArrays {
-    constructor(form, instance, numbers, arrays) {
-        Object.assign(this, {form, instance, numbers, arrays});
-    }
-
-    /** The same with arrays that were handed out. */
-    with(arrays) {
-        return new AskedOfArrays(this.form, this.instance, this.numbers, {...this.arrays, ...arrays});
-    }
-
-    /** The lines for arrays that were refused by the line `printed`, with the message `said`, or null. None quotes a text. */
-    explanation(command, printed, said) {
-        const [verb, kind] = command.split("-"), count = command === "certify-infeasible" ? 1 : VERBS[verb][0];
-        const made = namesOf(command).slice(0, count).map((name) => this.#text(kind, name));
-        if (this.arrays.better) made.push(this.#solution(this.arrays.better));
-        const told = made.includes(null) ? "x" : explanation(command, made, "better", NO_FILE + NO_FILE);
-        const [first, ...more] = told.split("\n");
-        if (!printed && first.startsWith("x ")) return CHANGED;
-        if (printed && !isSame(first, printed)) return `${printed}\n${this.#own(printed) ?? said}\n`;
-        return [printed ?? first, ...more].join("\n").replace(MARKS, "");
-    }
-
-    /** What explains a refusal that no text has, if it isn't what the error says. */
-    #own(printed) {
-        const {source} = this.numbers;
-        if (printed !== `x node ${source} NotShortest`) return null;
-        return `node ${source} is the source: its distance has to be 0, and is ${this.arrays.distances[source - 1]}`;
-    }
-
-    #text(kind, name) {
-        const {source} = this.numbers, {flows, inside, potentials, distances, predecessors} = this.arrays;
-        if (name === "instance") return written(this.form, this.instance);
-        if (name === "query") return `p aux sp ss 1\ns ${source}\n`;
-        if (name === "solution") return this.#solution(flows);
-        if (name === "distances") return written("distances", source, distances);
-        if (kind === "paths") return written("labels", source, distances, predecessors);
-        return kind === "min" ? written("potentials", potentials) : written("cut", inside);
-    }
-
-    /** The value or the cost of a flow. */
-    valueOf(flows) {
-        const {tails, heads, costs} = this.arrays, {source} = this.numbers;
-        const times = (arc) => (costs ? costs[arc] : BigInt((tails[arc] === source) - (heads[arc] === source)));
-        return flows.reduce((sum, flow, arc) => sum + flow * times(arc), 0n);
-    }
-
-    /** Its value may take more than 64 bits. */
-    #solution(flows) {
-        const {tails, heads} = this.arrays, text = written("solution", 0n, this.numbers.nodes, tails, heads, flows);
-        return text && `s ${this.valueOf(flows)}${text.slice(text.indexOf("\n"))}`;
-    }
-}
-
-/** Whether texts are refused as the arrays were: for the same arc or node, or as a whole. */
-function isSame(first, printed) {
-    const [found, mine] = [first, printed].map((it) => it.split(" "));
-    const isThere = !["arc", "node"].includes(mine[1]) || (found[1] === mine[1] && found[2] === mine[2]);
-    return found[0] === "x" && found.at(-1) === mine.at(-1) && isThere;
 }

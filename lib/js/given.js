@@ -1,6 +1,6 @@
 // The arguments of a call over arrays, as the library takes them.
 import {MOST_NODES, saying} from "./compared.js";
-import {AskedOfArrays} from "./explained.js";
+import {AskedOfArrays} from "./asked.js";
 import {InArrays, Room} from "./library.js";
 import {DISTANCES, IDS, MARKS, NUMBERS} from "./numbers.js";
 

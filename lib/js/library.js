@@ -1,7 +1,10 @@
 // The WebAssembly module of the library, and how one of its calls is made.
 
 /** What a call returns, as in dimacs.h. */
-export const DONE = 0, REFUSED = 1, MISUSED = 2, NO_MEMORY = 4, GAVE_UP = 5;
+export const DONE = 0, REFUSED = 1, MISUSED = 2, DEVICE = 3, NO_MEMORY = 4, GAVE_UP = 5, RUN = 6;
+
+/** What the texts of a command are: files, in no file, or made of arrays. */
+export const FILES = 0, IN_NO_FILE = 1, OF_ARRAYS = 2;
 
 /** The kinds of claim, and those of text, as in dimacs.h. */
 export const PROBLEMS = {max: 0, min: 1, infeasible: 2, paths: 3};
@@ -238,8 +241,22 @@ export class Texts {
         return this.#call(`dimacs_${verb}`, words, roomsFor(...read.map((it) => it.length)));
     }
 
-    /** The words of a command, and the texts that its files stand for, of which some may be missing. */
-    explain(command, texts) {
-        return this.#call("dimacs_explain", [command, ...[...texts, NONE, NONE].slice(0, 3)], [16 * LINE]);
+    /** What words ask for that end with a byte 0 each; `same` has for each the place of the first that names the same file. */
+    request(words, same) {
+        return this.#call("dimacs_request", [words, Uint32Array.from(same)], [16 * LINE]);
     }
+
+    /** Runs a command over the texts of its files, of which the one at the place `unread`, from 1, can't be read. */
+    command(form, words, given, unread = 0) {
+        const read = [...given, NONE, NONE, NONE].slice(0, 3), [verb, kind] = words[words[0] === "explain" ? 1 : 0].split("-");
+        const [printed, ...made] = VERBS[verb][1](read[0].length, read[1].length);
+        const ofFiles = verb === "solve" && kind === "paths" ? made.slice(1) : made;
+        const rooms = [printed + 16 * LINE, ...ofFiles, 0, 0].slice(0, 3);
+        return this.#call("dimacs_command", [form, endedWords(words), unread, ...read], rooms);
+    }
+}
+
+/** The words of a command as the library takes them. */
+function endedWords(words) {
+    return new TextEncoder().encode(words.map((it) => `${it}\0`).join(""));
 }

@@ -18,7 +18,7 @@ function decided({status, handed: [printed, ...more]}, name, limit) {
 function asked(command, read, call) {
     try {
         const answer = call(), shown = answer instanceof Certified ? [answer.certificate] : [];
-        return kept(answer, command, [...read, ...shown], "certificate");
+        return kept(answer, () => explanation(command, [...read, ...shown]));
     } catch (why) {
         if (why instanceof Refused) keepRefused(why, command, read);
         throw why;
@@ -26,10 +26,10 @@ function asked(command, read, call) {
 }
 
 function keepRefused(no, command, read) {
-    if (no instanceof Infeasible) return kept(no, command, [read[0], "", no.certificate], "certificate");
-    const shown = no instanceof NotOptimal ? "better" : no instanceof Feasible ? "flow" : null;
+    if (no instanceof Infeasible) return kept(no, () => explanation(command, [read[0], "", no.certificate]));
+    const shown = no instanceof NotOptimal ? "better" : no instanceof Feasible ? "flow" : undefined;
     const given = shown && no[shown] !== null ? [...read, no[shown]] : read;
-    return kept(no, () => unchanged(no, explanation(command, given, shown ?? "certificate")));
+    return kept(no, () => unchanged(no, explanation(command, given, shown)));
 }
 
 /** The lines that explain a refusal, if it is still that of its texts. */

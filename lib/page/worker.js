@@ -1,19 +1,20 @@
-// The worker: makes the calls, over the bytes of texts.
-import {explanation} from "../js/explained.js";
-import {DONE, GAVE_UP, Library, Texts} from "../js/library.js";
+// The worker: runs commands over the bytes of texts.
+import {explanation, wordsOf} from "../js/explained.js";
+import {DONE, GAVE_UP, IN_NO_FILE, Library, Texts} from "../js/library.js";
 
 /** The calls, and the last run. */
 let texts, last;
 
-/** Makes the call of a plan, and keeps what explains it. */
+/** Runs the command of a plan, and keeps what explains it. */
 function called({verb, kind, certificate, given}) {
-    const {status, handed: [printed, ...made]} = texts.run(verb, kind, given);
+    const words = wordsOf(`${verb}-${kind}`, 3);
+    const {status, handed: [printed, ...made]} = texts.command(IN_NO_FILE, words, given);
     const isInfeasible = verb === "solve" && String.fromCharCode(...printed.subarray(0, 12)) === "v infeasible";
-    const shows = isInfeasible ? "cut" : certificate, isMade = verb === "solve" || status !== DONE;
-    const names = isMade ? ["solution", shows] : [shows];
-    last = {verb, kind: isInfeasible ? "infeasible" : kind, given, status, printed, made: made.filter((it) => it.length)};
-    const files = made.map((bytes, i) => ({name: names[i], bytes}));
-    return {status, printed, files: status === GAVE_UP ? [] : files.filter((it) => it.bytes.length)};
+    const shows = isInfeasible ? "cut" : certificate, isShown = kind === "paths" || (verb !== "solve" && status === DONE);
+    const names = isShown ? [shows] : ["solution", shows];
+    const files = made.map((bytes, i) => ({name: names[i], bytes})).filter((it) => it.bytes.length);
+    last = {verb, kind: isInfeasible ? "infeasible" : kind, given, status, printed, made: files.map((it) => it.bytes)};
+    return {status, printed, files};
 }
 
 /** What lines say of commands and files, which nobody has here, and what stands there instead. */
