@@ -39,8 +39,12 @@ function attempt(shown, call, run) {
 
 /** For each word the place of the first that names the same regular file, or its own. */
 function sameOf(words) {
-    const found = words.map(identity);
-    return found.map((it, i) => (it ? found.indexOf(it) : i));
+    const first = new Map();
+    return words.map((name, place) => {
+        const file = identity(name) ?? place;
+        if (!first.has(file)) first.set(file, place);
+        return first.get(file);
+    });
 }
 
 function identity(name) {

@@ -1,13 +1,18 @@
 //! Which arguments name the same file.
 
+use dimacs_runs::request;
 use std::alloc::AllocError;
 use std::fs;
 use std::os::unix::fs::MetadataExt;
 
 /// For each word the place of the first that names the same regular file, or its own. Nothing is lost of other files.
+/// None for words that ask for nothing, which may be many.
 pub fn same_files(rt: &HostRuntime, words: &[String]) -> Result<Vec<u32>, AllocError> {
     let mut found = Vec::new(rt.alloc());
     let mut same = Vec::new(rt.alloc());
+    if request(words).is_none() {
+        return Ok(same);
+    }
     for (place, word) in words.iter().enumerate() {
         let file = regular(rt, word.as_str());
         let first = first_place(&found, file).unwrap_or(place);
