@@ -1,3 +1,4 @@
 mod CycleLemmas
+mod OnlyLemmas
 mod OppositeLemmas
 mod WalkLemmas

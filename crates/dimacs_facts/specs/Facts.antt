@@ -1,7 +1,7 @@
 -- Facts about flows.
-use Rattle.std.specs.Prelude.{ℕ, ◌≡◌, ◌≢◌, ◌<◌, List, length, ℤ, pos, neg_ℤ, ◌≤ℤ◌}
+use Rattle.std.specs.{Prelude.{ℕ, ◌≡◌, ◌≢◌, ◌<◌, List, length, ℤ, pos, neg_ℤ, ◌≤ℤ◌}, List.{All}}
 use Rattle.dimacs_claims.specs.{Potentials.{PotentialsValue, potential_of}, SolutionTexts.{SolutionValue}}
-use Rattle.dimacs_network.specs.Arcs.{arc_at}
+use Rattle.dimacs_network.specs.{Arcs.{JoinsNodes, arc_at}, declared.network.ArcView.{ArcView}}
 use Rattle.dimacs_instance.specs.{MaxFlows.{MaxValue}, MinFlows.{MinValue}}
 use Rattle.dimacs_judging.specs.{Feasible.{FeasibleMax, FeasibleMin, value}, Flows.{cost}, Claims.{Carries}}
 use Rattle.dimacs_judging.specs.{Optimum.{Least}, Potentials.{Slack, reduced_cost}, Rows.{amount_at}}
@@ -23,3 +23,17 @@ abbrev pub SameButTight : MinValue → SolutionValue → PotentialsValue → Typ
 SameButTight i s p =
     (x : List ℤ) × Carries i.arcs s.entries x × ((y : List ℤ) → FeasibleMin i y → cost i.arcs y ≤ℤ cost i.arcs x
     → (k : ℕ) → k < length i.arcs → reduced_cost (potential_of p) (arc_at i.arcs k) ≢ pos 0 → amount_at x k ≡ amount_at y k)
+
+-- no arc has the reduced cost 0
+abbrev pub NoneTight : List ArcView → (ℕ → ℤ) → Type 0
+NoneTight arcs p = (k : ℕ) → k < length arcs → reduced_cost p (arc_at arcs k) ≢ pos 0
+
+-- if potentials are slack for a flow, and no arc has the reduced cost 0, no other flow costs as little
+abbrev pub OnlyFlowLaw : Type 0
+OnlyFlowLaw =
+    (i : MinValue) → All (JoinsNodes i.nodes) i.arcs → (x y : List ℤ) (p : ℕ → ℤ) → FeasibleMin i x → Slack i.arcs x p → NoneTight i.arcs p
+    → FeasibleMin i y → cost i.arcs y ≤ℤ cost i.arcs x → x ≡ y
+
+-- a feasible flow that costs as little as the claimed one is that flow
+abbrev pub OnlyFlow : MinValue → SolutionValue → Type 0
+OnlyFlow i s = (x : List ℤ) × Carries i.arcs s.entries x × ((y : List ℤ) → FeasibleMin i y → cost i.arcs y ≤ℤ cost i.arcs x → x ≡ y)

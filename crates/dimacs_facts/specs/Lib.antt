@@ -1,3 +1,4 @@
+pub mod Blocks
 pub mod Cycles
 pub mod Facts
 pub mod Walks

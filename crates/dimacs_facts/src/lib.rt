@@ -2,11 +2,13 @@
 //! here shows one, and its contract states it; a sentence of `dimacs_explain` that asserts it requires it.
 #![tactic(auto)]
 
+mod blocks;
 mod cycle;
 mod feasible;
 mod laws;
 mod least;
 mod no_flow;
+mod only;
 mod opposite;
 mod search;
 mod steps;
@@ -15,10 +17,12 @@ mod too_near;
 mod unreached;
 mod walks;
 
+pub use blocks::{block_from, is_alone, others_unreached};
 pub use cycle::is_negative_cycle;
 pub use feasible::{excess, feasible_cost, feasible_value};
-pub use laws::{negative_cycle_has_no_distance, same_but_tight};
+pub use laws::{negative_cycle_has_no_distance, no_other_flow, same_but_tight};
 pub use no_flow::{all_nodes, one_node, shows_no_flow};
+pub use only::shows_only_flow;
 pub use opposite::opposite_shows;
 pub use search::walks_from;
 pub use steps::Steps;

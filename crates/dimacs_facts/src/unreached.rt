@@ -16,13 +16,13 @@ pub struct Unreached {
 
 /// The source, and the radius of a block from it, if labels that are distances give the node none there.
 pub fn unreached_from<N: Network>(
-    graph: &Graph<N>,
+    _graph: &Graph<N>,
     labels: &Labels,
     source: u32,
     node: u32,
 ) -> Option<Unreached>
-    requires { AreDistances graph.now.arcs labels.now.blocks }
-    ensures { IfSome result (λ it. IsDistance graph.now.arcs it.source node None it.radius) }
+    requires { AreDistances _graph.now.arcs labels.now.blocks }
+    ensures { IfSome result (λ it. IsDistance _graph.now.arcs it.source node None it.radius) }
 {
     for (k, block) in labels.blocks().iter().enumerate() {
         if block.source() == source && labels.label(k, node).is_none() {
