@@ -1,0 +1,4 @@
+mod ArgumentLemmas
+mod VerbLemmas
+mod RequestLemmas
+mod OneRequest

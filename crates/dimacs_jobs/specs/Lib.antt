@@ -1,0 +1,4 @@
+pub mod Jobs
+pub mod OneRequest
+pub mod Outcomes
+pub mod Version
