@@ -3,7 +3,7 @@ use Rattle.std.proofs.Common.{ℕ, ◌≡◌, ◌≢◌, ◌+◌, ◌*◌, ◌/�
 use Rattle.std.proofs.lemmas.List.{append_assoc, append-nil}
 use Rattle.std.proofs.lemmas.List.Elements.{All-cons, All-head, All-nil, All-tail}
 use Rattle.std.specs.List.{All}
-use Rattle.dimacs_quote.specs.inside.ShellWords.{IsAlphanumeric, IsPlain, Prints, Reads}
+use Rattle.dimacs_quote.specs.ShellWords.{IsAlphanumeric, IsPlain, Prints, Reads}
 
 pub plain_reads : (bytes : List ℕ) → All IsPlain bytes → Reads bytes bytes
 plain_reads [] all = Reads.end

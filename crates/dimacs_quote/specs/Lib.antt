@@ -1,1 +1,3 @@
-pub mod inside
+pub mod ShellWords
+pub mod Texts
+pub mod Typed

@@ -195,12 +195,14 @@ impl<'a, A: Reopen> Page<'a, A> {
             }
         }
         let fault = FaultLine::new(self.alloc, text, at, reason, before, b"")?;
-        self.name_place(&fault);
+        self.out.name_place(&fault);
         Ok(fault)
     }
+}
 
+impl Prose {
     /// Names the place of a fault at the end of a text, or at a line that is too long to be read.
-    fn name_place(&mut self, fault: &FaultLine<'a>) {
+    fn name_place(&mut self, fault: &FaultLine<'_>) {
         match (fault.reason, fault.before.lines) {
             (Reason::LineTooLong | Reason::LineLimit, _) =>
                 say!(self; "{}:{}: ", fault.text, fault.line),

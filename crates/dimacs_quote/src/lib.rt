@@ -28,4 +28,4 @@ pub use page::{FoundLine, Page, Reopen};
 pub use prose::Prose;
 pub use sentence::{Value, ending};
 pub use stop::{OrStop, Said, Stop};
-pub use texts::{Purpose, TextFile, Texts, is_file};
+pub use texts::{Purpose, StandFor, TextFile, Texts};

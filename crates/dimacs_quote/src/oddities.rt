@@ -52,7 +52,12 @@ pub(crate) fn unread_kind(line: &[u8]) -> Option<&'static str> {
     match (text_at(line, 1), text_at(line, 2)) {
         (b"p", b"edge" | b"col") => Some("a graph to be coloured, which is no kind of text here"),
         (b"p", b"cnf") => Some("a formula (cnf), which is no kind of text here"),
-        (b"p", b"asn") => Some("an assignment problem, which is no kind of text here"),
+        (b"p", b"asn") => Some(
+            "an assignment problem, which a min text states with supplies 1 and -1, LOW 0 and CAP 1",
+        ),
+        (b"p", b"aux") if matches!(text_at(line, 4), b"co") => Some(
+            "coordinates (co), which are no kind of text here",
+        ),
         _ => None,
     }
 }

@@ -1,5 +1,7 @@
 //! The page on which an explanation is written, and the texts that it is about.
 
+ghost use Rattle.std.specs.Prelude.{IfOk, IfSome, List, Option, ℕ};
+
 use crate::items::{entry_arc, item};
 use crate::lines::TextLines;
 use crate::lookups::Wanted;
@@ -18,8 +20,12 @@ pub trait Reopen {
     /// A file opened for reading.
     type Input: Source + Drop;
 
+    /// These bytes may come from the file with a name; `None` if they aren't known, as those of the system's files.
+    ghost reopens: { Self → List ℕ → Option (List ℕ) → Type 0 };
+
     /// Opens a file for reading; none if that fails.
-    fn open(&self, name: &str) -> Option<Self::Input>;
+    fn open(&self, name: &str) -> Option<Self::Input>
+        ensures coming { IfSome result (λ file. reopens self.now name.now (Self.Input.coming file)) };
 }
 
 /// A line that was looked for.
@@ -64,11 +70,6 @@ impl<'a, A: Reopen> Page<'a, A> {
         }
     }
 
-    /// Writes a sentence, with the next value for each `{}`.
-    pub fn write(&mut self, sentence: &str, values: &[Value<'_>]) {
-        self.out.write(sentence, values);
-    }
-
     /// Words about texts, or those about the arrays for which they stand.
     pub fn words(&self, of_texts: &'static str, of_arrays: &'static str) -> &'static str {
         if self.texts.are_arrays() {
@@ -80,11 +81,13 @@ impl<'a, A: Reopen> Page<'a, A> {
 
     /// Reports that a file can't be read again.
     pub fn write_unread(&mut self, file: &str) {
-        say!(self; "{}: is no file that can be read again, so its lines are left out\n", Value::File(file));
+        say!(self.out; "{}: is no file that can be read again, so its lines are left out\n", Value::File(file));
     }
 
     /// A text, to be read again.
-    pub fn source(&self, text: TextFile<'a>) -> OrStop<'a, A::Input> {
+    pub fn source(&self, text: TextFile<'a>) -> OrStop<'a, A::Input>
+        ensures coming { IfOk result (λ file. A.reopens self.now.again.now text.entry.file.now (A.Input.coming file)) }
+    {
         self.again.open(text.file).ok_or(text.unread())
     }
 

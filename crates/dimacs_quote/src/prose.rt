@@ -1,5 +1,7 @@
 //! Text that is written piece by piece.
 
+ghost use Rattle.std.specs.{Prelude.{◌≡◌, ◌++◌, IsTrue}, String.{string_bytes}};
+
 use dimacs_lines::Memory;
 use std::alloc::Global;
 
@@ -9,7 +11,8 @@ pub(crate) const MARKS: [char; 3] = ['\u{1}', '\u{2}', '\u{3}'];
 /// A text that is written piece by piece. If memory runs out, it is lost.
 #[derive(Drop)]
 pub struct Prose {
-    pub(crate) alloc: Global,
+    /// The allocator.
+    pub alloc: Global,
     pub(crate) text: String,
     /// Memory ran out.
     pub is_lost: bool,
@@ -27,7 +30,9 @@ impl Prose {
     }
 
     /// Adds a text.
-    pub fn push(&mut self, text: &str) {
+    pub fn push(&mut self, text: &str)
+        ensures { ¬ IsTrue self.new.is_lost → string_bytes self.new.text ≡ string_bytes self.old.text ++ text.now }
+    {
         self.is_lost |= self.text.push_str(text).is_err();
     }
 

@@ -1,15 +1,26 @@
 //! Sentences, written with the values that they name.
 
+ghost use Rattle.std.specs.Prelude.{◌≡◌};
+ghost use Rattle.dimacs_quote.specs.{Typed.{GrowsByTyped}, declared.texts.TextFile.{TextFile}};
+ghost use Rattle.dimacs_quote.specs.declared.sentence.Value.TheVariants.{Typed};
+
 use crate::escape::write_name;
 use crate::prose::{MARKS, Prose};
 use crate::shell_word::shell_word;
 use crate::texts::TextFile;
 
-/// Writes a sentence to a page or other text, with the next value for each `{}`.
+/// Writes a sentence to a text, with the next value for each `{}`. An array of values takes long to prove, so few go without.
 #[macro_export]
 macro_rules! say {
-    ($out:expr; $sentence:expr $(, $value:expr)*) => {
-        $out.write($sentence, &[$($crate::Value::from($value)),*])
+    ($out:expr; $sentence:expr) => { $out.push($sentence) };
+    ($out:expr; $sentence:expr, $value:expr) => {
+        $out.write_one($sentence, $crate::Value::from($value))
+    };
+    ($out:expr; $sentence:expr, $one:expr, $other:expr) => {
+        $out.write_two($sentence, $crate::Value::from($one), $crate::Value::from($other))
+    };
+    ($out:expr; $sentence:expr $(, $value:expr)+) => {
+        $out.write($sentence, &[$($crate::Value::from($value)),+])
     };
 }
 
@@ -78,11 +89,23 @@ impl Prose {
         }
     }
 
-    fn write_value(&mut self, value: Value<'_>) {
+    /// Adds a sentence with one value.
+    pub fn write_one(&mut self, sentence: &str, value: Value<'_>) {
+        self.write(sentence, &[value]);
+    }
+
+    /// Adds a sentence with two values.
+    pub fn write_two(&mut self, sentence: &str, one: Value<'_>, other: Value<'_>) {
+        self.write(sentence, &[one, other]);
+    }
+
+    fn write_value(&mut self, value: Value<'_>)
+        ensures { (text : TextFile) → value.entry ≡ Typed text → GrowsByTyped text self.old self.new }
+    {
         let ([arc, node, mark_of_cap], out) = (MARKS, &mut self.text);
         let written = match value {
             Value::Word(word) => out.push_str(word),
-            Value::File(name) => return write_name(self, name.trim_start_matches('\0')),
+            Value::File(name) => return write_name(self, name),
             Value::Typed(text) => return self.write_typed(text),
             Value::Arc(number) => write!(out, "{arc}{number}"),
             Value::Node(id) => write!(out, "{node}{id}"),
@@ -95,14 +118,19 @@ impl Prose {
         self.is_lost |= written.is_err();
     }
 
-    fn write_typed(&mut self, text: TextFile<'_>) {
-        let name = text.file.trim_start_matches('\0');
-        match shell_word(self.alloc, name) {
-            Ok(Some(word)) if !text.is_open_here() => match str::from_utf8(&word) {
+    /// Adds the file of a text as it is typed in a command; if it can't be, a word for it.
+    pub fn write_typed(&mut self, text: TextFile<'_>)
+        ensures { GrowsByTyped text.entry self.old self.new }
+    {
+        if text.file.is_empty() || text.is_open_here() {
+            return self.push(text.word());
+        }
+        match shell_word(self.alloc, text.file) {
+            Ok(Some(word)) => match str::from_utf8(&word) {
                 Ok(word) => self.push(word),
                 Err(_) => self.is_lost = true,
             },
-            Ok(_) => self.push(text.word()),
+            Ok(None) => self.push(text.word()),
             Err(_) => self.is_lost = true,
         }
     }

@@ -1,7 +1,7 @@
 //! Names of files as words of a shell.
 
-ghost use Rattle.std.specs.{Prelude.{◌≡◌, IfOk, IfSome, IsTrue}, List.{All}};
-ghost use Rattle.dimacs_quote.specs.inside.ShellWords.{IsAlphanumeric, IsKept, IsPlain, Prints, Reads, path_of};
+ghost use Rattle.std.specs.{Prelude.{◌≡◌, IfOk, IsTrue, MatchOption}, List.{All}};
+ghost use Rattle.dimacs_quote.specs.ShellWords.{EndsInLineFeed, IsAlphanumeric, IsKept, IsPlain, Prints, Reads, path_of};
 
 use crate::escape::is_visible;
 use dimacs_lines::Memory;
@@ -10,7 +10,7 @@ use std::alloc::Global;
 /// A word that a shell takes for a file's name: most of it in octal if not all is visible. None if it ends in a line feed,
 /// which no quotes of every shell keep on one line.
 pub(crate) fn shell_word(alloc: Global, name: &str) -> Result<Option<Vec<u8>>, Memory>
-    ensures { IfOk result (λ found. IfSome found (λ word. Reads word.items (path_of name.now))) }
+    ensures { IfOk result (λ found. MatchOption found (EndsInLineFeed (path_of name.now)) (λ word. Reads word.items (path_of name.now))) }
 {
     let path = path_in(alloc, name.as_bytes())?;
     if are_plain(&path) {
@@ -36,7 +36,8 @@ fn path_in(alloc: Global, name: &[u8]) -> Result<Vec<u8>, Memory>
 }
 
 fn ends_in_line_feed(path: &[u8]) -> bool
-    ensures { ¬ IsTrue result → IsKept path.now }
+    ensures ends { IsTrue result → EndsInLineFeed path.now }
+    ensures kept { ¬ IsTrue result → IsKept path.now }
 {
     path.last().copied() == Some(b'\n')
 }

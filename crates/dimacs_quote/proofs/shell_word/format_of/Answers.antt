@@ -1,6 +1,6 @@
 use Rattle.std.proofs.Common.{rules, ◌≡◌, ◌++◌, ◌∷◌, [], ◌+◌, ◌/◌, ◌%◌, slice_index_or, subst, take, arith}
 use Rattle.std.proofs.lemmas.List.{take_all, take_more}
-use Rattle.dimacs_quote.specs.inside.ShellWords.{IsAlphanumeric}
+use Rattle.dimacs_quote.specs.ShellWords.{IsAlphanumeric}
 use Rattle.dimacs_quote.proofs.WordLemmas.{Begins, begins_end, begins_itself, begins_octal}
 use Rattle.dimacs_quote.proofs.shell_word.format_of.Goals.{then-is_alphanumeric+in_ok-push, else-is_alphanumeric+in_ok-extend_from_slice}
 use Rattle.dimacs_quote.proofs.shell_word.format_of.Goals as goal

@@ -1,6 +1,6 @@
 use Rattle.std.proofs.{Common.{rules, ◌≡◌, ◌++◌}, lemmas.List.{append_assoc}}
 use Rattle.std.specs.Prelude.{codes}
-use Rattle.dimacs_quote.specs.inside.ShellWords.{Reads}
+use Rattle.dimacs_quote.specs.ShellWords.{Reads}
 use Rattle.dimacs_quote.proofs.shell_word.printed.Goals as goal
 
 pub returns : goal.returns

@@ -1,6 +1,6 @@
 use Rattle.std.proofs.Common.{rules, ◌≡◌, ◌≢◌, ◌++◌, ◌∷◌, [], ◌+◌, slice_index_or, subst, sym, take, arith}
 use Rattle.std.proofs.lemmas.List.{take_all, take_more}
-use Rattle.dimacs_quote.specs.inside.ShellWords.{Reads}
+use Rattle.dimacs_quote.specs.ShellWords.{Reads}
 use Rattle.dimacs_quote.proofs.WordLemmas.{Open, open_begin, open_end, open_more, open_quote}
 use Rattle.dimacs_quote.proofs.shell_word.quoted.Goals.{then-byte-eq39+in_ok-extend_from_slice, else-byte-eq39+in_ok-push}
 use Rattle.dimacs_quote.proofs.shell_word.quoted.Goals as goal

@@ -1,6 +1,6 @@
 use Rattle.std.proofs.Common.{rules, ◌≡◌, subst}
 use Rattle.std.specs.List.{All}
-use Rattle.dimacs_quote.specs.inside.ShellWords.{IsPlain, Reads, path_of}
+use Rattle.dimacs_quote.specs.ShellWords.{IsPlain, Reads, path_of}
 use Rattle.dimacs_quote.proofs.WordLemmas.{plain_reads}
 use Rattle.dimacs_quote.proofs.shell_word.shell_word.Goals as goal
 

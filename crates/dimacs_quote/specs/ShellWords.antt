@@ -17,6 +17,9 @@ pub data Prints : List ℕ → List ℕ → Type 0 where
   octal : (a b c : ℕ) (format bytes : List ℕ) → a < 4 → b < 8 → c < 8 → Prints format bytes
       → Prints (92 ∷ (48 + a) ∷ (48 + b) ∷ (48 + c) ∷ format) ((a * 64 + b * 8 + c) ∷ bytes)
 
+abbrev pub EndsInLineFeed : List ℕ → Type 0
+EndsInLineFeed bytes = (front : List ℕ) × (bytes ≡ front ++ 10 ∷ [])
+
 -- a shell keeps what printf writes, unless that ends in a line feed
 abbrev pub IsKept : List ℕ → Type 0
 IsKept written = (front : List ℕ) → written ≢ front ++ 10 ∷ []
