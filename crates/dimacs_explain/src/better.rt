@@ -1,10 +1,11 @@
 //! Explains that there is a better flow than the claimed one, or a feasible one where none is claimed.
 
 use crate::explanation::Explanation;
+use crate::facts::{write_cheaper, write_feasible_cost, write_greater};
 use dimacs_facts::{excess, feasible_cost, feasible_value};
 use dimacs_judging::Flow;
 use dimacs_network::Network;
-use dimacs_quote::{OrStop, Reopen, Said, Stop, TextFile, Value, Wanted, is_file, range_of, say};
+use dimacs_quote::{OrStop, Reopen, Said, StandFor, Stop, TextFile, Value, Wanted, range_of, say};
 use dimacs_records::{At, Record, TextKind};
 
 impl<'a, A: Reopen> Explanation<'a, A> {
@@ -24,7 +25,7 @@ impl<'a, A: Reopen> Explanation<'a, A> {
     /// Explains that a flow was found, and how much better it is than one with a claimed value or cost.
     pub(crate) fn explain_found(&mut self, claimed: Option<i128>) -> Said<'a> {
         if self.made.is_none() && !self.page.texts.are_arrays() {
-            say!(self; "a flow was found, but isn't written: its cost, added up arc by arc, leaves {}\n", range_of("VALUE"));
+            say!(self.page.out; "a flow was found, but isn't written: its cost, added up arc by arc, leaves {}\n", range_of("VALUE"));
             return Ok(());
         }
         let shown = match (self.page.texts.instance()?.kind, claimed) {
@@ -33,7 +34,7 @@ impl<'a, A: Reopen> Explanation<'a, A> {
             _ => Err(Stop::Done),
         };
         if matches!(shown, Err(Stop::Done | Stop::Unread(_))) {
-            say!(self; "a flow was found");
+            say!(self.page.out; "a flow was found");
             self.write_place(None);
             return Ok(());
         }
@@ -48,7 +49,7 @@ impl<'a, A: Reopen> Explanation<'a, A> {
             && let Some(more) = excess(value, claimed)
         {
             let name = self.quote_found(text)?;
-            self.write_greater(&max, &flow, name, claimed, more);
+            write_greater(&mut self.page.out, &max, &flow, name, claimed, more);
             self.write_place(text);
             return Ok(());
         }
@@ -66,10 +67,10 @@ impl<'a, A: Reopen> Explanation<'a, A> {
             && let Some(less) = excess(claimed, cost)
         {
             let name = self.quote_found(text)?;
-            self.write_cheaper(&min, &flow, name, claimed, less);
+            write_cheaper(&mut self.page.out, &min, &flow, name, claimed, less);
             self.write_place(text);
         } else {
-            self.write_feasible_cost(&min, &flow, cost);
+            write_feasible_cost(&mut self.page.out, &min, &flow, cost);
             self.write_place(None);
         }
         Ok(())
@@ -78,9 +79,12 @@ impl<'a, A: Reopen> Explanation<'a, A> {
     /// The flow in the text that the run wrote, if that can be read again, else as it was made.
     fn found<N: Network>(&self, network: &N) -> OrStop<'a, (Flow, Option<TextFile<'a>>)> {
         if let Some(file) = self.page.texts.written()
-            && let Ok(solution) = self.solution_in(solution_text(file))
+            && let Ok(solution) = self.solution_in(self.solution_text(file))
         {
-            return Ok((self.flow(network, &solution)?, Some(solution_text(file))));
+            return Ok((
+                self.flow(network, &solution)?,
+                Some(self.solution_text(file)),
+            ));
         }
         let made = self.made.ok_or(Stop::Done)?;
         Ok((self.flow(network, made)?, None))
@@ -114,19 +118,25 @@ impl<'a, A: Reopen> Explanation<'a, A> {
             Err(_) => ("flow", "instance"),
         };
         match self.page.texts.written() {
-            _ if quoted.is_some() => say!(self; "\n"),
-            _ if self.page.texts.are_arrays() => say!(self; ": it is in `{}`\n", field),
-            Some(file) if is_file(file) => say!(self; ": it goes to {}\n", Value::File(file)),
-            Some(file) if self.is_in(file) => say!(self; ": it is in `{}`\n", Value::File(file)),
-            Some(_) => say!(self; "\n"),
-            None => say!(self; ": name a file after the {} to get it\n", last),
+            _ if quoted.is_some() => say!(self.page.out; "\n"),
+            _ if self.page.texts.are_arrays() => say!(self.page.out; ": it is in `{}`\n", field),
+            Some(file) if self.page.texts.stand_for == StandFor::Files =>
+                say!(self.page.out; ": it goes to {}\n", Value::File(file)),
+            Some(file) if self.is_in(file) =>
+                say!(self.page.out; ": it is in `{}`\n", Value::File(file)),
+            Some(_) => say!(self.page.out; "\n"),
+            None => say!(self.page.out; ": name a file after the {} to get it\n", last),
         }
     }
 
     /// Whether a text has the value or the cost of the flow that was made.
     fn is_in(&self, file: &'a str) -> bool {
-        let value = self.value_on(solution_text(file), Wanted::Value);
+        let value = self.value_on(self.solution_text(file), Wanted::Value);
         matches!(value, Ok(Some(value)) if self.made.is_some_and(|it| it.value == value))
+    }
+
+    fn solution_text(&self, file: &'a str) -> TextFile<'a> {
+        self.page.texts.of_file(TextKind::Solution, file)
     }
 }
 
@@ -135,9 +145,4 @@ fn is_better(kind: TextKind, value: i128, claimed: i128) -> bool {
         TextKind::Min => value < claimed,
         _ => value > claimed,
     }
-}
-
-fn solution_text(file: &str) -> TextFile<'_> {
-    let kind = TextKind::Solution;
-    TextFile { kind, file }
 }

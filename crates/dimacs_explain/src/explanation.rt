@@ -3,7 +3,7 @@
 use dimacs_claims::Solution;
 use dimacs_facts::Steps;
 use dimacs_lines::Memory;
-use dimacs_quote::{Page, Reopen, Texts, Value};
+use dimacs_quote::{Page, Reopen, Texts};
 use std::alloc::Global;
 
 /// The explanation of what a run answered.
@@ -22,11 +22,6 @@ impl<'a, A: Reopen> Explanation<'a, A> {
         let page = Page::new(alloc, again, texts);
         let steps = Steps::all();
         Explanation { page, made, steps }
-    }
-
-    /// Writes a sentence, with the next value for each `{}`.
-    pub(crate) fn write(&mut self, sentence: &str, values: &[Value<'_>]) {
-        self.page.write(sentence, values);
     }
 
     /// What was written.

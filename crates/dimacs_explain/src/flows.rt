@@ -2,6 +2,7 @@
 
 use crate::crossing::Crossing;
 use crate::explanation::Explanation;
+use crate::facts::write_no_flow;
 use crate::least_cost::{paid_bound, reduced_cost};
 use crate::sums::{bound, number_of};
 use dimacs_facts::{all_nodes, one_node, shows_no_flow};
@@ -9,7 +10,7 @@ use dimacs_judging::{bounds_across, supply_in};
 use dimacs_network::{ArcView, CapacityArc, Network, WeightArc};
 use dimacs_quote::Value::{Arc, Cap, Node, Operand, Typed};
 use dimacs_quote::{
-    OrStop, Reopen, Said, TextFile, Wanted, ending, entry_between, is_file, range_of, say,
+    OrStop, Prose, Reopen, Said, TextFile, Wanted, ending, entry_between, range_of, say,
 };
 use dimacs_records::{Reason, Record, TextKind};
 
@@ -57,6 +58,26 @@ impl Parallel {
         self.low = self.low.saturating_add(i128::from(arc.low));
         self.cap = self.cap.saturating_add(i128::from(arc.cap));
     }
+}
+
+fn write_balance(out: &mut Prose, node: u32, outflow: i128, inflow: i128, supply: i128) {
+    let excess = outflow.saturating_sub(inflow).saturating_sub(supply);
+    if supply < 0 {
+        say!(out; "{} enters node {}, {} leaves it, and it takes {}",
+            inflow, Node(node), outflow, supply.saturating_neg());
+        return write_excess(out, excess.saturating_neg(), "arrives");
+    }
+    say!(out; "{} leaves node {}, {} enters it", outflow, Node(node), inflow);
+    if supply > 0 {
+        say!(out; ", and it supplies {}", supply);
+    }
+    write_excess(out, excess, "leaves");
+}
+
+/// Writes how much more than wanted leaves or arrives, or how much less.
+fn write_excess(out: &mut Prose, excess: i128, verb: &str) {
+    let word = if excess > 0 { "much" } else { "little" };
+    say!(out; ": {} too {} {}\n", excess.saturating_abs(), word, verb);
 }
 
 impl<'a, A: Reopen> Explanation<'a, A> {
@@ -115,7 +136,7 @@ impl<'a, A: Reopen> Explanation<'a, A> {
         if let Some(Record::SolutionEntry { flow, .. }) = self.page.quote(solution, wanted)? {
             return Ok(flow);
         }
-        say!(self; "{}: has no entry for the arc, so it carries 0\n", solution);
+        say!(self.page.out; "{}: has no entry for the arc, so it carries 0\n", solution);
         Ok(0)
     }
 
@@ -139,18 +160,18 @@ impl<'a, A: Reopen> Explanation<'a, A> {
         let (this, tail, head) = (Arc(number), Node(arc.tail), Node(arc.head));
         match reason {
             Reason::AboveCap =>
-                say!(self; "arc {} carries {}, more than its CAP, {}\n", this, flow, Cap(arc.cap)),
+                say!(self.page.out; "arc {} carries {}, more than its CAP, {}\n", this, flow, Cap(arc.cap)),
             Reason::BelowLow if is_min =>
-                say!(self; "arc {} carries {}, less than its LOW, {}\n", this, flow, arc.low),
-            Reason::BelowLow => say!(self; "arc {} carries {}, less than 0\n", this, flow),
+                say!(self.page.out; "arc {} carries {}, less than its LOW, {}\n", this, flow, arc.low),
+            Reason::BelowLow => say!(self.page.out; "arc {} carries {}, less than 0\n", this, flow),
             Reason::CostRange =>
-                say!(self; "arc {} carries {} at a COST of {}: the costs of the arcs up to this one leave {}\n",
+                say!(self.page.out; "arc {} carries {} at a COST of {}: the costs of the arcs up to this one leave {}\n",
                 this, flow, arc.cost, range_of("VALUE")),
             Reason::NotSaturated =>
-                say!(self; "arc {} leaves the set, from {} inside to {} outside, and carries {} of its CAP, {}\n",
+                say!(self.page.out; "arc {} leaves the set, from {} inside to {} outside, and carries {} of its CAP, {}\n",
                 this, tail, head, flow, Cap(arc.cap)),
             Reason::BackFlow =>
-                say!(self; "arc {} enters the set, from {} outside to {} inside, and carries {}, not 0\n",
+                say!(self.page.out; "arc {} enters the set, from {} outside to {} inside, and carries {}, not 0\n",
                 this, tail, head, flow),
             _ => self.write_slack(number, arc, flow)?,
         }
@@ -166,7 +187,7 @@ impl<'a, A: Reopen> Explanation<'a, A> {
         if parallel.all < 2 || self.page.texts.are_arrays() {
             return Ok(());
         }
-        say!(self; "{} arcs lead from {} to {}, and arc {} is the first of them: entries with these ends belong to them in the order of the instance\n",
+        say!(self.page.out; "{} arcs lead from {} to {}, and arc {} is the first of them: entries with these ends belong to them in the order of the instance\n",
             parallel.all, Node(arc.tail), Node(arc.head), Arc(parallel.first));
         self.write_spread(arc.tail, arc.head, parallel)
     }
@@ -175,7 +196,7 @@ impl<'a, A: Reopen> Explanation<'a, A> {
     pub(crate) fn write_spread(&mut self, tail: u32, head: u32, parallel: Parallel) -> Said<'a> {
         let sum = self.entry_sum(tail, head)?;
         if parallel.low <= sum && sum <= parallel.cap {
-            say!(self; match parallel.all {
+            say!(self.page.out; match parallel.all {
                 1 => "if the arc is to carry all of them, have them added up: ",
                 _ => "if the entries don't follow the order of the arcs, have them dealt out: ",
             });
@@ -185,7 +206,7 @@ impl<'a, A: Reopen> Explanation<'a, A> {
             1 => ("the arc", ""),
             _ => ("these arcs", ": no order fits"),
         };
-        say!(self; "the f lines with these ends add up to {}, outside of {} to {}, what {} can carry{}\n",
+        say!(self.page.out; "the f lines with these ends add up to {}, outside of {} to {}, what {} can carry{}\n",
             sum, parallel.low, parallel.cap, what, so);
         Ok(())
     }
@@ -193,7 +214,7 @@ impl<'a, A: Reopen> Explanation<'a, A> {
     /// Explains an amount that is left for the first of parallel arcs and doesn't fit 64 bits.
     fn explain_spread(&mut self, arc: ArcView, parallel: Parallel, reason: Reason) -> Said<'a> {
         let sum = self.entry_sum(arc.tail, arc.head)?;
-        say!(self; "{} arc{} from {} to {}: the f lines with these ends add up to {}\n",
+        say!(self.page.out; "{} arc{} from {} to {}: the f lines with these ends add up to {}\n",
             parallel.all, ending(parallel.all), Node(arc.tail), Node(arc.head), sum);
         let (name, all, first) = match reason {
             Reason::AboveCap => ("CAP", parallel.cap, arc.cap),
@@ -201,7 +222,7 @@ impl<'a, A: Reopen> Explanation<'a, A> {
         };
         let others = all.saturating_sub(i128::from(first));
         let left = sum.saturating_sub(others);
-        say!(self; "the arcs but the first carry their {}, {} in all, and {} is left for the first, arc {}: a FLOW is a number from {}\n",
+        say!(self.page.out; "the arcs but the first carry their {}, {} in all, and {} is left for the first, arc {}: a FLOW is a number from {}\n",
             name, others, left, Arc(parallel.first), range_of("FLOW"));
         Ok(())
     }
@@ -211,12 +232,12 @@ impl<'a, A: Reopen> Explanation<'a, A> {
         let tail = self.quote_node(certificate, arc.tail)?;
         let head = self.quote_node(certificate, arc.head)?;
         let reduced = reduced_cost(arc, tail, head);
-        say!(self; "the reduced cost of arc {} is COST - y({}) + y({}) = {} - {} + {} = {}",
+        say!(self.page.out; "the reduced cost of arc {} is COST - y({}) + y({}) = {} - {} + {} = {}",
             Arc(number), Node(arc.tail), Node(arc.head), arc.cost, Operand(tail), Operand(head), reduced);
         let name = paid_bound(reduced);
         let sign = if reduced > 0 { "above" } else { "below" };
         let wanted = bound(name, number_of(arc, name));
-        say!(self; ", {} 0, so it has to carry its {}, {}, and carries {}\n", sign, name, wanted, flow);
+        say!(self.page.out; ", {} 0, so it has to carry its {}, {}, and carries {}\n", sign, name, wanted, flow);
         self.write_opposite(certificate)
     }
 
@@ -225,7 +246,7 @@ impl<'a, A: Reopen> Explanation<'a, A> {
         if self.page.texts.tested()?.kind == TextKind::Distances {
             return Ok(());
         }
-        say!(self; "this certificate doesn't show the claim, which may be true all the same: to find out, ");
+        say!(self.page.out; "this certificate doesn't show the claim, which may be true all the same: to find out, ");
         self.write_command("certify", "")
     }
 
@@ -234,13 +255,13 @@ impl<'a, A: Reopen> Explanation<'a, A> {
         let instance = self.page.texts.instance()?;
         let name = Typed(instance);
         match (instance.kind, self.page.texts.claim()) {
-            _ if !is_file(instance.file) => say!(self; "{} it\n", verb),
+            _ if !instance.is_file() => say!(self.page.out; "{} it\n", verb),
             (TextKind::Graph, Ok(queries)) => self.write_paths(instance, queries)?,
             (TextKind::Min, Ok(claim)) =>
-                say!(self; "run dimacs {}-min {} {}{}\n", verb, name, Typed(claim), last),
+                say!(self.page.out; "run dimacs {}-min {} {}{}\n", verb, name, Typed(claim), last),
             (_, Ok(claim)) =>
-                say!(self; "run dimacs {}-max {} {}{}\n", verb, name, Typed(claim), last),
-            _ => say!(self; "run dimacs certify-infeasible {}\n", name),
+                say!(self.page.out; "run dimacs {}-max {} {}{}\n", verb, name, Typed(claim), last),
+            _ => say!(self.page.out; "run dimacs certify-infeasible {}\n", name),
         }
         Ok(())
     }
@@ -248,16 +269,13 @@ impl<'a, A: Reopen> Explanation<'a, A> {
     /// Writes the command that finds distances, or decides those that are given: a solver takes no negative WEIGHT.
     fn write_paths(&mut self, graph: TextFile<'a>, queries: TextFile<'a>) -> Said<'a> {
         let file = self.page.texts.certificate()?.file;
-        let distances = TextFile {
-            kind: TextKind::Distances,
-            file,
-        };
+        let distances = self.page.texts.of_file(TextKind::Distances, file);
         if self.page.has(distances, Wanted::Problem) {
-            say!(self; "run dimacs certify-paths {} {}\n", Typed(graph), Typed(distances));
+            say!(self.page.out; "run dimacs certify-paths {} {}\n", Typed(graph), Typed(distances));
         } else if self.page.has(graph, Wanted::NegativeWeight) {
-            say!(self; "write `p distances` for `p dist`, drop PRED and RADIUS, and run dimacs certify-paths {} DISTANCES\n", Typed(graph));
+            say!(self.page.out; "write `p distances` for `p dist`, drop PRED and RADIUS, and run dimacs certify-paths {} DISTANCES\n", Typed(graph));
         } else {
-            say!(self; "run dimacs solve-paths {} {} LABELS\n", Typed(graph), Typed(queries));
+            say!(self.page.out; "run dimacs solve-paths {} {} LABELS\n", Typed(graph), Typed(queries));
         }
         Ok(())
     }
@@ -265,11 +283,17 @@ impl<'a, A: Reopen> Explanation<'a, A> {
     pub(crate) fn explain_balance(&mut self, node: u32) -> Said<'a> {
         let (instance, flow) = (self.page.texts.instance()?, self.node_flow(node)?);
         let supply = self.quote_node(instance, node)?;
-        self.write_balance(node, flow.leaving.sum(), flow.entering.sum(), supply);
+        write_balance(
+            &mut self.page.out,
+            node,
+            flow.leaving.sum(),
+            flow.entering.sum(),
+            supply,
+        );
         let leaving = self.page.words("entries out of it", "flows out of it");
-        self.write_lines(leaving, &flow.leaving);
+        flow.leaving.write_lines(&mut self.page.out, leaving);
         let entering = self.page.words("entries into it", "flows into it");
-        self.write_lines(entering, &flow.entering);
+        flow.entering.write_lines(&mut self.page.out, entering);
         match instance.kind {
             TextKind::Min => self.write_feasible(instance, node),
             _ => Ok(()),
@@ -283,38 +307,18 @@ impl<'a, A: Reopen> Explanation<'a, A> {
         let (every, one) = (all_nodes(alloc, nodes)?, one_node(alloc, nodes, node)?);
         let mut why = "to show it by a set";
         if shows_no_flow(&min, &every) {
-            say!(self; "the supplies add up to {}, and not to 0", supply_in(&min, &every));
-            self.write_no_flow(&min);
+            say!(self.page.out; "the supplies add up to {}, and not to 0", supply_in(&min, &every));
+            write_no_flow(&mut self.page.out, &min);
         } else if shows_no_flow(&min, &one) {
             let across = bounds_across(&min, &one);
-            say!(self; "the arcs of node {} can carry {} to {} out of it", Node(node), across.least, across.most);
-            self.write_no_flow(&min);
+            say!(self.page.out; "the arcs of node {} can carry {} to {} out of it", Node(node), across.least, across.most);
+            write_no_flow(&mut self.page.out, &min);
         } else {
             why = "to find out whether any flow is feasible";
         }
-        if is_file(instance.file) && self.page.has(instance, Wanted::NotMetBy0) {
-            say!(self; "{}, run dimacs certify-infeasible {}\n", why, Typed(instance));
+        if instance.is_file() && self.page.has(instance, Wanted::NotMetBy0) {
+            say!(self.page.out; "{}, run dimacs certify-infeasible {}\n", why, Typed(instance));
         }
         Ok(())
-    }
-
-    fn write_balance(&mut self, node: u32, outflow: i128, inflow: i128, supply: i128) {
-        let excess = outflow.saturating_sub(inflow).saturating_sub(supply);
-        if supply < 0 {
-            say!(self; "{} enters node {}, {} leaves it, and it takes {}",
-                inflow, Node(node), outflow, supply.saturating_neg());
-            return self.write_excess(excess.saturating_neg(), "arrives");
-        }
-        say!(self; "{} leaves node {}, {} enters it", outflow, Node(node), inflow);
-        if supply > 0 {
-            say!(self; ", and it supplies {}", supply);
-        }
-        self.write_excess(excess, "leaves");
-    }
-
-    /// Writes how much more than wanted leaves or arrives, or how much less.
-    fn write_excess(&mut self, excess: i128, verb: &str) {
-        let word = if excess > 0 { "much" } else { "little" };
-        say!(self; ": {} too {} {}\n", excess.saturating_abs(), word, verb);
     }
 }

@@ -4,9 +4,10 @@ ghost use Rattle.dimacs_claims.specs.SolutionTexts.{claimed};
 ghost use Rattle.dimacs_judging.specs.MinJudge.{ShowsLeast};
 
 use crate::explanation::Explanation;
+use crate::facts::{write_least, write_only_flow, write_opposite_shows, write_same_cost};
 use crate::sums::{SHOWN, Sum, bound, number_of};
 use dimacs_claims::{Potentials, Solution};
-use dimacs_facts::{cost_of, opposite_shows, same_but_tight};
+use dimacs_facts::{cost_of, opposite_shows, same_but_tight, shows_only_flow};
 use dimacs_instance::MinInstance;
 use dimacs_judging::Flow;
 use dimacs_network::{ArcView, Network};
@@ -101,114 +102,118 @@ pub(crate) fn paid_bound(reduced: i128) -> &'static str {
     if reduced > 0 { "LOW" } else { "CAP" }
 }
 
-impl<'a, A: Reopen> Explanation<'a, A> {
-    pub(crate) fn explain_least<N: Network>(
-        &mut self,
-        min: &MinInstance<N>,
-        solution: &Solution,
-        potentials: &Potentials,
-    )
-        requires { ShowsLeast min.now (claimed solution.now) potentials.now }
-    {
-        let fixed = supply_sum(self.page.alloc, min, potentials);
-        let least = reduced_sum(self.page.alloc, min.network(), potentials);
-        if self.write_bound(&fixed, &least) {
-            self.write_least(min, solution, potentials);
-        }
-        self.write_tight(min, solution, potentials);
+/// Writes the cost that potentials show, of which there is more to say first.
+pub(crate) fn explain_least<N: Network>(
+    out: &mut Prose,
+    min: &MinInstance<N>,
+    solution: &Solution,
+    potentials: &Potentials,
+    zero: &str,
+)
+    requires { ShowsLeast min.now (claimed solution.now) potentials.now }
+{
+    let fixed = supply_sum(out.alloc, min, potentials);
+    let least = reduced_sum(out.alloc, min.network(), potentials);
+    if write_bound(out, &fixed, &least, zero) {
+        write_least(out, min, solution, potentials);
     }
+    write_tight(out, min, solution, potentials);
+}
 
+/// Writes the cost as a sum, the arcs whose cost is greatest in size first.
+pub(crate) fn write_cost<N: Network>(out: &mut Prose, network: &N, flow: &Flow) {
+    let mut sum = Sum::new(out.alloc);
+    let mut next = next_cost(network, flow, None);
+    if next.is_none() {
+        return say!(out; "no arc with flow has a COST: the cost is 0\n");
+    }
+    say!(out; "FLOW * COST of the arcs, the greatest in size first:\n");
+    for _ in 0..SHOWN {
+        let Some(it) = next else {
+            break;
+        };
+        let (number, arc) = (it.index.saturating_add(1), it.arc);
+        say!(out; "  arc {}: {} -> {}, {} * {} = {}\n", Arc(number), Node(arc.tail), Node(arc.head), it.amount,
+            Operand(i128::from(arc.cost)), it.cost);
+        sum.add(Some(it.cost));
+        next = next_cost(network, flow, next);
+    }
+    if next.is_some() {
+        let rest = cost_of(network, flow)
+            .unwrap_or(0)
+            .saturating_sub(sum.sum());
+        say!(out; "  all others: {}\n", rest);
+        sum.add(Some(rest));
+    }
+    sum.write_to(out);
+    say!(out; ", the cost\n");
+}
+
+/// Writes what each feasible flow costs at least, after what is said of potentials. Returns whether the numbers fit.
+fn write_bound(out: &mut Prose, fixed: &Sum, least: &Sum, zero: &str) -> bool {
+    let mut bound = Sum::new(out.alloc);
+    bound.add(fixed.total);
+    bound.add(least.total);
+    say!(out; "with potentials y{} and r = COST - y(TAIL) + y(HEAD), a feasible flow costs the sum of y * SUPPLY over the nodes plus that of r * FLOW over the arcs\n",
+        zero);
+    if bound.total.is_none() {
+        say!(out; "some of these numbers don't fit 128 bits, so they are left out\n");
+        return false;
+    }
+    fixed.write_lines(
+        out,
+        "y * SUPPLY, the same for each flow; nodes where it isn't 0",
+    );
+    fixed.write_to(out);
+    least.write_lines(
+        out,
+        "\nr * FLOW, at least r * LOW if r is above 0, else r * CAP; arcs where that isn't 0",
+    );
+    least.write_to(out);
+    say!(out; "\n");
+    bound.write_to(out);
+    true
+}
+
+/// Writes on which arcs another flow of this cost can differ.
+fn write_tight<N: Network>(
+    out: &mut Prose,
+    min: &MinInstance<N>,
+    solution: &Solution,
+    potentials: &Potentials,
+)
+    requires { ShowsLeast min.now (claimed solution.now) potentials.now }
+{
+    if shows_only_flow(min, solution, potentials) {
+        return write_only_flow(out, min, solution);
+    }
+    let network = min.network();
+    let mut list = Prose::new(out.alloc);
+    let mut count = 0u64;
+    for i in 0..network.arcs() {
+        let arc = network.arc(i);
+        if reduced_cost(arc, potentials.of(arc.tail), potentials.of(arc.head)) == 0 {
+            count = count.saturating_add(1);
+            if count <= SHOWN {
+                say!(list; " {}", Arc(i.saturating_add(1)));
+            }
+        }
+    }
+    same_but_tight(min, solution, potentials);
+    write_same_cost(out, min, solution, potentials, count);
+    out.append(&list);
+    say!(out; if count > SHOWN { " ..\n" } else { "\n" });
+}
+
+impl<'a, A: Reopen> Explanation<'a, A> {
     /// Writes that a flow costs least by the opposite of potentials that don't show it, if that is so.
     pub(crate) fn write_opposite(&mut self, certificate: TextFile<'a>) -> Said<'a> {
         let potentials = self.potentials(&mut self.page.source(certificate)?)?;
         let min = self.min_instance()?;
         let flow = self.flow(min.network(), &self.solution()?)?;
         if opposite_shows(self.page.alloc, &min, &flow, &potentials) {
-            self.write_opposite_shows(&min, &flow, &potentials);
+            write_opposite_shows(&mut self.page.out, &min, &flow, &potentials);
         }
         Ok(())
-    }
-
-    /// Writes the cost as a sum, the arcs whose cost is greatest in size first.
-    pub(crate) fn write_cost<N: Network>(&mut self, network: &N, flow: &Flow) {
-        let mut sum = Sum::new(self.page.alloc);
-        let mut next = next_cost(network, flow, None);
-        if next.is_none() {
-            return say!(self; "no arc with flow has a COST: the cost is 0\n");
-        }
-        say!(self; "FLOW * COST of the arcs, the greatest in size first:\n");
-        for _ in 0..SHOWN {
-            let Some(it) = next else {
-                break;
-            };
-            let (number, arc) = (it.index.saturating_add(1), it.arc);
-            say!(self; "  arc {}: {} -> {}, {} * {} = {}\n", Arc(number), Node(arc.tail), Node(arc.head), it.amount,
-                Operand(i128::from(arc.cost)), it.cost);
-            sum.add(Some(it.cost));
-            next = next_cost(network, flow, next);
-        }
-        if next.is_some() {
-            let rest = cost_of(network, flow)
-                .unwrap_or(0)
-                .saturating_sub(sum.sum());
-            say!(self; "  all others: {}\n", rest);
-            sum.add(Some(rest));
-        }
-        self.write_sum(&sum);
-        say!(self; ", the cost\n");
-    }
-
-    /// Writes what each feasible flow costs at least. Returns whether the numbers fit.
-    fn write_bound(&mut self, fixed: &Sum, least: &Sum) -> bool {
-        let mut bound = Sum::new(self.page.alloc);
-        bound.add(fixed.total);
-        bound.add(least.total);
-        let zero = self.page.words(" (0 without a line)", "");
-        say!(self; "with potentials y{} and r = COST - y(TAIL) + y(HEAD), a feasible flow costs the sum of y * SUPPLY over the nodes plus that of r * FLOW over the arcs\n",
-            zero);
-        if bound.total.is_none() {
-            say!(self; "some of these numbers don't fit 128 bits, so they are left out\n");
-            return false;
-        }
-        self.write_lines(
-            "y * SUPPLY, the same for each flow; nodes where it isn't 0",
-            fixed,
-        );
-        self.write_sum(fixed);
-        self.write_lines(
-            "\nr * FLOW, at least r * LOW if r is above 0, else r * CAP; arcs where that isn't 0",
-            least,
-        );
-        self.write_sum(least);
-        say!(self; "\n");
-        self.write_sum(&bound);
-        true
-    }
-
-    /// Writes on which arcs another flow of this cost can differ.
-    fn write_tight<N: Network>(
-        &mut self,
-        min: &MinInstance<N>,
-        solution: &Solution,
-        potentials: &Potentials,
-    )
-        requires { ShowsLeast min.now (claimed solution.now) potentials.now }
-    {
-        let network = min.network();
-        let mut list = Prose::new(self.page.alloc);
-        let mut count = 0u64;
-        for i in 0..network.arcs() {
-            let arc = network.arc(i);
-            if reduced_cost(arc, potentials.of(arc.tail), potentials.of(arc.head)) == 0 {
-                count = count.saturating_add(1);
-                if count <= SHOWN {
-                    say!(list; " {}", Arc(i.saturating_add(1)));
-                }
-            }
-        }
-        same_but_tight(min, solution, potentials);
-        self.write_same_cost(min, solution, potentials, count);
-        self.page.out.append(&list);
-        say!(self; if count > SHOWN { " ..\n" } else { "\n" });
     }
 }

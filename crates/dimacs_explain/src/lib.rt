@@ -1,7 +1,8 @@
-//! Explains answers: prints the numbers that a failed test compares, or those that show a yes. A sentence that asserts
-//! more is written by a function of `facts`, which requires what it asserts. Nothing else is proved of these lines.
+//! Explains answers: prints the numbers that a failed test compares, or those that show a yes. Functions of `facts` write
+//! sentences that assert more, and require it. Others are tested: what is lightest, that no arc, order or block fits, and
+//! what a limit's flows are.
 //!
-//! For `dimacs_runs`, which runs `dimacs explain COMMAND FILE...`.
+//! For `dimacs_explained`, which runs `dimacs explain COMMAND FILE...`.
 #![tactic(auto)]
 
 mod better;

@@ -5,7 +5,7 @@ use crate::sums::SHOWN;
 use dimacs_lines::Memory;
 use dimacs_network::{NodeMap, NodeSet};
 use dimacs_quote::Value::Node;
-use dimacs_quote::{OrStop, Reopen, Said, TextFile, say};
+use dimacs_quote::{OrStop, Prose, Reopen, Said, TextFile, say};
 use dimacs_records::{At, Record, TextKind};
 use std::alloc::Global;
 
@@ -23,6 +23,19 @@ fn last_back(alloc: Global, preds: &Preds, node: u32) -> Result<u32, Memory> {
         at = preds.get(at).filter(|pred| *pred > 0).unwrap_or(at);
     }
     Ok(at)
+}
+
+fn write_circle(out: &mut Prose, preds: &Preds, first: u32) {
+    say!(out; "the PREDs lead in a circle, so that no order fits: {}", Node(first));
+    let mut node = first;
+    for _ in 0..SHOWN {
+        node = preds.get(node).unwrap_or(first);
+        say!(out; " -> {}", Node(node));
+        if node == first {
+            break;
+        }
+    }
+    say!(out; if node == first { "\n" } else { " -> ..\n" });
 }
 
 impl<'a, A: Reopen> Explanation<'a, A> {
@@ -55,23 +68,11 @@ impl<'a, A: Reopen> Explanation<'a, A> {
         let (preds, node) = self.preds_at(text, at.line)?;
         let last = last_back(self.page.alloc, &preds, node)?;
         match preds.get(last) {
-            Some(0) => say!(self; "order the d lines so that each stands after that of its PRED\n"),
-            Some(_) => self.write_circle(&preds, last),
-            None => say!(self; "node {} has no d line in this block\n", Node(last)),
+            Some(0) =>
+                say!(self.page.out; "order the d lines so that each stands after that of its PRED\n"),
+            Some(_) => write_circle(&mut self.page.out, &preds, last),
+            None => say!(self.page.out; "node {} has no d line in this block\n", Node(last)),
         }
         Ok(())
-    }
-
-    fn write_circle(&mut self, preds: &Preds, first: u32) {
-        say!(self; "the PREDs lead in a circle, so that no order fits: {}", Node(first));
-        let mut node = first;
-        for _ in 0..SHOWN {
-            node = preds.get(node).unwrap_or(first);
-            say!(self; " -> {}", Node(node));
-            if node == first {
-                break;
-            }
-        }
-        say!(self; if node == first { "\n" } else { " -> ..\n" });
     }
 }

@@ -1,5 +1,11 @@
 //! The values of a run's texts, read again.
 
+ghost use Rattle.std.specs.Prelude.{IfOk};
+ghost use Rattle.dimacs_claims.specs.SolutionTexts.{SpellsSolution, claimed};
+ghost use Rattle.dimacs_instance.specs.{Graph.{SpellsGraph}, MaxTexts.{SpellsMax}, MinTexts.{SpellsMin}};
+ghost use Rattle.dimacs_explain.specs.inside.Readings.{IsRead, IsReadIn, SpellsTested};
+ghost use Rattle.dimacs_quote.specs.Texts.{claims, instances};
+
 use crate::explanation::Explanation;
 use dimacs_claims::{
     Cut, Labels, Potentials, Solution, read_cut, read_distances, read_labels, read_potentials,
@@ -13,26 +19,37 @@ use dimacs_quote::{OrStop, Reopen, Stop, TextFile};
 use dimacs_records::{Text, TextKind};
 
 impl<'a, A: Reopen> Explanation<'a, A> {
-    pub(crate) fn max_instance(&self) -> OrStop<'a, MaxInstance<PlainArcs<CapacityArc>>> {
+    pub(crate) fn max_instance(&self) -> OrStop<'a, MaxInstance<PlainArcs<CapacityArc>>>
+        ensures { IfOk result (λ max. IsRead instances (A.reopens self.now.page.again.now) self.now.page.texts (λ bytes. SpellsMax bytes max)) }
+    {
         let text = self.page.texts.instance()?;
         MaxInstance::read(self.page.alloc, &mut self.page.source(text)?).map_err(|_| text.unread())
     }
 
-    pub(crate) fn min_instance(&self) -> OrStop<'a, MinInstance<PlainArcs<ArcView>>> {
+    pub(crate) fn min_instance(&self) -> OrStop<'a, MinInstance<PlainArcs<ArcView>>>
+        ensures { IfOk result (λ min. IsRead instances (A.reopens self.now.page.again.now) self.now.page.texts (λ bytes. SpellsMin bytes min)) }
+    {
         let text = self.page.texts.instance()?;
         MinInstance::read(self.page.alloc, &mut self.page.source(text)?).map_err(|_| text.unread())
     }
 
-    pub(crate) fn graph(&self) -> OrStop<'a, Graph<PlainArcs<WeightArc>>> {
+    pub(crate) fn graph(&self) -> OrStop<'a, Graph<PlainArcs<WeightArc>>>
+        ensures { IfOk result (λ graph. IsRead instances (A.reopens self.now.page.again.now) self.now.page.texts (λ bytes. SpellsGraph bytes graph)) }
+    {
         let text = self.page.texts.instance()?;
         Graph::read(self.page.alloc, &mut self.page.source(text)?).map_err(|_| text.unread())
     }
 
-    pub(crate) fn solution(&self) -> OrStop<'a, Solution> {
+    pub(crate) fn solution(&self) -> OrStop<'a, Solution>
+        ensures { IfOk result (λ solution. IsRead claims (A.reopens self.now.page.again.now) self.now.page.texts
+            (λ bytes. SpellsSolution bytes (claimed solution))) }
+    {
         self.solution_in(self.page.texts.claim()?)
     }
 
-    pub(crate) fn solution_in(&self, text: TextFile<'a>) -> OrStop<'a, Solution> {
+    pub(crate) fn solution_in(&self, text: TextFile<'a>) -> OrStop<'a, Solution>
+        ensures { IfOk result (λ solution. IsReadIn (A.reopens self.now.page.again.now) text.entry.file.now (λ bytes. SpellsSolution bytes (claimed solution))) }
+    {
         read_solution(self.page.alloc, &mut self.page.source(text)?).map_err(|_| text.unread())
     }
 
@@ -58,7 +75,9 @@ impl<'a, A: Reopen> Explanation<'a, A> {
     }
 
     /// Labels, or distances as labels.
-    pub(crate) fn labels(&self, text: TextFile<'a>) -> OrStop<'a, Labels> {
+    pub(crate) fn labels(&self, text: TextFile<'a>) -> OrStop<'a, Labels>
+        ensures { IfOk result (λ labels. IsReadIn (A.reopens self.now.page.again.now) text.entry.file.now (λ bytes. SpellsTested text.entry.kind bytes labels)) }
+    {
         let mut source = self.page.source(text)?;
         let labels = match text.kind {
             TextKind::Distances => match read_distances(self.page.alloc, &mut source) {

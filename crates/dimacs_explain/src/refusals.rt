@@ -48,14 +48,14 @@ impl<'a, A: Reopen> Explanation<'a, A> {
     pub fn explain_gave_up(&mut self, limit: u64) {
         match self.page.texts.instance().map(|it| it.kind) {
             Ok(TextKind::Min) =>
-                say!(self; "the limit, {}, counts steps, each to a better flow: they lead to none that costs least, or the costs of one that does, added up arc by arc, leave {}: no answer is written\n",
+                say!(self.page.out; "the limit, {}, counts steps, each to a better flow: they lead to none that costs least, or the costs of one that does, added up arc by arc, leave {}: no answer is written\n",
                     limit, range_of("VALUE")),
             _ =>
-                say!(self; "the limit, {}, counts flows, the flow 0 first and each of a greater value than the last: none of them is maximum, so no answer is written\n",
+                say!(self.page.out; "the limit, {}, counts flows, the flow 0 first and each of a greater value than the last: none of them is maximum, so no answer is written\n",
                     limit),
         }
         if limit < GREATEST_LIMIT {
-            say!(self; "a greater one may do, as --limit N: N is at most {}, and {} without it\n", GREATEST_LIMIT, DEFAULT_LIMIT);
+            say!(self.page.out; "a greater one may do, as --limit N: N is at most {}, and {} without it\n", GREATEST_LIMIT, DEFAULT_LIMIT);
         }
         self.end_refusal(Ok(()));
     }
@@ -67,13 +67,13 @@ impl<'a, A: Reopen> Explanation<'a, A> {
             Err(Stop::Unread(file)) => self.page.write_unread(file),
             Err(Stop::Done) | Ok(()) => (),
         }
-        let emptied = self.page.texts.emptied();
-        for (k, file) in emptied.iter().enumerate() {
-            if !emptied.get(..k).unwrap_or_default().contains(file) {
-                say!(self; "{} is empty: a solve run creates the files that it writes, or empties them, before it reads the others\n",
-                    Value::File(file.as_str()));
-            }
+        match self.page.texts.emptied() {
+            [] => return,
+            [one, other] if one != other =>
+                say!(self.page.out; "{} and {} are empty", Value::File(one.as_str()), Value::File(other.as_str())),
+            [one, ..] => say!(self.page.out; "{} is empty", Value::File(one.as_str())),
         }
+        say!(self.page.out; ": a solve run creates the files that it writes, or empties them, before it reads the others\n");
     }
 
     /// Ends the explanation if a text of the run can't be read again, and names each such text.
@@ -127,7 +127,7 @@ impl<'a, A: Reopen> Explanation<'a, A> {
         let (instance, tested) = (self.page.texts.instance()?, self.page.texts.tested()?);
         self.page.quote_there(instance, Wanted::Problem)?;
         self.page.quote_there(tested, Wanted::Problem)?;
-        say!(self; "NODES of the two differ: they are not of one instance\n");
+        say!(self.page.out; "NODES of the two differ: they are not of one instance\n");
         self.write_open()
     }
 }

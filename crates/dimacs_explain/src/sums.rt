@@ -1,10 +1,9 @@
 //! Sums and lists, of which the first items are shown.
 
-use crate::explanation::Explanation;
 use dimacs_claims::Cut;
 use dimacs_network::ArcView;
 use dimacs_quote::Value::{Arc, Cap, Node};
-use dimacs_quote::{Prose, Reopen, TextFile, Value, entry_arc, say};
+use dimacs_quote::{Prose, TextFile, Value, entry_arc, say};
 use std::alloc::Global;
 
 /// The most items that are shown.
@@ -86,6 +85,27 @@ impl Sum {
         }
         self.add(Some(i128::from(flow)));
     }
+
+    /// Writes what the lines are, how many they are, and the first of them.
+    pub(crate) fn write_lines(&self, out: &mut Prose, what: &str) {
+        say!(out; "{}: {}\n", what, self.count);
+        out.append(&self.lines);
+        if self.count > SHOWN {
+            say!(out; "  all others: {}\n", self.rest.unwrap_or(0));
+        }
+    }
+
+    /// Writes the numbers, and what they add up to.
+    pub(crate) fn write_to(&self, out: &mut Prose) {
+        if self.count > 1 {
+            out.append(&self.terms);
+            if self.count > SHOWN {
+                write_term(out, self.rest.unwrap_or(0));
+            }
+            say!(out; " = ");
+        }
+        say!(out; "{}", self.sum());
+    }
 }
 
 /// The number of an arc with this name; 0, the flow of an empty arc, for another name.
@@ -116,43 +136,20 @@ fn write_term(out: &mut Prose, term: i128) {
     say!(out; "{}", if is_first { Value::Number(term) } else { Value::Term(term) });
 }
 
-impl<'a, A: Reopen> Explanation<'a, A> {
-    /// Writes what the lines of a sum are, how many they are, and the first of them.
-    pub(crate) fn write_lines(&mut self, what: &str, sum: &Sum) {
-        say!(self; "{}: {}\n", what, sum.count);
-        self.page.out.append(&sum.lines);
-        if sum.count > SHOWN {
-            say!(self; "  all others: {}\n", sum.rest.unwrap_or(0));
+/// Writes the first nodes of a set, and how many it has.
+pub(crate) fn write_set(out: &mut Prose, set: &Cut) {
+    let count = u64::from(set.len());
+    say!(out; "{} of the {} nodes:", count, u64::from(set.nodes()));
+    let (mut id, mut left, end) = (1, count.min(SHOWN), set.nodes().saturating_add(1));
+    for _ in 0..end {
+        if left == 0 || id >= end {
+            break;
         }
-    }
-
-    /// Writes the numbers of a sum, and what they add up to.
-    pub(crate) fn write_sum(&mut self, sum: &Sum) {
-        if sum.count > 1 {
-            self.page.out.append(&sum.terms);
-            if sum.count > SHOWN {
-                write_term(&mut self.page.out, sum.rest.unwrap_or(0));
-            }
-            say!(self; " = ");
+        if set.contains(id) {
+            say!(out; " {}", Node(id));
+            left -= 1;
         }
-        say!(self; "{}", sum.sum());
+        id = set.next(id + 1, end);
     }
-
-    /// Writes the first nodes of a set, and how many it has.
-    pub(crate) fn write_set(&mut self, set: &Cut) {
-        let count = u64::from(set.len());
-        say!(self; "{} of the {} nodes:", count, u64::from(set.nodes()));
-        let (mut id, mut left, end) = (1, count.min(SHOWN), set.nodes().saturating_add(1));
-        for _ in 0..end {
-            if left == 0 || id >= end {
-                break;
-            }
-            if set.contains(id) {
-                say!(self; " {}", Node(id));
-                left -= 1;
-            }
-            id = set.next(id + 1, end);
-        }
-        say!(self; if count > SHOWN { " ..\n" } else { "\n" });
-    }
+    say!(out; if count > SHOWN { " ..\n" } else { "\n" });
 }

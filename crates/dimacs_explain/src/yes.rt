@@ -3,7 +3,10 @@
 ghost use Rattle.std.specs.Prelude.{IfOk};
 ghost use Rattle.dimacs_instance.specs.QueryTexts.{AreLawful, asked};
 
+use crate::crossing::{explain_infeasible, explain_maximum};
 use crate::explanation::Explanation;
+use crate::least_cost::{explain_least, write_cost};
+use crate::routes::explain_distances;
 use dimacs_claims::{Labels, Potentials, read_labels};
 use dimacs_facts::shows_no_flow;
 use dimacs_instance::{MinInstance, Queries, read_queries};
@@ -31,8 +34,8 @@ impl<'a, A: Reopen> Explanation<'a, A> {
         let reason = self.page.words(LEFT_OUT, "memory ran out");
         match self.replaced() {
             Some(claim) =>
-                say!(self; "the numbers are left out: the certificate has taken the place of {}\n", claim),
-            None => say!(self; "the numbers are left out: {}\n", reason),
+                say!(self.page.out; "the numbers are left out: the certificate has taken the place of {}\n", claim),
+            None => say!(self.page.out; "the numbers are left out: {}\n", reason),
         }
     }
 
@@ -73,7 +76,7 @@ impl<'a, A: Reopen> Explanation<'a, A> {
         let Ok(verdict) = judge_max(self.page.alloc, &max, &solution, &cut) else {
             return Err(Stop::Done);
         };
-        self.explain_maximum(&max, &solution, &cut);
+        explain_maximum(&mut self.page.out, &max, &solution, &cut);
         Ok(verdict)
     }
 
@@ -92,8 +95,9 @@ impl<'a, A: Reopen> Explanation<'a, A> {
             return Err(Stop::Done);
         };
         let flow = self.flow(min.network(), &solution)?;
-        self.write_cost(min.network(), &flow);
-        self.explain_least(min, &solution, potentials);
+        write_cost(&mut self.page.out, min.network(), &flow);
+        let zero = self.page.words(" (0 without a line)", "");
+        explain_least(&mut self.page.out, min, &solution, potentials, zero);
         Ok(verdict)
     }
 
@@ -102,7 +106,7 @@ impl<'a, A: Reopen> Explanation<'a, A> {
         if !shows_no_flow(&min, &set) {
             return Err(Stop::Done);
         }
-        self.explain_infeasible(&min, &set);
+        explain_infeasible(&mut self.page.out, &min, &set);
         Ok(Verdict::Infeasible)
     }
 
@@ -117,7 +121,8 @@ impl<'a, A: Reopen> Explanation<'a, A> {
         let Ok(verdict) = judge_paths(self.page.alloc, &graph, queries, &labels) else {
             return Err(Stop::Done);
         };
-        self.explain_distances(&graph, queries, &labels)?;
+        let name = self.page.words("label", "distance");
+        explain_distances(&mut self.page.out, &graph, queries, &labels, name)?;
         Ok(verdict)
     }
 
