@@ -15,10 +15,10 @@ use Rattle.dimacs_judging.specs.Tests.{AllClear, FirstAlone, Refutes, Row}
 use Rattle.dimacs_judging.proofs.Firsts.{none_first}
 use Rattle.dimacs_decide.specs.{CertifiedMax.{CertifiesMax}, CertifiedMin.{CertifiesMin}}
 use Rattle.dimacs_decide.specs.CertifiedPaths.{AreAllDistances, AreLabelsOfAll, CertifiesPaths}
-use Rattle.dimacs_runs.specs.{declared.status.Status.{Status}, Outputs.{WritesAlike, report_of}}
-use Rattle.dimacs_runs.specs.declared.status.Status.TheVariants.{Done, Refused, GaveUp}
+use Rattle.dimacs_jobs.specs.declared.status.Status.{Status}
+use Rattle.dimacs_jobs.specs.declared.status.Status.TheVariants.{Done, Refused, GaveUp}
+use Rattle.dimacs_runs.specs.{Outputs.{WritesAlike, report_of}, Verdicts.{distances_line, failure_line}}
 use Rattle.dimacs_runs.specs.Certified.{CertificateOr, CertifiesDistances, CertifiesInfeasible, CertifiesLeast, CertifiesMaximum, IsCheaperText, IsCutText, IsFeasibleText, IsGreaterText, IsPotentialsText, IsSetText, uncertified}
-use Rattle.dimacs_runs.specs.Verdicts.{distances_line, failure_line}
 use Rattle.dimacs_runs.specs.inside.Outcomes.{MayCertify, with_text, judge_end, outcome_of}
 use Rattle.dimacs_records.specs.declared.kinds.TextKind.TheVariants as kinds
 use Rattle.dimacs_judging.specs.declared.verdict.JudgeError.TheVariants as judge_errors

@@ -4,11 +4,12 @@ use Rattle.std.proofs.lemmas.Grind.{flat_map-append}
 use Rattle.std.specs.Option.{option_or}
 use Rattle.dimacs_lines.specs.Devices.{one_more}
 use Rattle.dimacs_runs.specs.{declared.failure.Failure.{Failure}, declared.failure.Failure.TheVariants.{File, Output}}
-use Rattle.dimacs_runs.specs.{declared.failure.FileCall.{FileCall}, declared.status.RunError.{RunError}}
-use Rattle.dimacs_runs.specs.{declared.status.RunError.TheVariants.{Device, Memory}, declared.status.Status.{Status}}
+use Rattle.dimacs_runs.specs.{declared.failure.FileCall.{FileCall}, Judgings.{CountsDevices, OneMore}}
 use Rattle.dimacs_runs.specs.Commands.{WritesNothing, failures_named, output_faults}
 use Rattle.dimacs_runs.specs.Files.{FileEvent, FilesSeen, Read, ReadFile, Sees, WrittenFile, Wrote, after_events, failures, faults_after}
-use Rattle.dimacs_runs.specs.{Judgings.{CountsDevices, OneMore}, inside.Commands.{IsFirstOf, named}}
+use Rattle.dimacs_runs.specs.inside.Commands.{IsFirstOf, named}
+use Rattle.dimacs_jobs.specs.{declared.status.RunError.{RunError}, declared.status.Status.{Status}}
+use Rattle.dimacs_jobs.specs.declared.status.RunError.TheVariants.{Device, Memory}
 use Rattle.dimacs_runs.specs.declared.failure.CommandError.TheVariants as errors
 use Rattle.dimacs_runs.specs.declared.failure.FileCall.TheVariants as calls
 

@@ -13,8 +13,8 @@ use Rattle.dimacs_instance.specs.{Graph.{GivesGraph, canonical_graph}, MaxTexts.
 use Rattle.dimacs_instance.specs.{MinTexts.{GivesMin, canonical_min}, QueryTexts.{GivesQueries, canonical_queries}}
 use Rattle.dimacs_instance.proofs.{GraphLemmas.{graph_round_trip}, MaxTextLemmas.{max_round_trip}}
 use Rattle.dimacs_instance.proofs.{MinTextLemmas.{min_round_trip}, QueriesLemmas.{queries_round_trip}}
-use Rattle.dimacs_runs.specs.{declared.status.Status.TheVariants.{Done}, Laws.{FixedPointLaw}}
-use Rattle.dimacs_runs.specs.Runs.{FaultOr, IsPrinted}
+use Rattle.dimacs_jobs.specs.declared.status.Status.TheVariants.{Done}
+use Rattle.dimacs_runs.specs.{Laws.{FixedPointLaw}, Runs.{FaultOr, IsPrinted}}
 use Rattle.dimacs_runs.proofs.LabelCounts.{distances_fit}
 use Rattle.dimacs_records.specs.declared.kinds.TextKind.TheVariants as kinds
 

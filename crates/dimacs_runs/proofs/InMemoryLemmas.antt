@@ -1,17 +1,17 @@
 -- What a run over texts in memory keeps of an outcome.
-use Rattle.std.proofs.Common.{◌≡◌, ℕ, List, [], ◌∷◌, Option, Some, Result, Ok, Err, refl, subst}
-use Rattle.std.specs.Prelude.{◌≢◌, IfOk}
+use Rattle.std.proofs.Common.{◌≡◌, ◌++◌, ℕ, List, [], ◌∷◌, Option, None, Some, Result, Ok, Err, inl, inr, refl, subst}
+use Rattle.std.specs.Prelude.{◌≢◌, IfOk, IfSome}
 use Rattle.dimacs_lines.specs.declared.device.Memory.{Memory}
-use Rattle.dimacs_runs.specs.{declared.in_memory.Ran.{Ran}, declared.jobs.JudgeKind.{JudgeKind}, Runs.{ReportsAlone}}
-use Rattle.dimacs_runs.specs.{declared.jobs.SolveJob.{SolveJob}, declared.outcome.Outcome.{Outcome}, Judged.{Judged}}
-use Rattle.dimacs_runs.specs.{declared.outcome.OutputText.{OutputText}, declared.status.RunError.{RunError}}
-use Rattle.dimacs_runs.specs.{declared.status.Status.{Status}, declared.outcome.OutputText.TheVariants.{Nothing}}
+use Rattle.dimacs_runs.specs.{declared.in_memory.Ran.{Ran}, Runs.{ReportsAlone}, declared.outcome.Outcome.{Outcome}}
+use Rattle.dimacs_runs.specs.{Judged.{Judged}, declared.outcome.OutputText.{OutputText}, Outputs.{MayWrite}}
+use Rattle.dimacs_runs.specs.{declared.outcome.OutputText.TheVariants.{Nothing}, Solved.{AreQueries, Solved}}
 use Rattle.dimacs_runs.specs.InMemory.{Made, MakesJudged, MakesOne, MakesSolved, MakesTwo, OnlyReports}
-use Rattle.dimacs_runs.specs.{Outputs.{MayWrite}, Solved.{AreQueries, Solved}}
-use Rattle.dimacs_runs.specs.inside.Outcomes.{IfEnds, Keeps, MayReport, outcome_texts, shown_texts, text_bytes}
-use Rattle.dimacs_runs.specs.inside.Reports.{report_lines, report_status}
-use Rattle.dimacs_runs.specs.declared.jobs.JudgeKind.TheVariants as judges
-use Rattle.dimacs_runs.specs.declared.jobs.SolveJob.TheVariants as solves
+use Rattle.dimacs_runs.specs.inside.Outcomes.{IfEnds, Keeps, KeepsReport, MayReport, outcome_texts, shown_texts, text_bytes}
+use Rattle.dimacs_runs.specs.{Reports.{report_lines}, inside.Reports.{report_status}}
+use Rattle.dimacs_jobs.specs.{declared.jobs.JudgeKind.{JudgeKind}, declared.jobs.SolveJob.{SolveJob}}
+use Rattle.dimacs_jobs.specs.{declared.status.RunError.{RunError}, declared.status.Status.{Status}}
+use Rattle.dimacs_jobs.specs.declared.jobs.JudgeKind.TheVariants as judges
+use Rattle.dimacs_jobs.specs.declared.jobs.SolveJob.TheVariants as solves
 
 -- what was kept of an outcome is possible
 kept_ends : {O : Type 0} (texts : Outcome → O) (possible : Status → O → Type 0) (outcome : Result Outcome RunError) (status : Status) (out : O)
@@ -70,3 +70,9 @@ pub asks_two : (job : SolveJob) (coming : Option (List ℕ)) (bytes : List ℕ) 
 asks_two (solves.Max limit) coming bytes is = tt
 asks_two (solves.Min limit) coming bytes is = tt
 asks_two solves.Paths coming bytes is = is
+
+-- what was kept as a text was printed to an empty sink in memory reports all that was printed
+pub kept_printed : (old new : List ℕ) (before after : ℕ) (kept : Option Outcome) → old ≡ []
+    → KeepsReport (record { accepted = Some old; faults = before }) (record { accepted = Some new; faults = after }) None kept → IfSome kept (λ (o : Outcome). report_lines o.report ≡ new)
+kept_printed old new before after kept empty (inl none) = rw none tt
+kept_printed old new before after kept empty (inr (o, is, accepted)) = let same : new ≡ old ++ report_lines o.report = cc in rw (is, same, empty) refl

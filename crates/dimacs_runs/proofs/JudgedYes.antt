@@ -22,13 +22,13 @@ use Rattle.dimacs_judging.specs.inside.QueryTests.{ends_of, radius_from, radius_
 use Rattle.dimacs_judging.proofs.{BlockNumbers.{block_found}, InfeasibleJudge.{infeasible_clear}, MaxJudge.{max_clear}}
 use Rattle.dimacs_judging.proofs.{MinJudge.{min_clear}, PathsPassing.{passing_shows, paths_clear}}
 use Rattle.dimacs_decide.specs.CertifiedPaths.{AreLabelsOfAll, block_source, sources_of}
-use Rattle.dimacs_runs.specs.declared.jobs.JudgeKind.TheVariants.{Max, Min, Infeasible, Paths}
-use Rattle.dimacs_runs.specs.{declared.status.Status.TheVariants.{Done}, Judged.{Judged, paths_lines}}
-use Rattle.dimacs_runs.specs.Laws.{AskOf, CertifiedLaw, SolvedLaw}
+use Rattle.dimacs_jobs.specs.declared.jobs.JudgeKind.TheVariants.{Max, Min, Infeasible, Paths}
+use Rattle.dimacs_jobs.specs.declared.status.Status.TheVariants.{Done}
+use Rattle.dimacs_runs.specs.{Judged.{Judged, paths_lines}, Laws.{AskOf, CertifiedLaw, SolvedLaw}}
 use Rattle.dimacs_runs.specs.Verdicts.{answer_line, distances_line, infeasible_line, max_line, min_line}
 use Rattle.dimacs_runs.proofs.{JudgingLemmas.{least_shown, maximum_shown}, SolutionTexts.{max_spelled, min_spelled}}
-use Rattle.dimacs_runs.specs.declared.jobs.JudgeKind.TheVariants as judges
-use Rattle.dimacs_runs.specs.declared.jobs.SolveJob.TheVariants as solves
+use Rattle.dimacs_jobs.specs.declared.jobs.JudgeKind.TheVariants as judges
+use Rattle.dimacs_jobs.specs.declared.jobs.SolveJob.TheVariants as solves
 
 -- ---- texts that spell what passes are judged yes
 module _ (instance claim certificate : List ℕ) where

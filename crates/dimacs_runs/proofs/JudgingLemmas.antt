@@ -9,11 +9,12 @@ use Rattle.std.specs.{Prelude.{ℤ}, List.{flat_map}}
 use Rattle.dimacs_claims.specs.{Cuts.{CutValue}, Labels.{BlockValue}, Potentials.{PotentialsValue}}
 use Rattle.dimacs_claims.specs.{SolutionTexts.{SolutionValue}, SolutionReading.{AnswersAlike}}
 use Rattle.dimacs_instance.specs.{MaxFlows.{MaxValue}, MinFlows.{MinValue}, QueryTexts.{QueriesValue}}
-use Rattle.dimacs_runs.specs.{Judged.{paths_lines}, declared.status.Status.{Status}, Runs.{ReportsAlone}}
-use Rattle.dimacs_runs.specs.declared.status.Status.TheVariants.{Done, Refused, GaveUp}
-use Rattle.dimacs_runs.specs.{Judgings.{CountsDevices, VerdictOr}, inside.Judgings.{ReadsIn, TextSpells}}
+use Rattle.dimacs_runs.specs.{Judged.{paths_lines}, Runs.{ReportsAlone}, Judgings.{CountsDevices, VerdictOr}}
+use Rattle.dimacs_runs.specs.inside.Judgings.{ReadsIn, TextSpells}
 use Rattle.dimacs_runs.specs.inside.Outcomes.{MayReport, judge_outcome, outcome_of}
 use Rattle.dimacs_runs.specs.Verdicts.{answer_line, failure_line, sources_line, verdict_lines}
+use Rattle.dimacs_jobs.specs.declared.status.Status.{Status}
+use Rattle.dimacs_jobs.specs.declared.status.Status.TheVariants.{Done, Refused, GaveUp}
 use Rattle.dimacs_judging.proofs.Firsts.{none_first}
 use Rattle.dimacs_judging.specs.declared.verdict.JudgeError.TheVariants as judge_errors
 use Rattle.dimacs_judging.specs.declared.verdict.Verdict.TheVariants as verdicts

@@ -1,7 +1,7 @@
 pub mod FileLemmas
 pub mod JudgingLemmas
 pub mod PlanLemmas
-mod ArgumentLemmas
+mod NameLemmas
 mod WritingLemmas
 pub mod ReportLemmas
 pub mod SolvingLemmas

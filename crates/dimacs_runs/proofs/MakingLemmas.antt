@@ -4,15 +4,16 @@ use Rattle.std.proofs.lemmas.Grind.{flat_map-append}
 use Rattle.std.specs.Result.{IsErrAnd}
 use Rattle.dimacs_lines.specs.Devices.{Written}
 use Rattle.dimacs_runs.specs.{declared.failure.CommandError.{CommandError}, declared.failure.Failure.{Failure}}
-use Rattle.dimacs_runs.specs.{declared.status.RunError.{RunError}, declared.status.Status.{Status}}
-use Rattle.dimacs_runs.specs.{declared.status.RunError.TheVariants.{Device, Memory}, declared.outcome.Outcome.{Outcome}}
-use Rattle.dimacs_runs.specs.{declared.outcome.OutputText.{OutputText}, Judgings.{CountsDevices}, Outputs.{ReportsAll}}
+use Rattle.dimacs_runs.specs.{declared.outcome.Outcome.{Outcome}, declared.outcome.OutputText.{OutputText}}
+use Rattle.dimacs_runs.specs.{Judgings.{CountsDevices}, Outputs.{ReportsAll}, Reports.{report_lines}}
 use Rattle.dimacs_runs.specs.declared.outcome.OutputText.TheVariants.{Cut, Labels, Nothing, Potentials, Solution}
 use Rattle.dimacs_runs.specs.Commands.{Contents, Making, MakesOfFiles, files_for, seen_by}
 use Rattle.dimacs_runs.specs.Files.{Created, FileEvent, FilesSeen, NotCreated, NotOpened, Opened, Read, ReadFile, Sees, WrittenFile, closed_written, failures}
-use Rattle.dimacs_runs.specs.{inside.Commands.{FailsWith, IsFirstOf, named}, inside.Reports.{report_lines}}
+use Rattle.dimacs_runs.specs.inside.Commands.{FailsWith, IsFirstOf, named}
 use Rattle.dimacs_runs.specs.inside.Making.{AnswersFiles, IsWritten, WritesOutcome, WritesReport}
 use Rattle.dimacs_runs.specs.inside.Outcomes.{EndsWriting, IfEnds, text_bytes, nowhere, shown_texts}
+use Rattle.dimacs_jobs.specs.{declared.status.RunError.{RunError}, declared.status.Status.{Status}}
+use Rattle.dimacs_jobs.specs.declared.status.RunError.TheVariants.{Device, Memory}
 use Rattle.dimacs_runs.proofs.FileLemmas.{all_after, all_before, closings, one_first, sees_then, sees_two, names_failure, why_nothing}
 use Rattle.dimacs_runs.proofs.PlanLemmas.{is_error, opened_none, reports_all_named, sees_nothing}
 use Rattle.dimacs_runs.proofs.WritingLemmas.{counts_both, counts_reported, counts_without, one_more_with, shown_written}

@@ -4,16 +4,17 @@ use Rattle.std.proofs.{lemmas.Grind.{flat_map-append}, lemmas.Result.{err_from_i
 use Rattle.std.specs.{Prelude.{IsErr}, Result.{IsErrAnd}}
 use Rattle.dimacs_lines.specs.Devices.{Written}
 use Rattle.dimacs_runs.specs.{declared.failure.CommandError.{CommandError}, declared.failure.Failure.{Failure}}
-use Rattle.dimacs_runs.specs.{declared.jobs.JudgeKind.{JudgeKind}, declared.jobs.SolveJob.{SolveJob}, Runs.{Reports}}
-use Rattle.dimacs_runs.specs.{declared.status.RunError.{RunError}, declared.status.Status.{Status}}
-use Rattle.dimacs_runs.specs.{declared.status.RunError.TheVariants.{Device, Memory}, Judged.{IsClaim, Judged}}
-use Rattle.dimacs_runs.specs.{declared.outcome.Outcome.{Outcome}, Judgings.{CountsDevices}, Solved.{AreQueries, Solved}}
+use Rattle.dimacs_runs.specs.{Runs.{Reports}, Judged.{IsClaim, Judged}, declared.outcome.Outcome.{Outcome}}
+use Rattle.dimacs_runs.specs.{Judgings.{CountsDevices}, Solved.{AreQueries, Solved}, Outputs.{MayWrite, ReportsAll}}
 use Rattle.dimacs_runs.specs.Commands.{Contents, Plan, RunsFiles, Reporting, ReportsJudged, WritesSolved, accepted_before, accepted_after, closed_empty, seen_by}
 use Rattle.dimacs_runs.specs.Files.{Created, FileEvent, FilesSeen, NotCreated, NotOpened, Opened, Read, ReadFile, Sees, WrittenFile, Wrote, after_events, failures}
-use Rattle.dimacs_runs.specs.{Outputs.{MayWrite, ReportsAll}, inside.Commands.{FailsWith, IsFirstOf, named}}
+use Rattle.dimacs_runs.specs.inside.Commands.{FailsWith, IsFirstOf, named}
+use Rattle.dimacs_jobs.specs.{declared.jobs.JudgeKind.{JudgeKind}, declared.jobs.SolveJob.{SolveJob}}
+use Rattle.dimacs_jobs.specs.{declared.status.RunError.{RunError}, declared.status.Status.{Status}}
+use Rattle.dimacs_jobs.specs.declared.status.RunError.TheVariants.{Device, Memory}
 use Rattle.dimacs_runs.proofs.FileLemmas.{AnyRead, Closed, all_after, all_before, closings, sees_then, names_failure, why_nothing}
-use Rattle.dimacs_runs.specs.declared.jobs.JudgeKind.TheVariants as judges
-use Rattle.dimacs_runs.specs.declared.jobs.SolveJob.TheVariants as solves
+use Rattle.dimacs_jobs.specs.declared.jobs.JudgeKind.TheVariants as judges
+use Rattle.dimacs_jobs.specs.declared.jobs.SolveJob.TheVariants as solves
 
 pub opened_none : (names : List (List ℕ)) → flat_map failures (map Opened names) ≡ []
 opened_none [] = refl

@@ -1,9 +1,9 @@
 -- The report on a text that was read or refused.
 use Rattle.std.proofs.Common.{◌≡◌, ℕ, List, Result, Ok, refl, ap, ◌∙◌, inl, inr, ◌⊎◌}
-use Rattle.dimacs_runs.specs.{declared.outcome.Outcome.{Outcome}, declared.status.Status.{Status}}
-use Rattle.dimacs_runs.specs.{declared.status.Status.TheVariants.{Done}, declared.early_end.EarlyEnd.{EarlyEnd}}
+use Rattle.dimacs_runs.specs.{declared.outcome.Outcome.{Outcome}, declared.early_end.EarlyEnd.{EarlyEnd}}
 use Rattle.dimacs_runs.specs.{Runs.{IsPrinted, ReportsAlone}, inside.Judgings.{FaultIn, ReadsIn, StopsAt, TextSpells}}
 use Rattle.dimacs_runs.specs.inside.Outcomes.{MayReport, outcome_of}
+use Rattle.dimacs_jobs.specs.{declared.status.Status.{Status}, declared.status.Status.TheVariants.{Done}}
 use Rattle.dimacs_runs.proofs.TextLemmas.{FaultLine, Stopped, reporting_way, unread_ends}
 
 module _ {V : Type 0} (text : TextSpells V) (printed : V → List ℕ) where

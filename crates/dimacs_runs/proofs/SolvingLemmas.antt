@@ -11,9 +11,10 @@ use Rattle.dimacs_judging.proofs.{Firsts.{one_of_row}, QueriesPassing.{query_nod
 use Rattle.dimacs_solve.specs.{declared.error.SolveError.{SolveError}, declared.maximum.MaxAnswer.{MaxAnswer}}
 use Rattle.dimacs_solve.specs.{declared.least.MinAnswer.{MinAnswer}, Paths.{IsFirstNegative, SolvesPaths}}
 use Rattle.dimacs_solve.specs.{SolveMax.{SolvesMax}, SolveMin.{SolvesMin}}
-use Rattle.dimacs_runs.specs.{declared.status.Status.TheVariants.{Refused}, declared.status.RunError.{RunError}}
-use Rattle.dimacs_runs.specs.{declared.status.RunError.TheVariants.{Device}, Judgings.{CountsDevices}}
-use Rattle.dimacs_runs.specs.{Outputs.{MayWrite}, declared.outcome.Outcome.{Outcome}, Verdicts.{failure_line}}
+use Rattle.dimacs_jobs.specs.{declared.status.Status.TheVariants.{Refused}, declared.status.RunError.{RunError}}
+use Rattle.dimacs_jobs.specs.declared.status.RunError.TheVariants.{Device}
+use Rattle.dimacs_runs.specs.{Judgings.{CountsDevices}, Outputs.{MayWrite}, declared.outcome.Outcome.{Outcome}}
+use Rattle.dimacs_runs.specs.Verdicts.{failure_line}
 use Rattle.dimacs_runs.specs.inside.Outcomes.{IsReadable, MaySolve, least_outcome, maximum_outcome, outcome_of, solve_end}
 use Rattle.dimacs_runs.specs.Solved.{FindsLeast, FindsMaximum, FindsPaths, RefusesPaths, report_alone}
 use Rattle.dimacs_records.specs.declared.reasons.Reason.TheVariants as reasons

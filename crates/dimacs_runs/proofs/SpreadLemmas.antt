@@ -8,9 +8,10 @@ use Rattle.dimacs_judging.specs.Tests.{AllClear, FirstAlone, Refuses}
 use Rattle.dimacs_judging.proofs.Firsts.{none_first}
 use Rattle.dimacs_network.specs.declared.network.ArcView.{ArcView}
 use Rattle.dimacs_solve.specs.Spread.{Deals, NoneCheaper, spread_rows}
-use Rattle.dimacs_runs.specs.{declared.jobs.SpreadKind.TheVariants.{Max, Min}, declared.jobs.SpreadKind.{SpreadKind}}
-use Rattle.dimacs_runs.specs.{declared.status.Status.{Status}, Certified.{uncertified}, Spread.{SpreadsClaim}}
-use Rattle.dimacs_runs.specs.{declared.status.Status.TheVariants.{Done, Refused, GaveUp}, Verdicts.{failure_line}}
+use Rattle.dimacs_jobs.specs.{declared.jobs.SpreadKind.TheVariants.{Max, Min}, declared.jobs.SpreadKind.{SpreadKind}}
+use Rattle.dimacs_jobs.specs.declared.status.Status.{Status}
+use Rattle.dimacs_jobs.specs.declared.status.Status.TheVariants.{Done, Refused, GaveUp}
+use Rattle.dimacs_runs.specs.{Certified.{uncertified}, Spread.{SpreadsClaim}, Verdicts.{failure_line}}
 use Rattle.dimacs_runs.specs.Outputs.{WritesAlike, report_of}
 use Rattle.dimacs_runs.specs.inside.Outcomes.{DealsOut, MayCertify, judge_end, outcome_of}
 use Rattle.dimacs_judging.specs.declared.verdict.JudgeError.TheVariants as judge_errors

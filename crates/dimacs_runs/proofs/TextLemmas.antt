@@ -4,14 +4,14 @@ use Rattle.std.proofs.lemmas.Result.{err_from_is_err_and}
 use Rattle.std.specs.Result.{IsErrAnd}
 use Rattle.dimacs_records.specs.{declared.faults.ReadError.{ReadError}, declared.kinds.TextKind.{TextKind}}
 use Rattle.dimacs_records.specs.declared.reasons.Reason.{Reason}
-use Rattle.dimacs_runs.specs.{declared.status.Status.{Status}, declared.status.Status.TheVariants.{Refused}}
-use Rattle.dimacs_runs.specs.{declared.status.RunError.{RunError}, declared.outcome.Outcome.{Outcome}}
-use Rattle.dimacs_runs.specs.{declared.report.Report.{Report}, declared.early_end.EarlyEnd.{EarlyEnd}}
-use Rattle.dimacs_runs.specs.{Certified.{uncertified}, Outputs.{MayWrite, WritesAlike, report_of}}
-use Rattle.dimacs_runs.specs.{Refusals.{refusal_line}, Runs.{ReportsAlone, text_word}, Solved.{report_alone}}
-use Rattle.dimacs_runs.specs.inside.Judgings.{ReadsIn, StopsAt, TextSpells}
+use Rattle.dimacs_jobs.specs.{declared.status.Status.{Status}, declared.status.Status.TheVariants.{Refused}}
+use Rattle.dimacs_jobs.specs.declared.status.RunError.{RunError}
+use Rattle.dimacs_runs.specs.{declared.outcome.Outcome.{Outcome}, declared.report.Report.{Report}}
+use Rattle.dimacs_runs.specs.{declared.early_end.EarlyEnd.{EarlyEnd}, Certified.{uncertified}, Refusals.{refusal_line}}
+use Rattle.dimacs_runs.specs.{Outputs.{MayWrite, WritesAlike, report_of}, Runs.{ReportsAlone, text_word}}
+use Rattle.dimacs_runs.specs.{Solved.{report_alone}, inside.Judgings.{ReadsIn, StopsAt, TextSpells}}
 use Rattle.dimacs_runs.specs.inside.Outcomes.{IfEnds, outcome_texts, reporting, outcome_of, shown_texts, unread_end}
-use Rattle.dimacs_runs.specs.inside.Reports.{report_lines, report_status}
+use Rattle.dimacs_runs.specs.{Reports.{report_lines}, inside.Reports.{report_status}}
 use Rattle.dimacs_runs.specs.declared.report.Report.TheVariants as reports
 use Rattle.dimacs_records.specs.declared.faults.ReadError.TheVariants as read_errors
 

@@ -18,15 +18,16 @@ use Rattle.dimacs_judging.specs.Tests.{AllClear, Row}
 use Rattle.dimacs_judging.proofs.Firsts.{none_first}
 use Rattle.dimacs_runs.specs.Certified.{CertificateOr, CertifiesDistances, CertifiesInfeasible, CertifiesLeast, CertifiesMaximum, uncertified}
 use Rattle.dimacs_runs.specs.Laws.{AreTrueDistances, IsTrueMax, IsTrueMin, RunLimitLaw, TrueClaimLaw}
-use Rattle.dimacs_runs.specs.{Solved.{FaultAloneOr}, declared.status.Status.{Status}}
-use Rattle.dimacs_runs.specs.declared.status.Status.TheVariants.{Done, GaveUp, Refused}
+use Rattle.dimacs_runs.specs.Solved.{FaultAloneOr}
+use Rattle.dimacs_jobs.specs.declared.status.Status.{Status}
+use Rattle.dimacs_jobs.specs.declared.status.Status.TheVariants.{Done, GaveUp, Refused}
 use Rattle.dimacs_solve.specs.Climbing.{GivesUp}
 use Rattle.dimacs_solve.proofs.ClimbingLemmas.{enough_limit}
 use Rattle.dimacs_judging.proofs.MaxJudge as max
 use Rattle.dimacs_judging.proofs.MinJudge as min
 use Rattle.dimacs_records.specs.declared.faults.ReadError.TheVariants as read_errors
 use Rattle.dimacs_records.specs.declared.kinds.TextKind.TheVariants as kinds
-use Rattle.dimacs_runs.specs.declared.jobs.JudgeKind.TheVariants as judges
+use Rattle.dimacs_jobs.specs.declared.jobs.JudgeKind.TheVariants as judges
 
 -- a text with a fault spells nothing, and one without spells one value: the end follows from it
 exactly_spelled : {V : Type 0} (kind : TextKind) (gives : List LineRecord → V → Type 0)

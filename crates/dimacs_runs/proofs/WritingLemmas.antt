@@ -1,12 +1,12 @@
 -- What was written of an outcome.
-use Rattle.std.proofs.Common.{◌≡◌, ◌∙◌, ◌++◌, ◌⊎◌, ℕ, List, [], ◌∷◌, Result, Ok, Err, ap, ap₂, arith, drop, inl, inr, length, refl, sym}
-use Rattle.std.specs.Prelude.{IsErr}
+use Rattle.std.proofs.Common.{◌≡◌, ◌∙◌, ◌++◌, ◌⊎◌, ℕ, List, [], ◌∷◌, Option, Some, Result, Ok, Err, ap, ap₂, arith, drop, inl, inr, length, refl, sym}
+use Rattle.std.specs.Prelude.{IfOk, IsErr}
 use Rattle.dimacs_lines.specs.Devices.{Written}
-use Rattle.dimacs_runs.specs.{declared.outcome.Outcome.{Outcome}, declared.status.RunError.{RunError}, Runs.{Reports}}
-use Rattle.dimacs_runs.specs.{declared.status.RunError.TheVariants.{Device, Memory}, Judgings.{CountsDevices, OneMore}}
-use Rattle.dimacs_runs.specs.{declared.status.Status.{Status}, Outputs.{ReportsAll}}
-use Rattle.dimacs_runs.specs.inside.Outcomes.{EndsWriting, IfEnds, MayReport, accepted_by, faults_by, nowhere, outcome_texts, shown_texts}
-use Rattle.dimacs_runs.specs.inside.Reports.{report_lines, report_status}
+use Rattle.dimacs_runs.specs.{declared.outcome.Outcome.{Outcome}, Runs.{Reports}, Judgings.{CountsDevices, OneMore}}
+use Rattle.dimacs_runs.specs.{Outputs.{ReportsAll}, Reports.{report_lines}, inside.Reports.{report_status}}
+use Rattle.dimacs_runs.specs.inside.Outcomes.{EndsWriting, IfEnds, KeepsReport, MayReport, accepted_by, faults_by, nowhere, outcome_texts, shown_texts}
+use Rattle.dimacs_jobs.specs.{declared.status.RunError.{RunError}, declared.status.Status.{Status}}
+use Rattle.dimacs_jobs.specs.declared.status.RunError.TheVariants.{Device, Memory}
 
 -- all texts
 pub all_written : (a : Status → List (List ℕ) → Type 0) (outcome : Result Outcome RunError) (result : Result Status RunError) (old new : List Written)
@@ -36,6 +36,13 @@ report_written a (Ok o) (Err error) old new may ends = elim ends.1 [
   | inr (claim, inr (certificate, inr (report, never))) ↦ absurd never
 ]
 report_written a (Err error) result old new may ends = rw ends.0 (let all : nowhere ∷ nowhere ∷ new ∷ [] ≡ nowhere ∷ nowhere ∷ old ∷ [] = ends.1 in let same : new ≡ old = cc in inl (ap (λ (w : Written). w.accepted) same))
+
+-- the outcome that was kept reports what was written
+pub report_kept : (outcome : Result Outcome RunError) (result : Result Status RunError) (old new : Written) (kept more : Option Outcome)
+    → EndsWriting outcome result (nowhere ∷ nowhere ∷ old ∷ []) (nowhere ∷ nowhere ∷ new ∷ []) → IfOk result (λ status. (o : Outcome) × (outcome ≡ Ok o) × (more ≡ Some o)) → IfOk result (λ status. KeepsReport old new kept more)
+report_kept (Ok o) (Ok status) old new kept more ends (p, same, is) = let here : p ≡ o = cc in inr (o, is ∙ ap Some here, ends.1.1.1.0)
+report_kept (Err error) (Ok status) old new kept more ends (p, same, is) = absurd cc
+report_kept outcome (Err error) old new kept more ends none = tt
 
 -- nothing was written without memory, or without an outcome
 pub unwritten : (outcome : Result Outcome RunError) (ended : Result Status RunError) (old new : List Written) → EndsWriting outcome ended old new → (ended ≡ Err Memory) ⊎ IsErr outcome → new ≡ old

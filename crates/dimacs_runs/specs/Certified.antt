@@ -16,9 +16,10 @@ use Rattle.dimacs_judging.specs.Tests.{First, Row}
 use Rattle.dimacs_decide.specs.{Entries.{IsMaxSolutionOf, IsMinSolutionOf}, CertifiedMax.{IsMaxImproved}}
 use Rattle.dimacs_decide.specs.CertifiedMin.{IsMinImproved}
 use Rattle.dimacs_decide.specs.CertifiedPaths.{AreAllDistances, AreLabelsOfAll, distances_rows}
-use Rattle.dimacs_runs.specs.{declared.jobs.JudgeKind.{JudgeKind}, declared.status.Status.{Status}}
-use Rattle.dimacs_runs.specs.{declared.jobs.JudgeKind.TheVariants.{Max, Min, Infeasible, Paths}, Solved.{FaultAloneOr}}
-use Rattle.dimacs_runs.specs.{declared.status.Status.TheVariants.{Done, Refused, GaveUp}, Refusals.{refusal_line}}
+use Rattle.dimacs_jobs.specs.{declared.jobs.JudgeKind.{JudgeKind}, declared.status.Status.{Status}}
+use Rattle.dimacs_jobs.specs.declared.jobs.JudgeKind.TheVariants.{Max, Min, Infeasible, Paths}
+use Rattle.dimacs_jobs.specs.declared.status.Status.TheVariants.{Done, Refused, GaveUp}
+use Rattle.dimacs_runs.specs.{Solved.{FaultAloneOr}, Refusals.{refusal_line}}
 use Rattle.dimacs_runs.specs.Verdicts.{distances_line, failure_line, infeasible_line, max_line, min_line}
 use Rattle.dimacs_records.specs.declared.kinds.TextKind.TheVariants as kinds
 

@@ -1,20 +1,22 @@
 -- What a command does with its files and its output, from its arguments to the end of its run.
-use Rattle.std.specs.Prelude.{ℕ, ◌≡◌, ◌⊎◌, ◌++◌, List, [], ◌∷◌, Option, None, Some, Result, Ok, Err, IsErr, drop, map, slice_get, take}
-use Rattle.std.specs.{List.{flat_map}, String.{string_bytes}}
+use Rattle.std.specs.Prelude.{ℕ, ◌≡◌, ◌⊎◌, ◌++◌, List, [], ◌∷◌, Option, None, Some, Result, Ok, Err, IsErr, map}
+use Rattle.std.specs.List.{flat_map}
 use Rattle.dimacs_lines.specs.Devices.{Written, one_more}
 use Rattle.dimacs_runs.specs.{declared.failure.CommandError.{CommandError}, declared.failure.FileCall.{FileCall}}
-use Rattle.dimacs_runs.specs.{declared.failure.CommandError.TheVariants.{Device, Memory}, declared.jobs.Job.{Job}}
-use Rattle.dimacs_runs.specs.{declared.failure.Failure.TheVariants.{File, Output}, declared.jobs.JudgeKind.{JudgeKind}}
-use Rattle.dimacs_runs.specs.declared.jobs.Job.TheVariants.{Convert, Show, Judge, Certify, Spread, Solve}
-use Rattle.dimacs_runs.specs.{declared.jobs.SolveJob.{SolveJob}, declared.jobs.SpreadKind.{SpreadKind}, Judged.{Judged}}
-use Rattle.dimacs_runs.specs.{declared.status.RunError.{RunError}, declared.status.Status.{Status}, Solved.{Solved}}
-use Rattle.dimacs_runs.specs.{Certified.{Certified}, Jobs.{Asks, certify_reads}, Runs.{Reports, Prints}}
+use Rattle.dimacs_runs.specs.{declared.failure.CommandError.TheVariants.{Device, Memory}, Judged.{Judged}}
+use Rattle.dimacs_runs.specs.{declared.failure.Failure.TheVariants.{File, Output}, Solved.{Solved}, Spread.{Spreads}}
+use Rattle.dimacs_runs.specs.{Certified.{Certified}, Runs.{Reports, Prints}}
 use Rattle.dimacs_runs.specs.Files.{Created, FileEvent, FilesSeen, NotCreated, NotOpened, Opened, Read, ReadFile, Sees, WrittenFile, Wrote, closed_written, failures}
-use Rattle.dimacs_runs.specs.{Outputs.{MayWrite, ReportsAll, WritesAlike}, Spread.{Spreads}}
+use Rattle.dimacs_runs.specs.Outputs.{MayWrite, ReportsAll, WritesAlike}
 use Rattle.dimacs_runs.specs.declared.text.TextForm.TheVariants.{Canonical, Summary}
+use Rattle.dimacs_jobs.specs.{declared.jobs.Job.{Job}, declared.jobs.Verb.{Verb}, declared.jobs.JudgeKind.{JudgeKind}}
+use Rattle.dimacs_jobs.specs.declared.jobs.Verb.TheVariants.{Convert, Show, Judge, Certify, Spread, Solve}
+use Rattle.dimacs_jobs.specs.{declared.jobs.SolveJob.{SolveJob}, declared.jobs.SpreadKind.{SpreadKind}}
+use Rattle.dimacs_jobs.specs.{declared.status.RunError.{RunError}, declared.status.Status.{Status}}
+use Rattle.dimacs_jobs.specs.Jobs.{Asks, names_read, names_written}
 use Rattle.dimacs_runs.specs.declared.failure.FileCall.TheVariants as calls
-use Rattle.dimacs_runs.specs.declared.jobs.JudgeKind.TheVariants as judges
-use Rattle.dimacs_runs.specs.declared.jobs.SolveJob.TheVariants as solves
+use Rattle.dimacs_jobs.specs.declared.jobs.JudgeKind.TheVariants as judges
+use Rattle.dimacs_jobs.specs.declared.jobs.SolveJob.TheVariants as solves
 
 -- the bytes that the file with a name holds, if they are known
 abbrev pub Contents : Type 0
@@ -33,31 +35,8 @@ pub record Plan : Type 0 where
   pub opened : List (List ℕ)
   pub created : List (List ℕ)
 
-abbrev pub reads : List (List ℕ) → Plan
-reads names = record { opened = names; created = [] }
-
--- the first `count` files are read, the others written
-abbrev pub reads_first : ℕ → List (List ℕ) → Plan
-reads_first count names = record { opened = take count names; created = drop count names }
-
--- a graph and queries, or only an instance
-abbrev pub read_count : SolveJob → ℕ
-read_count solves.Paths = 2
-read_count job = 1
-
 abbrev pub plan_of : Job → Plan
-plan_of (Convert kind file) = reads (file.now ∷ [])
-plan_of (Show kind file) = reads (file.now ∷ [])
-plan_of (Judge kind files) = reads (map string_bytes files.now)
-plan_of (Certify kind files) = reads_first (certify_reads kind) (map string_bytes files.now)
-plan_of (Spread kind files) = reads_first 2 (map string_bytes files.now)
-plan_of (Solve job files) = reads_first (read_count job) (map string_bytes files.now)
-
--- a run writes both claim and certificate to the file with this name
-abbrev pub WritesTwice : Job → List ℕ → Type 0
-WritesTwice (Solve solves.Paths files) name = ⊥
-WritesTwice (Solve job files) name = (slice_get (map string_bytes files.now) 1 ≡ Some name) × (slice_get (map string_bytes files.now) 2 ≡ Some name)
-WritesTwice job name = ⊥
+plan_of job = record { opened = names_read job; created = names_written job }
 
 -- the texts that were read, the result, and what files and output had accepted before the run and after it
 abbrev pub Reporting : Type 1
@@ -221,13 +200,16 @@ MakesOfFiles plan holds empty makes result old new =
     ⊎ MakesFiles plan holds empty makes events result old.output.accepted new.output.accepted) result old new
 
 -- certifying and spreading create their file once they have a text for it, the others before they run
+abbrev pub RunsVerb : Verb → Plan → Contents → Option (List ℕ) → Result Status CommandError → Seen → Seen → Type 0
+RunsVerb (Convert kind) plan holds empty = RunsFiles plan holds empty (ReportsOne (Prints Canonical kind))
+RunsVerb (Show kind) plan holds empty = RunsFiles plan holds empty (ReportsOne (Prints Summary kind))
+RunsVerb (Judge kind) plan holds empty = RunsFiles plan holds empty (ReportsJudged kind)
+RunsVerb (Certify kind) plan holds empty = MakesOfFiles plan holds empty (MakesCertificate kind)
+RunsVerb (Spread kind) plan holds empty = MakesOfFiles plan holds empty (MakesSpread kind)
+RunsVerb (Solve job) plan holds empty = RunsFiles plan holds empty (WritesSolved job)
+
 abbrev pub RunsJob : Job → Contents → Option (List ℕ) → Result Status CommandError → Seen → Seen → Type 0
-RunsJob (Convert kind file) holds empty = RunsFiles (plan_of (Convert kind file)) holds empty (ReportsOne (Prints Canonical kind))
-RunsJob (Show kind file) holds empty = RunsFiles (plan_of (Show kind file)) holds empty (ReportsOne (Prints Summary kind))
-RunsJob (Judge kind files) holds empty = RunsFiles (plan_of (Judge kind files)) holds empty (ReportsJudged kind)
-RunsJob (Certify kind files) holds empty = MakesOfFiles (plan_of (Certify kind files)) holds empty (MakesCertificate kind)
-RunsJob (Spread kind files) holds empty = MakesOfFiles (plan_of (Spread kind files)) holds empty (MakesSpread kind)
-RunsJob (Solve job files) holds empty = RunsFiles (plan_of (Solve job files)) holds empty (WritesSolved job)
+RunsJob job = RunsVerb job.verb (plan_of job)
 
 -- the arguments ask for no run, and nothing is done; or the run that they ask for ends like this
 abbrev pub Commands : List (List ℕ) → Contents → Option (List ℕ) → Option (Result Status CommandError) → Seen → Seen → Type 0

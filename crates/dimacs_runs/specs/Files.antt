@@ -2,8 +2,8 @@
 use Rattle.std.specs.Prelude.{ℕ, ◌++◌, ◌==◌, ◌≡◌, if◌then◌else◌, List, [], ◌∷◌, Option, None, Some, Result, Ok, Err}
 use Rattle.std.specs.List.{flat_map}
 use Rattle.dimacs_lines.specs.Devices.{Written, one_more}
-use Rattle.dimacs_runs.specs.{declared.failure.FileCall.{FileCall}, declared.status.RunError.{RunError}}
-use Rattle.dimacs_runs.specs.declared.status.RunError.TheVariants.{Device}
+use Rattle.dimacs_runs.specs.declared.failure.FileCall.{FileCall}
+use Rattle.dimacs_jobs.specs.{declared.status.RunError.{RunError}, declared.status.RunError.TheVariants.{Device}}
 use Rattle.dimacs_runs.specs.declared.failure.FileCall.TheVariants as calls
 
 -- a file that was read and closed, with its faults

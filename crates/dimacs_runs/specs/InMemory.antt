@@ -1,13 +1,17 @@
--- What a run makes of texts in memory, the text that it refuses, and what follows if its end is explained.
-use Rattle.std.specs.Prelude.{ℕ, ◌≡◌, ◌++◌, false, List, [], ◌∷◌, Some, codes, slice_get}
-use Rattle.dimacs_runs.specs.{declared.jobs.Job.{Job}, declared.jobs.JudgeKind.{JudgeKind}, Certified.{Certified}}
-use Rattle.dimacs_runs.specs.{declared.jobs.SolveJob.{SolveJob}, declared.status.Status.{Status}, Judged.{Judged}}
-use Rattle.dimacs_runs.specs.declared.jobs.Job.TheVariants.{Convert, Show, Judge, Certify, Spread, Solve}
-use Rattle.dimacs_runs.specs.{declared.text.TextForm.TheVariants.{Canonical, Summary}, Solved.{Solved}}
-use Rattle.dimacs_runs.specs.{Explained.{EndsLine, is_explained}, Outputs.{MayWrite, WritesAlike}, Spread.{Spreads}}
-use Rattle.dimacs_runs.specs.Runs.{Prints, ReportsAlone, text_word}
-use Rattle.dimacs_runs.specs.declared.jobs.JudgeKind.TheVariants as judges
-use Rattle.dimacs_runs.specs.declared.jobs.SolveJob.TheVariants as solves
+-- What a run makes of texts in memory, the text that it refuses, and what it keeps.
+use Rattle.std.specs.Prelude.{ℕ, ◌≡◌, ◌++◌, List, [], ◌∷◌, Some, IfSome, codes, slice_get, take}
+use Rattle.dimacs_jobs.specs.{declared.jobs.JudgeKind.{JudgeKind}, declared.jobs.Verb.{Verb}, Jobs.{texts_of}}
+use Rattle.dimacs_jobs.specs.{declared.jobs.SolveJob.{SolveJob}, declared.status.Status.{Status}}
+use Rattle.dimacs_jobs.specs.declared.jobs.Verb.TheVariants.{Convert, Show, Judge, Certify, Spread, Solve}
+use Rattle.dimacs_records.specs.{declared.kinds.TextKind.{TextKind}, declared.kinds.TextKind.TheVariants.{Solution}}
+use Rattle.dimacs_records.specs.declared.reasons.Reason.{Reason}
+use Rattle.dimacs_records.specs.declared.reasons.Reason.TheVariants.{ProblemMissing, SolutionMissing}
+use Rattle.dimacs_runs.specs.{Certified.{Certified}, Judged.{Judged}, Solved.{Solved}, Outputs.{MayWrite, WritesAlike}}
+use Rattle.dimacs_runs.specs.{declared.text.TextForm.TheVariants.{Canonical, Summary}, Spread.{Spreads}}
+use Rattle.dimacs_runs.specs.{Refusals.{refusal_line}, Runs.{Prints, ReportsAlone, text_word}, Reports.{report_lines}}
+use Rattle.dimacs_runs.specs.{declared.in_memory.Ran.{Ran}, declared.outcome.Outcome.{Outcome}}
+use Rattle.dimacs_jobs.specs.declared.jobs.JudgeKind.TheVariants as judges
+use Rattle.dimacs_jobs.specs.declared.jobs.SolveJob.TheVariants as solves
 
 -- from a status to texts for the first and the second file that a run creates, and its report
 abbrev pub Made : Type 1
@@ -32,34 +36,29 @@ abbrev pub MakesSolved : SolveJob → List ℕ → List ℕ → Made
 MakesSolved solves.Paths first second = MakesOne (λ status out. MayWrite (Solved solves.Paths first second) status ([] ∷ out))
 MakesSolved job first second = MakesTwo (MayWrite (Solved job first second))
 
--- what a job makes of the texts for the files that it reads, in order
-abbrev pub Makes : Job → List ℕ → List ℕ → List ℕ → Made
-Makes (Convert kind file) first second third = OnlyReports (Prints Canonical kind first)
-Makes (Show kind file) first second third = OnlyReports (Prints Summary kind first)
-Makes (Judge kind files) first second third = MakesJudged kind first second third
-Makes (Certify kind files) first second third = MakesOne (WritesAlike (Certified kind first second))
-Makes (Spread kind files) first second third = MakesOne (WritesAlike (Spreads kind first second))
-Makes (Solve job files) first second third = MakesSolved job first second
+-- what a verb makes of the texts for the files that it reads, in order
+abbrev pub Makes : Verb → List ℕ → List ℕ → List ℕ → Made
+Makes (Convert kind) first second third = OnlyReports (Prints Canonical kind first)
+Makes (Show kind) first second third = OnlyReports (Prints Summary kind first)
+Makes (Judge kind) first second third = MakesJudged kind first second third
+Makes (Certify kind) first second third = MakesOne (WritesAlike (Certified kind first second))
+Makes (Spread kind) first second third = MakesOne (WritesAlike (Spreads kind first second))
+Makes (Solve job) first second third = MakesSolved job first second
 
--- the words for the texts that a job reads, in order, in the lines of refusals
-abbrev pub words_read : Job → List (List ℕ)
-words_read (Convert kind file) = text_word kind ∷ []
-words_read (Show kind file) = text_word kind ∷ []
-words_read (Judge judges.Infeasible files) = codes "instance" ∷ codes "certificate" ∷ []
-words_read (Judge judges.Paths files) = codes "instance" ∷ codes "query" ∷ codes "certificate" ∷ []
-words_read (Judge kind files) = codes "instance" ∷ codes "solution" ∷ codes "certificate" ∷ []
-words_read (Certify judges.Infeasible files) = codes "instance" ∷ []
-words_read (Certify judges.Paths files) = codes "instance" ∷ codes "distances" ∷ []
-words_read (Certify kind files) = codes "instance" ∷ codes "solution" ∷ []
-words_read (Spread kind files) = codes "instance" ∷ codes "solution" ∷ []
-words_read (Solve solves.Paths files) = codes "instance" ∷ codes "query" ∷ []
-words_read (Solve job files) = codes "instance" ∷ []
+-- what an empty text lacks: a solution its value, all others their problem line
+abbrev pub lacking : TextKind → Reason
+lacking Solution = SolutionMissing
+lacking kind = ProblemMissing
 
--- the report begins with `x` and the word of the text at this place, from 0
-abbrev pub Refuses : Job → ℕ → List ℕ → Type 0
-Refuses job place report = (word : List ℕ) × (rest : List ℕ) × (slice_get (words_read job) place ≡ Some word) × (report ≡ codes "x " ++ word ++ rest)
+-- the report refuses the text at this place, from 0, among those that a verb reads, as one of a line end alone
+abbrev pub Refuses : Verb → ℕ → List ℕ → Type 0
+Refuses verb place report =
+    (kind : TextKind) × (slice_get (take (texts_of verb).read (texts_of verb).kinds) place ≡ Some kind) × (report ≡ refusal_line (text_word kind) 2 0 (lacking kind))
 
--- the report, then lines that explain it, if the end of the job may have such
-abbrev pub IsExplained : Job → Status → List ℕ → List ℕ → Type 0
-IsExplained job status report printed =
-    (lines : List ℕ) × (printed ≡ report ++ lines) × EndsLine lines × (is_explained job status ≡ false → lines ≡ [])
+-- the outcome that was kept, if one was, reports what was printed
+abbrev pub HasKept : Ran → Type 0
+HasKept ran = IfSome ran.kept (λ (o : Outcome). report_lines o.report ≡ ran.printed.bytes)
+
+-- a run over these texts, whose report isn't explained yet
+abbrev pub RanOver : Verb → List ℕ → List ℕ → List ℕ → Ran → Type 0
+RanOver verb first second third ran = Makes verb first second third ran.status ran.made.bytes ran.more.bytes ran.printed.bytes × HasKept ran

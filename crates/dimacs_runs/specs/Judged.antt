@@ -8,8 +8,9 @@ use Rattle.dimacs_instance.specs.QueryTexts.{QueriesValue, GivesQueries, Sources
 use Rattle.dimacs_judging.specs.{Answers.{answer_to}, Claims.{claimed_flow}, InfeasibleJudge.{infeasible_rows}}
 use Rattle.dimacs_judging.specs.{Labels.{AreDistances}, MaxJudge.{max_rows}, MinJudge.{min_rows}}
 use Rattle.dimacs_judging.specs.{Optimum.{Least, Maximum, NoFlow}, PathsJudge.{AnswersAreDistances, paths_rows}}
-use Rattle.dimacs_runs.specs.{declared.jobs.JudgeKind.{JudgeKind}, declared.status.Status.{Status}, Runs.{FaultOr}}
-use Rattle.dimacs_runs.specs.{declared.jobs.JudgeKind.TheVariants.{Max, Min, Infeasible, Paths}, Judgings.{VerdictOr}}
+use Rattle.dimacs_jobs.specs.{declared.jobs.JudgeKind.{JudgeKind}, declared.status.Status.{Status}}
+use Rattle.dimacs_jobs.specs.declared.jobs.JudgeKind.TheVariants.{Max, Min, Infeasible, Paths}
+use Rattle.dimacs_runs.specs.{Runs.{FaultOr}, Judgings.{VerdictOr}}
 use Rattle.dimacs_runs.specs.Verdicts.{max_line, min_line, infeasible_line, sources_line, answer_line}
 use Rattle.dimacs_records.specs.declared.kinds.TextKind.TheVariants as kinds
 

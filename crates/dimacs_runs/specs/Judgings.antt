@@ -3,9 +3,10 @@ use Rattle.std.specs.Prelude.{ℕ, ◌≡◌, ◌⊎◌, List, [], ◌∷◌, Re
 use Rattle.dimacs_lines.specs.Devices.{one_more}
 use Rattle.dimacs_records.specs.declared.reasons.Reason.{Reason}
 use Rattle.dimacs_judging.specs.{declared.verdict.Where.{Where}, Tests.{AllClear, Row, First}}
-use Rattle.dimacs_runs.specs.{declared.status.Status.{Status}, declared.status.RunError.{RunError}}
-use Rattle.dimacs_runs.specs.{declared.status.Status.TheVariants.{Done, Refused, GaveUp}, Verdicts.{failure_line}}
-use Rattle.dimacs_runs.specs.declared.status.RunError.TheVariants.{Device, Memory}
+use Rattle.dimacs_jobs.specs.{declared.status.Status.{Status}, declared.status.RunError.{RunError}}
+use Rattle.dimacs_jobs.specs.declared.status.Status.TheVariants.{Done, Refused, GaveUp}
+use Rattle.dimacs_jobs.specs.declared.status.RunError.TheVariants.{Device, Memory}
+use Rattle.dimacs_runs.specs.Verdicts.{failure_line}
 
 -- all tests pass, the claim is true, and the report is the verdict; or the report is the line of the first test that fails
 abbrev pub VerdictOr : List Row → Type 0 → List ℕ → Status → List ℕ → Type 0

@@ -11,13 +11,13 @@ use Rattle.dimacs_instance.specs.{MaxTexts.{SpellsMax}, MinFlows.{MinValue}, Min
 use Rattle.dimacs_judging.specs.{Claims.{Carries}, Feasible.{value}, FlowTests.{cost_through}, Flows.{cost}}
 use Rattle.dimacs_judging.specs.{Optimum.{Least, Maximum, NoFlow}, QueryTests.{nodes_asked, sources_asked}}
 use Rattle.dimacs_decide.specs.CertifiedPaths.{AreAllDistances, sources_of}
-use Rattle.dimacs_runs.specs.{declared.jobs.JudgeKind.{JudgeKind}, declared.jobs.SolveJob.{SolveJob}, Solved.{Solved}}
-use Rattle.dimacs_runs.specs.{declared.text.TextForm.TheVariants.{Canonical}, Runs.{Prints}, Certified.{Certified}}
-use Rattle.dimacs_runs.specs.declared.jobs.JudgeKind.TheVariants.{Max, Min, Infeasible, Paths}
-use Rattle.dimacs_runs.specs.{declared.status.Status.{Status}, Judged.{Judged, paths_lines}}
-use Rattle.dimacs_runs.specs.declared.status.Status.TheVariants.{Done, GaveUp}
-use Rattle.dimacs_runs.specs.declared.jobs.JudgeKind.TheVariants as judges
-use Rattle.dimacs_runs.specs.declared.jobs.SolveJob.TheVariants as solves
+use Rattle.dimacs_jobs.specs.{declared.jobs.JudgeKind.{JudgeKind}, declared.jobs.SolveJob.{SolveJob}}
+use Rattle.dimacs_jobs.specs.declared.jobs.JudgeKind.TheVariants.{Max, Min, Infeasible, Paths}
+use Rattle.dimacs_jobs.specs.{declared.status.Status.{Status}, declared.status.Status.TheVariants.{Done, GaveUp}}
+use Rattle.dimacs_runs.specs.{Solved.{Solved}, declared.text.TextForm.TheVariants.{Canonical}, Runs.{Prints}}
+use Rattle.dimacs_runs.specs.{Certified.{Certified}, Judged.{Judged, paths_lines}}
+use Rattle.dimacs_jobs.specs.declared.jobs.JudgeKind.TheVariants as judges
+use Rattle.dimacs_jobs.specs.declared.jobs.SolveJob.TheVariants as solves
 
 -- each query is about the source of a block and nodes of the graph
 pub record AskOf (nodes : ℕ) (blocks : List BlockValue) (q : QueriesValue) : Type 0 where

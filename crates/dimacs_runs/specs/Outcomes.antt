@@ -1,19 +1,11 @@
--- The exit statuses of the command, its complaints on the standard error, and the words for failures.
-use Rattle.std.specs.Prelude.{ℕ, ◌==◌, if◌then◌else◌, List, Option, None, Some, Result, Ok, Err, codes}
+-- The exit status of a command, and the words for failures.
+use Rattle.std.specs.Prelude.{ℕ, List, Option, None, Some, Result, Ok, Err, codes}
 use Rattle.dimacs_runs.specs.{declared.failure.CommandError.{CommandError}, declared.failure.Failure.{Failure}}
-use Rattle.dimacs_runs.specs.{declared.failure.Failure.TheVariants.{File, Output}, declared.status.Status.{Status}}
-use Rattle.dimacs_runs.specs.declared.status.Status.TheVariants.{Done, Refused, GaveUp}
-use Rattle.dimacs_runs.specs.declared.status.RunError.{RunError}
-use Rattle.dimacs_runs.specs.declared.status.RunError.TheVariants.{Device, Memory}
+use Rattle.dimacs_runs.specs.declared.failure.Failure.TheVariants.{File, Output}
+use Rattle.dimacs_jobs.specs.{declared.status.Status.{Status}, Outcomes.{status_number}}
+use Rattle.dimacs_jobs.specs.declared.status.RunError.TheVariants.{Device, Memory}
 use Rattle.dimacs_runs.specs.declared.failure.CommandError.TheVariants as errors
 use Rattle.dimacs_runs.specs.declared.failure.FileCall.TheVariants as calls
-
-abbrev pub status_number : Result Status RunError → ℕ
-status_number (Ok Done) = 0
-status_number (Ok Refused) = 1
-status_number (Ok GaveUp) = 5
-status_number (Err Device) = 3
-status_number (Err Memory) = 4
 
 -- none if the arguments asked for no run
 abbrev pub command_number : Option (Result Status CommandError) → ℕ
@@ -21,14 +13,6 @@ command_number None = 2
 command_number (Some (Ok status)) = status_number (Ok status)
 command_number (Some (Err (errors.Device failure))) = status_number (Err Device)
 command_number (Some (Err errors.Memory)) = status_number (Err Memory)
-
--- the lines for wrong usage, an I/O error and out of memory
-abbrev pub complaint_of : ℕ → Option (List ℕ)
-complaint_of status =
-    if status == 2 then Some (codes "dimacs: usage")
-    else if status == 3 then Some (codes "dimacs: device fault")
-    else if status == 4 then Some (codes "dimacs: out of memory")
-    else None
 
 -- the name of the device that failed
 abbrev pub failed_device : Failure → List ℕ

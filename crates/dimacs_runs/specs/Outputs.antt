@@ -1,7 +1,7 @@
 -- What a run writes to several sinks, one text to each, in order.
 use Rattle.std.specs.Prelude.{◌≡◌, ◌⊎◌, ℕ, List, [], ◌∷◌, Option, Result, Ok, Err}
 use Rattle.dimacs_lines.specs.{Devices.{after_piece}, Puts.{AcceptsFront}}
-use Rattle.dimacs_runs.specs.{declared.status.Status.{Status}, declared.status.Status.TheVariants.{Refused}}
+use Rattle.dimacs_jobs.specs.{declared.status.Status.{Status}, declared.status.Status.TheVariants.{Refused}}
 
 -- each sink has accepted its text
 abbrev pub AcceptAll : List (List ℕ) → List (Option (List ℕ)) → List (Option (List ℕ)) → Type 0

@@ -13,7 +13,7 @@ use Rattle.dimacs_instance.specs.Graph.{GivesGraph, canonical_graph, shown_graph
 use Rattle.dimacs_instance.specs.MaxTexts.{GivesMax, canonical_max, shown_max}
 use Rattle.dimacs_instance.specs.MinTexts.{GivesMin, canonical_min, shown_min}
 use Rattle.dimacs_instance.specs.QueryTexts.{GivesQueries, canonical_queries, shown_queries}
-use Rattle.dimacs_runs.specs.{declared.status.Status.{Status}, declared.status.Status.TheVariants.{Done, Refused}}
+use Rattle.dimacs_jobs.specs.{declared.status.Status.{Status}, declared.status.Status.TheVariants.{Done, Refused}}
 use Rattle.dimacs_runs.specs.{declared.text.TextForm.{TextForm}, Refusals.{refusal_line}}
 use Rattle.dimacs_runs.specs.declared.text.TextForm.TheVariants.{Canonical, Summary}
 

@@ -14,9 +14,10 @@ use Rattle.dimacs_judging.specs.{declared.verdict.Where.{Where}, declared.verdic
 use Rattle.dimacs_judging.specs.{InfeasibleJudge.{ShowsNoFlow}, QueryTests.{query_node_row}, Tests.{Clear, FirstOfRow}}
 use Rattle.dimacs_solve.specs.{Climbing.{GivesUp}, Descending.{GivesUpMin}, SolveMax.{IsOptimal}}
 use Rattle.dimacs_solve.specs.{Paths.{AreProduced, HasNoNegativeWeight, IsFirstNegative}, SolveMin.{IsLeastAnswer}}
-use Rattle.dimacs_runs.specs.{declared.jobs.SolveJob.{SolveJob}, declared.jobs.SolveJob.TheVariants.{Max, Min, Paths}}
-use Rattle.dimacs_runs.specs.{declared.status.Status.{Status}, Judged.{paths_lines}, Refusals.{refusal_line}}
-use Rattle.dimacs_runs.specs.{declared.status.Status.TheVariants.{Done, Refused, GaveUp}, Runs.{text_word}}
+use Rattle.dimacs_jobs.specs.{declared.jobs.SolveJob.{SolveJob}, declared.jobs.SolveJob.TheVariants.{Max, Min, Paths}}
+use Rattle.dimacs_jobs.specs.declared.status.Status.{Status}
+use Rattle.dimacs_jobs.specs.declared.status.Status.TheVariants.{Done, Refused, GaveUp}
+use Rattle.dimacs_runs.specs.{Judged.{paths_lines}, Refusals.{refusal_line}, Runs.{text_word}}
 use Rattle.dimacs_runs.specs.Verdicts.{failure_line, gave_up_line, infeasible_line, max_line, min_line}
 use Rattle.dimacs_records.specs.declared.kinds.TextKind.TheVariants as kinds
 

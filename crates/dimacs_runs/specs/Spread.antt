@@ -8,9 +8,10 @@ use Rattle.dimacs_judging.specs.{declared.verdict.Where.{Where}, Tests.{AllClear
 use Rattle.dimacs_decide.specs.Entries.{IsSolutionOf}
 use Rattle.dimacs_network.specs.declared.network.ArcView.{ArcView}
 use Rattle.dimacs_solve.specs.Spread.{Deals, NoneCheaper, spread_rows}
-use Rattle.dimacs_runs.specs.{declared.jobs.SpreadKind.{SpreadKind}, declared.jobs.SpreadKind.TheVariants.{Max, Min}}
-use Rattle.dimacs_runs.specs.{declared.status.Status.{Status}, Certified.{uncertified}, Solved.{FaultAloneOr}}
-use Rattle.dimacs_runs.specs.{declared.status.Status.TheVariants.{Done, Refused, GaveUp}, Verdicts.{failure_line}}
+use Rattle.dimacs_jobs.specs.{declared.jobs.SpreadKind.{SpreadKind}, declared.jobs.SpreadKind.TheVariants.{Max, Min}}
+use Rattle.dimacs_jobs.specs.declared.status.Status.{Status}
+use Rattle.dimacs_jobs.specs.declared.status.Status.TheVariants.{Done, Refused, GaveUp}
+use Rattle.dimacs_runs.specs.{Certified.{uncertified}, Solved.{FaultAloneOr}, Verdicts.{failure_line}}
 use Rattle.dimacs_records.specs.declared.kinds.TextKind.TheVariants as kinds
 
 -- the solution has the claimed value, and an entry for every arc with the amount on it

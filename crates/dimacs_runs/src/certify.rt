@@ -8,8 +8,8 @@ ghost use Rattle.dimacs_claims.specs.{SolutionReading.{IsPlacedLawful}, Solution
 ghost use Rattle.dimacs_instance.specs.MaxFlows.{IsMax};
 ghost use Rattle.dimacs_judging.specs.{Feasible.{FeasibleMax, FeasibleMin}, Places.{ArePlaced, StandsFor}};
 ghost use Rattle.dimacs_decide.specs.{CertifiedMax.{IsMaxImproved}, CertifiedMin.{IsMinImproved}};
-ghost use Rattle.dimacs_runs.specs.declared.status.RunError.TheVariants.{Device, Memory};
-ghost use Rattle.dimacs_runs.specs.declared.jobs.JudgeKind.TheVariants as judges;
+ghost use Rattle.dimacs_jobs.specs.declared.status.RunError.TheVariants.{Device, Memory};
+ghost use Rattle.dimacs_jobs.specs.declared.jobs.JudgeKind.TheVariants as judges;
 ghost use Rattle.dimacs_runs.specs.Certified.{Certified, CertifiesLeast, CertifiesMaximum, IsClaimed, certified_kind};
 ghost use Rattle.dimacs_runs.specs.{Judgings.{CountsDevices}, Outputs.{ReportsAll, WritesAlike}};
 ghost use Rattle.dimacs_runs.specs.{inside.Judgings.{HasFault}, inside.Outcomes.{MayCertify, outcome_of}};
@@ -18,16 +18,15 @@ use crate::certify_distances::certify_distances;
 use crate::certify_infeasible::certify_infeasible;
 use crate::discard::Discard;
 use crate::early_end::{EarlyEnd, outcome_of};
-use crate::jobs::JudgeKind;
 use crate::outcome::{Outcome, OutputText, write_outcome};
 use crate::report::Report;
-use crate::status::{RunError, Status};
 use crate::texts_in_turn::{place_solution, read};
 use dimacs_claims::Placed;
 use dimacs_decide::{
     MaxDecision, MinDecision, certify_max_placed, certify_min_placed, max_solution, min_solution,
 };
 use dimacs_instance::{MaxInstance, MinInstance};
+use dimacs_jobs::{JudgeKind, RunError, Status};
 use dimacs_judging::{Flow, FlowPlaces, Verdict, Where};
 use dimacs_lines::{Sink, Source};
 use dimacs_network::{ArcView, CapacityArc, Network, PlainArcs};

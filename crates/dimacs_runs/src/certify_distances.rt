@@ -3,10 +3,10 @@
 ghost use Rattle.std.specs.Prelude.{◌≡◌, ◌≢◌, ◌∷◌, [], ℕ, List, Some, Err};
 ghost use Rattle.dimacs_records.specs.declared.kinds.TextKind.TheVariants as kinds;
 ghost use Rattle.dimacs_claims.specs.LabelTexts.{FitText};
-ghost use Rattle.dimacs_runs.specs.declared.jobs.JudgeKind.TheVariants as judges;
-ghost use Rattle.dimacs_runs.specs.{declared.status.RunError.TheVariants.{Device}, Judgings.{CountsDevices}};
-ghost use Rattle.dimacs_runs.specs.{Certified.{Certified, CertifiesDistances}, inside.Judgings.{HasFault}};
-ghost use Rattle.dimacs_runs.specs.inside.Outcomes.{MayCertify, outcome_of};
+ghost use Rattle.dimacs_jobs.specs.declared.jobs.JudgeKind.TheVariants as judges;
+ghost use Rattle.dimacs_jobs.specs.declared.status.RunError.TheVariants.{Device};
+ghost use Rattle.dimacs_runs.specs.{Judgings.{CountsDevices}, Certified.{Certified, CertifiesDistances}};
+ghost use Rattle.dimacs_runs.specs.{inside.Judgings.{HasFault}, inside.Outcomes.{MayCertify, outcome_of}};
 
 use crate::early_end::EarlyEnd;
 use crate::outcome::{Outcome, OutputText};

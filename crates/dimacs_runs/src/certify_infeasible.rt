@@ -2,9 +2,9 @@
 
 ghost use Rattle.std.specs.Prelude.{◌≡◌, ◌≢◌, ◌∷◌, [], ℕ, List, Some, Err};
 ghost use Rattle.dimacs_judging.specs.Feasible.{FeasibleMin};
-ghost use Rattle.dimacs_runs.specs.declared.jobs.JudgeKind.TheVariants as judges;
-ghost use Rattle.dimacs_runs.specs.{declared.status.RunError.TheVariants.{Device}, Judgings.{CountsDevices}};
-ghost use Rattle.dimacs_runs.specs.Certified.{Certified, CertifiesInfeasible};
+ghost use Rattle.dimacs_jobs.specs.declared.jobs.JudgeKind.TheVariants as judges;
+ghost use Rattle.dimacs_jobs.specs.declared.status.RunError.TheVariants.{Device};
+ghost use Rattle.dimacs_runs.specs.{Judgings.{CountsDevices}, Certified.{Certified, CertifiesInfeasible}};
 ghost use Rattle.dimacs_runs.specs.inside.Outcomes.{MayCertify, outcome_of};
 
 use crate::early_end::EarlyEnd;

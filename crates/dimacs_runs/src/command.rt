@@ -1,18 +1,17 @@
 //! The command, from its arguments to its exit status.
 
 ghost use Rattle.std.specs.{Prelude.{◌≡◌, map}, String.{string_bytes}};
-ghost use Rattle.dimacs_runs.specs.{Commands.{Commands, RunsJob, seen_by}, Jobs.{HasFiles}, Outcomes.{command_number}};
+ghost use Rattle.dimacs_runs.specs.{Commands.{Commands, RunsJob, seen_by}, Outcomes.{command_number}};
+ghost use Rattle.dimacs_jobs.specs.Jobs.{HasFiles};
 
-use crate::arguments::job;
 use crate::failure::CommandError;
 use crate::files::Files;
-use crate::jobs::Job;
 use crate::outcome::Outcome;
 use crate::runs_that_make::{ClaimJob, certify_files, make_of_claim};
 use crate::runs_that_read::{judge_files, print_file};
 use crate::runs_that_write::solve_files;
-use crate::status::{NO_RUN, RunError, Status, exit_status};
 use crate::text::TextForm::{Canonical, Summary};
+use dimacs_jobs::{Job, NO_RUN, RunError, Status, Verb, exit_status, job};
 use dimacs_lines::Sink;
 use std::alloc::Global;
 
@@ -64,7 +63,7 @@ pub fn run_job<'a, F: Files, K: Sink>(
 }
 
 /// The same, and keeps the outcome.
-pub(crate) fn run_and_keep<'a, F: Files, K: Sink>(
+pub fn run_and_keep<'a, F: Files, K: Sink>(
     alloc: Global,
     job: Job<'a>,
     files: &mut F,
@@ -76,14 +75,15 @@ pub(crate) fn run_and_keep<'a, F: Files, K: Sink>(
         (seen_by (F.seen files.old) (K.seen output.old))
         (seen_by (F.seen files.new) (K.seen output.new)) }
 {
-    match job {
-        Job::Convert(kind, name) => print_file(alloc, Canonical, kind, name, files, output, kept),
-        Job::Show(kind, name) => print_file(alloc, Summary, kind, name, files, output, kept),
-        Job::Judge(kind, names) => judge_files(alloc, kind, names, files, output, kept),
-        Job::Certify(kind, names) => certify_files(alloc, kind, names, files, output, kept),
-        Job::Spread(kind, names) => {
+    let names = job.files;
+    match job.verb {
+        Verb::Convert(kind) => print_file(alloc, Canonical, kind, names, files, output, kept),
+        Verb::Show(kind) => print_file(alloc, Summary, kind, names, files, output, kept),
+        Verb::Judge(kind) => judge_files(alloc, kind, names, files, output, kept),
+        Verb::Certify(kind) => certify_files(alloc, kind, names, files, output, kept),
+        Verb::Spread(kind) => {
             make_of_claim(alloc, ClaimJob::Spread(kind), names, files, output, kept)
         }
-        Job::Solve(job, names) => solve_files(alloc, job, names, files, output, kept),
+        Verb::Solve(job) => solve_files(alloc, job, names, files, output, kept),
     }
 }

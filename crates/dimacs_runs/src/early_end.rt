@@ -5,7 +5,7 @@ ghost use Rattle.dimacs_runs.specs.inside.Outcomes.{outcome_of, unread_end};
 
 use crate::outcome::Outcome;
 use crate::report::Report;
-use crate::status::RunError;
+use dimacs_jobs::RunError;
 use dimacs_judging::{JudgeError, Where};
 use dimacs_lines::Memory;
 use dimacs_records::{ReadError, Reason, TextKind};
@@ -19,7 +19,7 @@ pub(crate) enum EarlyEnd {
 }
 
 impl From<Memory> for EarlyEnd {
-    ghost use Rattle.dimacs_runs.specs.declared.status.RunError.TheVariants as errors;
+    ghost use Rattle.dimacs_jobs.specs.declared.status.RunError.TheVariants as errors;
     ghost use Rattle.dimacs_runs.specs.declared.early_end.EarlyEnd.TheVariants.{Error};
 
     ghost from_gives = { λ memory ended. ended ≡ Error errors.Memory };

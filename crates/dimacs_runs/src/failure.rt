@@ -3,7 +3,7 @@
 ghost use Rattle.std.specs.Prelude.{◌≡◌};
 ghost use Rattle.dimacs_runs.specs.{Outcomes.{failed_call, failed_device}, inside.Commands.{named}};
 
-use crate::status::RunError;
+use dimacs_jobs::RunError;
 use std::fmt;
 use thiserror::Error;
 
@@ -66,16 +66,14 @@ pub enum CommandError<'a> {
     Memory,
 }
 
-impl RunError {
-    /// The same error, of a command that could not open or create this file.
-    pub(crate) fn on_file<'a>(self, call: FileCall, name: &'a str) -> CommandError<'a>
-        ensures device { self ≡ RunError.Device → result ≡ CommandError.Device (Failure.File call name.entry) }
-        ensures memory { self ≡ RunError.Memory → result ≡ CommandError.Memory }
-    {
-        match self {
-            RunError::Device => CommandError::Device(Failure::File(call, name)),
-            RunError::Memory => CommandError::Memory,
-        }
+/// The same error, of a command that could not open or create this file.
+pub(crate) fn on_file<'a>(error: RunError, call: FileCall, name: &'a str) -> CommandError<'a>
+    ensures device { error ≡ RunError.Device → result ≡ CommandError.Device (Failure.File call name.entry) }
+    ensures memory { error ≡ RunError.Memory → result ≡ CommandError.Memory }
+{
+    match error {
+        RunError::Device => CommandError::Device(Failure::File(call, name)),
+        RunError::Memory => CommandError::Memory,
     }
 }
 

@@ -3,7 +3,7 @@
 ghost use Rattle.std.specs.Prelude.{◌≡◌, ◌≢◌, ◌↔◌, [], ◌∷◌, List, ℕ, Option, IfOk, IsTrue};
 ghost use Rattle.dimacs_runs.specs.Files.{FilesSeen, Sees, closed_read, closed_written, creating, opening};
 
-use crate::status::RunError;
+use dimacs_jobs::RunError;
 use dimacs_lines::{Sink, Source};
 
 /// Opens, creates and closes files by name.

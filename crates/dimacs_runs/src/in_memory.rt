@@ -1,22 +1,21 @@
 //! Runs over texts in memory.
 
-ghost use Rattle.std.specs.Prelude.{◌≡◌, ◌∷◌, [], IfOk};
-ghost use Rattle.dimacs_runs.specs.{InMemory.{Makes, MakesJudged, MakesSolved, OnlyReports}, Runs.{Prints}};
-ghost use Rattle.dimacs_runs.specs.{inside.Reports.{report_lines}, inside.Outcomes.{Keeps, outcome_texts, shown_texts}};
+ghost use Rattle.std.specs.Prelude.{◌≡◌, ◌∷◌, [], None, IfOk};
+ghost use Rattle.dimacs_runs.specs.{InMemory.{HasKept, Makes, MakesJudged, MakesSolved, OnlyReports}, Runs.{Prints}};
+ghost use Rattle.dimacs_runs.specs.{Reports.{report_lines}, inside.Outcomes.{Keeps, outcome_texts, shown_texts}};
 
 use crate::certify::certify_claim;
-use crate::jobs::{Job, JudgeKind, SolveJob};
 use crate::judge::judge_texts;
 use crate::outcome::{Outcome, write_outcome};
 use crate::solve::solve_texts;
 use crate::spread::spread_claim;
-use crate::status::{RunError, Status};
 use crate::text::{TextForm, run_text};
+use dimacs_jobs::{JudgeKind, RunError, SolveJob, Status, Verb};
 use dimacs_lines::{Memory, MemorySink, MemorySource};
 use dimacs_records::TextKind;
 use std::alloc::Global;
 
-/// Texts that stand for the files that a job reads, in order. It doesn't read those after them.
+/// Texts that stand for the files that a run reads, in order. It doesn't read those after them.
 #[derive(Clone, Copy)]
 pub struct MemoryTexts<'a> {
     /// The first.
@@ -38,32 +37,42 @@ pub struct Ran {
     pub more: MemorySink,
     /// The report, then what explains it.
     pub printed: MemorySink,
+    /// The outcome, until it is taken.
     pub(crate) kept: Option<Outcome>,
 }
 
-/// Runs a job over texts. The only error is out of memory.
-pub fn run_in_memory(alloc: Global, job: Job<'_>, texts: MemoryTexts<'_>) -> Result<Ran, Memory>
-    ensures makes { IfOk result (λ ran. Makes job.entry texts.entry.first.now texts.entry.second.now texts.entry.third.now
+impl Ran {
+    /// Takes the outcome out, for its explanation.
+    pub fn take_outcome(&mut self) -> Option<Outcome>
+        ensures taken { result ≡ self.old.kept }
+        ensures others { self.new ≡ record { status = self.old.status; made = self.old.made; more = self.old.more; printed = self.old.printed; kept = None } }
+    {
+        self.kept.take()
+    }
+}
+
+/// Runs a verb over texts. The only error is out of memory.
+pub fn run_in_memory(alloc: Global, verb: Verb, texts: MemoryTexts<'_>) -> Result<Ran, Memory>
+    ensures makes { IfOk result (λ ran. Makes verb texts.entry.first.now texts.entry.second.now texts.entry.third.now
         ran.status ran.made.bytes ran.more.bytes ran.printed.bytes) }
+    ensures kept { IfOk result HasKept }
 {
     let mut first = MemorySource::new(texts.first);
     let mut second = MemorySource::new(texts.second);
-    match job {
-        Job::Convert(kind, _) => print(alloc, TextForm::Canonical, kind, texts.first),
-        Job::Show(kind, _) => print(alloc, TextForm::Summary, kind, texts.first),
-        Job::Judge(kind, _) => judge(alloc, kind, texts),
-        Job::Certify(kind, _) => make_one(
-            alloc,
-            certify_claim(alloc, kind, &mut first, &mut second),
-        ),
-        Job::Spread(kind, _) => make_one(alloc, spread_claim(alloc, kind, &mut first, &mut second)),
-        Job::Solve(job, _) => solve(alloc, job, texts),
+    match verb {
+        Verb::Convert(kind) => print(alloc, TextForm::Canonical, kind, texts.first),
+        Verb::Show(kind) => print(alloc, TextForm::Summary, kind, texts.first),
+        Verb::Judge(kind) => judge(alloc, kind, texts),
+        Verb::Certify(kind) => make_one(alloc, certify_claim(alloc, kind, &mut first, &mut second)),
+        Verb::Spread(kind) => make_one(alloc, spread_claim(alloc, kind, &mut first, &mut second)),
+        Verb::Solve(job) => solve(alloc, job, texts),
     }
 }
 
 /// Prints a text in this form.
 fn print(alloc: Global, form: TextForm, kind: TextKind, text: &[u8]) -> Result<Ran, Memory>
     ensures reports { IfOk result (λ ran. OnlyReports (Prints form kind text.now) ran.status ran.made.bytes ran.more.bytes ran.printed.bytes) }
+    ensures kept { IfOk result HasKept }
 {
     let mut printed = MemorySink::new(alloc);
     let mut kept = None;
@@ -90,6 +99,7 @@ fn print(alloc: Global, form: TextForm, kind: TextKind, text: &[u8]) -> Result<R
 fn judge(alloc: Global, kind: JudgeKind, texts: MemoryTexts<'_>) -> Result<Ran, Memory>
     ensures makes { IfOk result (λ ran. MakesJudged kind texts.entry.first.now texts.entry.second.now texts.entry.third.now
         ran.status ran.made.bytes ran.more.bytes ran.printed.bytes) }
+    ensures kept { IfOk result HasKept }
 {
     let mut first = MemorySource::new(texts.first);
     let mut second = MemorySource::new(texts.second);
@@ -112,6 +122,7 @@ fn judge(alloc: Global, kind: JudgeKind, texts: MemoryTexts<'_>) -> Result<Ran, 
 fn solve(alloc: Global, job: SolveJob, texts: MemoryTexts<'_>) -> Result<Ran, Memory>
     ensures makes { IfOk result (λ ran. MakesSolved job texts.entry.first.now texts.entry.second.now
         ran.status ran.made.bytes ran.more.bytes ran.printed.bytes) }
+    ensures kept { IfOk result HasKept }
 {
     let mut first = MemorySource::new(texts.first);
     let mut second = MemorySource::new(texts.second);
@@ -126,6 +137,7 @@ fn solve(alloc: Global, job: SolveJob, texts: MemoryTexts<'_>) -> Result<Ran, Me
 fn report(alloc: Global, outcome: Result<Outcome, RunError>) -> Result<Ran, Memory>
     ensures keeps { IfOk result (λ ran. Keeps (λ o. report_lines o.report) outcome ran.status ran.printed.bytes) }
     ensures alone { IfOk result (λ ran. (ran.made.bytes ≡ []) × (ran.more.bytes ≡ [])) }
+    ensures kept { IfOk result HasKept }
 {
     let ran = make(alloc, outcome)?;
     Ok(Ran {
@@ -139,6 +151,7 @@ fn report(alloc: Global, outcome: Result<Outcome, RunError>) -> Result<Ran, Memo
 fn make_one(alloc: Global, outcome: Result<Outcome, RunError>) -> Result<Ran, Memory>
     ensures keeps { IfOk result (λ ran. Keeps shown_texts outcome ran.status (ran.made.bytes ∷ ran.printed.bytes ∷ [])) }
     ensures one { IfOk result (λ ran. ran.more.bytes ≡ []) }
+    ensures kept { IfOk result HasKept }
 {
     let ran = make(alloc, outcome)?;
     Ok(Ran {
@@ -151,6 +164,7 @@ fn make_one(alloc: Global, outcome: Result<Outcome, RunError>) -> Result<Ran, Me
 /// Writes an outcome.
 fn make(alloc: Global, outcome: Result<Outcome, RunError>) -> Result<Ran, Memory>
     ensures keeps { IfOk result (λ ran. Keeps outcome_texts outcome ran.status (ran.made.bytes ∷ ran.more.bytes ∷ ran.printed.bytes ∷ [])) }
+    ensures kept { IfOk result HasKept }
 {
     let mut made = MemorySink::new(alloc);
     let mut more = MemorySink::new(alloc);

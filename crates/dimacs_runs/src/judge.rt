@@ -5,21 +5,21 @@ ghost use Rattle.dimacs_lines.specs.Lines.{lines};
 ghost use Rattle.dimacs_records.specs.declared.kinds.TextKind.{TextKind};
 ghost use Rattle.dimacs_records.specs.declared.kinds.TextKind.TheVariants as kinds;
 ghost use Rattle.dimacs_records.specs.{declared.reasons.Reason.{Reason}, Faults.{Fault}};
-ghost use Rattle.dimacs_runs.specs.declared.jobs.JudgeKind.TheVariants as judges;
-ghost use Rattle.dimacs_runs.specs.{declared.status.RunError.TheVariants.{Memory}, Judgings.{CountsDevices}};
-ghost use Rattle.dimacs_runs.specs.{Judged.{IsClaim, Judged, claim_kind, instance_kind}, Runs.{Reports}};
-ghost use Rattle.dimacs_runs.specs.{inside.Judgings.{HasFault}, inside.Outcomes.{MayReport, outcome_of}};
+ghost use Rattle.dimacs_jobs.specs.declared.jobs.JudgeKind.TheVariants as judges;
+ghost use Rattle.dimacs_jobs.specs.declared.status.RunError.TheVariants.{Memory};
+ghost use Rattle.dimacs_runs.specs.{Judgings.{CountsDevices}, Judged.{IsClaim, Judged, claim_kind, instance_kind}};
+ghost use Rattle.dimacs_runs.specs.{Runs.{Reports}, inside.Judgings.{HasFault}};
+ghost use Rattle.dimacs_runs.specs.inside.Outcomes.{MayReport, outcome_of};
 ghost use Rattle.dimacs_runs.specs.inside.Outcomes as outcomes;
 
 use crate::discard::Discard;
 use crate::early_end::{EarlyEnd, outcome_of};
-use crate::jobs::JudgeKind;
 use crate::outcome::{Outcome, write_outcome};
 use crate::report::Report;
-use crate::status::{RunError, Status};
 use crate::texts_in_turn::{read, read_placed, read_two};
 use dimacs_claims::{Cut, Labels, Potentials};
 use dimacs_instance::{Graph, MaxInstance, MinInstance, Queries};
+use dimacs_jobs::{JudgeKind, RunError, Status};
 use dimacs_judging::{
     FlowPlaces, JudgeError, Verdict, index_for, judge_infeasible, judge_max_placed,
     judge_min_placed, judge_paths,

@@ -4,7 +4,7 @@ ghost use Rattle.std.specs.Prelude.{◌≡◌, ◌∷◌, [], IfErr, IfOk};
 ghost use Rattle.dimacs_runs.specs.Files.{Created, NotCreated, NotOpened, Opened, Sees, closed_read, closed_written, failures};
 ghost use Rattle.dimacs_runs.specs.inside.Commands.{FailsWith, IsFirstOf};
 
-use crate::failure::{CommandError, Failure, FileCall};
+use crate::failure::{CommandError, Failure, FileCall, on_file};
 use crate::files::Files;
 
 /// An open file with its name, for messages.
@@ -27,7 +27,7 @@ pub(crate) fn open<'a, F: Files>(
 {
     match files.open(name) {
         Ok(device) => Ok(OpenFile { name, device }),
-        Err(error) => Err(error.on_file(FileCall::Open, name)),
+        Err(error) => Err(on_file(error, FileCall::Open, name)),
     }
 }
 
@@ -42,7 +42,7 @@ pub(crate) fn create<'a, F: Files>(
 {
     match files.create(name) {
         Ok(device) => Ok(OpenFile { name, device }),
-        Err(error) => Err(error.on_file(FileCall::Create, name)),
+        Err(error) => Err(on_file(error, FileCall::Create, name)),
     }
 }
 

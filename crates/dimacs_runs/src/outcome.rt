@@ -1,16 +1,16 @@
 //! The outcome of a run: texts and a report.
 
-ghost use Rattle.std.specs.Prelude.{◌≡◌, ◌↔◌, ◌∷◌, [], IfOk, IsTrue};
+ghost use Rattle.std.specs.Prelude.{◌≡◌, ◌↔◌, ◌∷◌, [], IfOk, IsTrue, Ok, Some};
 ghost use Rattle.dimacs_lines.specs.Puts.{Puts};
 ghost use Rattle.dimacs_runs.specs.declared.outcome.OutputText.TheVariants.{Nothing};
 ghost use Rattle.dimacs_runs.specs.inside.Outcomes.{EndsWriting, IsReadable, text_bytes};
 ghost use Rattle.dimacs_runs.specs.inside.Outcomes as outcomes;
 
 use crate::report::Report;
-use crate::status::{RunError, Status};
 use dimacs_claims::{
     Cut, Labels, Potentials, Solution, write_cut, write_labels, write_potentials, write_solution,
 };
+use dimacs_jobs::{RunError, Status};
 use dimacs_lines::{DeviceFault, Sink};
 
 /// A text to write.
@@ -48,14 +48,6 @@ impl OutputText {
         }
     }
 
-    /// The solution, if it is one.
-    pub(crate) fn solution(&self) -> Option<&Solution> {
-        match self {
-            OutputText::Solution(solution) => Some(solution),
-            _ => None,
-        }
-    }
-
     pub(crate) fn write<K: Sink>(&self, sink: &mut K) -> Result<(), DeviceFault>
         ensures puts { Puts result (K.seen sink.old) (text_bytes self.now) (K.seen sink.new) }
         ensures nothing_written { self.now ≡ Nothing → sink.new ≡ sink.old }
@@ -72,7 +64,7 @@ impl OutputText {
 
 /// The outcome of a run that had no error.
 #[derive(Drop)]
-pub(crate) struct Outcome {
+pub struct Outcome {
     /// The solution that a solver made.
     pub(crate) made: OutputText,
     /// What shows the answer: a certificate, labels, a better flow than the claimed one, any feasible flow, or the claimed
@@ -82,6 +74,24 @@ pub(crate) struct Outcome {
 }
 
 impl Outcome {
+    /// The report.
+    pub fn report(&self) -> &Report {
+        &self.report
+    }
+
+    /// The solution that shows the answer, if one does.
+    pub fn solution(&self) -> Option<&Solution> {
+        match &self.shown {
+            OutputText::Solution(solution) => Some(solution),
+            _ => None,
+        }
+    }
+
+    /// Writes what shows the answer.
+    pub fn write_shown<K: Sink>(&self, sink: &mut K) -> Result<(), DeviceFault> {
+        self.shown.write(sink)
+    }
+
     /// A report without texts.
     pub(crate) fn reporting(report: Report) -> Outcome
         ensures { result ≡ outcomes.reporting report }
@@ -126,6 +136,7 @@ pub(crate) fn write_outcome<C: Sink, D: Sink, K: Sink>(
     ensures ends { EndsWriting outcome result
         (C.seen made.old ∷ D.seen shown.old ∷ K.seen report.old ∷ []) (C.seen made.new ∷ D.seen shown.new ∷ K.seen report.new ∷ []) }
     ensures nothing_made { IfOk outcome (λ o. o.made ≡ Nothing) → made.new ≡ made.old }
+    ensures kept { IfOk result (λ status. (o : Outcome) × (outcome ≡ Ok o) × (kept.new ≡ Some o)) }
 {
     let outcome = outcome?;
     outcome.made.write(made)?;

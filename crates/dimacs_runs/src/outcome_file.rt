@@ -8,7 +8,7 @@ use crate::failure::{CommandError, name_failure};
 use crate::files::Files;
 use crate::open_files::{close_written, create};
 use crate::outcome::{Outcome, write_outcome};
-use crate::status::Status;
+use dimacs_jobs::Status;
 use dimacs_lines::Sink;
 
 /// Writes the text of an outcome to the file with this name, then the report to the output. Without a name it drops the

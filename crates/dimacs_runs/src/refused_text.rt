@@ -1,35 +1,45 @@
 //! The text that a report refuses.
 
-ghost use Rattle.std.specs.{Prelude.{◌≡◌, ◌↔◌, IsTrue, slice_get}, Option.{option_map}};
-ghost use Rattle.dimacs_runs.specs.InMemory.{Refuses, words_read};
+ghost use Rattle.std.specs.Prelude.{◌≡◌, ◌↔◌, IsTrue, slice_get, take};
+ghost use Rattle.dimacs_jobs.specs.Jobs.{texts_of};
+ghost use Rattle.dimacs_runs.specs.{InMemory.{Refuses, lacking}, Refusals.{refusal_line}, Runs.{text_word}};
 
-use crate::jobs::{Job, JudgeKind, SolveJob};
-use crate::refusal::text_name;
+use dimacs_jobs::Verb;
+use dimacs_records::TextKind;
 
-/// Whether a report of this job refuses the text at this place, from 0.
-pub fn refuses_text(job: Job<'_>, place: usize, report: &[u8]) -> bool
-    ensures { IsTrue result ↔ Refuses job.entry place report.now }
+/// Whether a report of a run refuses the text at this place, from 0, as one of a line end alone.
+pub fn refuses_text(verb: Verb, place: usize, report: &[u8]) -> bool
+    ensures { IsTrue result ↔ Refuses verb place report.now }
 {
-    match (word_at(job, place), report.strip_prefix(b"x ")) {
-        (Some(word), Some(rest)) => rest.starts_with(word.as_bytes()),
-        _ => false,
+    match kind_at(verb, place) {
+        Some(kind) => report == refusal(kind).as_bytes(),
+        None => false,
     }
 }
 
-/// The word for the text at this place, from 0, in refusals; none if the job doesn't read it.
-fn word_at(job: Job<'_>, place: usize) -> Option<&'static str>
-    ensures { option_map (λ word. word.now) result ≡ slice_get (words_read job.entry) place }
+/// What a text of this kind is refused for that has a line end alone.
+fn refusal(kind: TextKind) -> &'static str
+    ensures { result.now ≡ refusal_line (text_word kind) 2 0 (lacking kind) }
 {
-    match (place, job) {
-        (0, Job::Convert(kind, _) | Job::Show(kind, _)) => Some(text_name(kind)),
-        (0, _) => Some("instance"),
-        (1, Job::Judge(JudgeKind::Infeasible, _)) => Some("certificate"),
-        (1, Job::Judge(JudgeKind::Paths, _) | Job::Solve(SolveJob::Paths, _)) => Some("query"),
-        (1, Job::Certify(JudgeKind::Paths, _)) => Some("distances"),
-        (1, Job::Certify(JudgeKind::Infeasible, _)) => None,
-        (1, Job::Judge(..) | Job::Certify(..) | Job::Spread(..)) => Some("solution"),
-        (2, Job::Judge(JudgeKind::Infeasible, _)) => None,
-        (2, Job::Judge(..)) => Some("certificate"),
-        _ => None,
+    match kind {
+        TextKind::Max | TextKind::Min | TextKind::Graph => "x instance 2 0 ProblemMissing\n",
+        TextKind::Queries => "x query 2 0 ProblemMissing\n",
+        TextKind::Solution => "x solution 2 0 SolutionMissing\n",
+        TextKind::Cut | TextKind::Potentials | TextKind::Labels => {
+            "x certificate 2 0 ProblemMissing\n"
+        }
+        TextKind::Distances => "x distances 2 0 ProblemMissing\n",
+    }
+}
+
+/// The kind of the text at this place, from 0, if the run reads it.
+fn kind_at(verb: Verb, place: usize) -> Option<TextKind>
+    ensures { result ≡ slice_get (take (texts_of verb).read (texts_of verb).kinds) place }
+{
+    let texts = verb.texts();
+    if place < texts.read {
+        texts.kinds.get(place).copied()
+    } else {
+        None
     }
 }

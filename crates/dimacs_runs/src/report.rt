@@ -2,11 +2,11 @@
 
 ghost use Rattle.std.specs.Prelude.{◌≡◌};
 ghost use Rattle.dimacs_lines.specs.Puts.{Puts};
-ghost use Rattle.dimacs_runs.specs.inside.Reports.{report_lines, report_status};
+ghost use Rattle.dimacs_runs.specs.{Reports.{report_lines}, inside.Reports.{report_status}};
 
 use crate::refusal::{put_refusal, text_name};
-use crate::status::Status;
 use crate::verdict::{put_distances, put_failure, put_gave_up, put_verdict};
+use dimacs_jobs::Status;
 use dimacs_judging::{Verdict, Where};
 use dimacs_lines::{DeviceFault, Sink};
 use dimacs_records::{At, Reason, TextKind};

@@ -1,22 +1,23 @@
 //! Runs that read files, close them, and only then create a file for their text.
 
 ghost use Rattle.std.specs.{Prelude.{◌≡◌, ◌≤◌, ◌∷◌, [], ℕ, List, Some, length, map}, String.{string_bytes}};
-ghost use Rattle.dimacs_runs.specs.declared.jobs.JudgeKind.TheVariants as judges;
-ghost use Rattle.dimacs_runs.specs.Commands.{MakesCertificate, MakesOfFiles, reads_first, seen_by};
-ghost use Rattle.dimacs_runs.specs.{Jobs.{AreCertifyFiles, certify_reads}, Judgings.{CountsDevices}};
-ghost use Rattle.dimacs_runs.specs.{inside.Making.{AnswersFiles, made_for}, inside.Outcomes.{IfEnds, shown_texts}};
+ghost use Rattle.dimacs_jobs.specs.declared.jobs.Verb.TheVariants.{Certify};
+ghost use Rattle.dimacs_jobs.specs.declared.jobs.JudgeKind.TheVariants as judges;
+ghost use Rattle.dimacs_runs.specs.{inside.Commands.{reads_first}, Commands.{MakesCertificate, MakesOfFiles, seen_by}};
+ghost use Rattle.dimacs_runs.specs.{Judgings.{CountsDevices}, inside.Making.{AnswersFiles, made_for}};
+ghost use Rattle.dimacs_runs.specs.inside.Outcomes.{IfEnds, shown_texts};
+ghost use Rattle.dimacs_jobs.specs.Jobs.{TakesFiles, texts_of};
 
 use crate::certify::certify_claim;
 use crate::certify_infeasible::certify_infeasible;
 use crate::early_end::outcome_of;
 use crate::failure::{CommandError, name_failure};
 use crate::files::Files;
-use crate::jobs::{JudgeKind, SpreadKind, name_at};
 use crate::open_files::{close_read, open};
 use crate::outcome::Outcome;
 use crate::outcome_file::write_outcome_file;
 use crate::spread::spread_claim;
-use crate::status::{RunError, Status};
+use dimacs_jobs::{JudgeKind, RunError, SpreadKind, Status, name_at};
 use dimacs_lines::{Sink, Source};
 use std::alloc::Global;
 
@@ -38,8 +39,8 @@ pub(crate) fn certify_files<'a, F: Files, K: Sink>(
     output: &mut K,
     kept: &mut Option<Outcome>,
 ) -> Result<Status, CommandError<'a>>
-    requires { AreCertifyFiles kind (length names.now) }
-    ensures runs { MakesOfFiles (reads_first (certify_reads kind) (map string_bytes names.now)) (F.holds files.old) F.empty (MakesCertificate kind) result
+    requires { TakesFiles (Certify kind) (length names.now) }
+    ensures runs { MakesOfFiles (reads_first (texts_of (Certify kind)).read (map string_bytes names.now)) (F.holds files.old) F.empty (MakesCertificate kind) result
         (seen_by (F.seen files.old) (K.seen output.old))
         (seen_by (F.seen files.new) (K.seen output.new)) }
 {

@@ -1,38 +1,41 @@
 //! The runs that only read files.
 
 ghost use Rattle.std.specs.{Prelude.{◌≡◌, ◌∷◌, [], length, map}, String.{string_bytes}};
-ghost use Rattle.dimacs_runs.specs.declared.jobs.JudgeKind.TheVariants as judges;
-ghost use Rattle.dimacs_runs.specs.{Commands.{RunsFiles, ReportsJudged, ReportsOne, reads, seen_by}, Jobs.{file_count}};
-ghost use Rattle.dimacs_runs.specs.Runs.{Prints};
+ghost use Rattle.dimacs_jobs.specs.declared.jobs.Verb.TheVariants.{Judge};
+ghost use Rattle.dimacs_jobs.specs.declared.jobs.JudgeKind.TheVariants as judges;
+ghost use Rattle.dimacs_runs.specs.{inside.Commands.{reads, reads_first}, Runs.{Prints}};
+ghost use Rattle.dimacs_runs.specs.Commands.{RunsFiles, ReportsJudged, ReportsOne, seen_by};
+ghost use Rattle.dimacs_jobs.specs.Jobs.{TakesFiles, texts_of};
 
 use crate::discard::Discard;
 use crate::failure::{CommandError, name_failure};
 use crate::files::Files;
-use crate::jobs::JudgeKind;
 use crate::judge::judge_texts;
 use crate::open_files::{close_read, open};
 use crate::outcome::{Outcome, write_outcome};
-use crate::status::Status;
 use crate::text::{TextForm, run_text};
+use dimacs_jobs::{JudgeKind, Status};
 use dimacs_lines::{MemorySource, Sink};
 use dimacs_records::TextKind;
 use std::alloc::Global;
 
-/// Prints the text in a file.
+/// Prints the text in the file with this name, the only one.
 pub(crate) fn print_file<'a, F: Files, K: Sink>(
     alloc: Global,
     form: TextForm,
     kind: TextKind,
-    name: &'a str,
+    names: &'a [String],
     files: &mut F,
     output: &mut K,
     kept: &mut Option<Outcome>,
 ) -> Result<Status, CommandError<'a>>
-    ensures runs { RunsFiles (reads (name.now ∷ [])) (F.holds files.old) F.empty (ReportsOne (Prints form kind)) result
+    requires { length names.now ≡ 1 }
+    ensures runs { RunsFiles (reads_first 1 (map string_bytes names.now)) (F.holds files.old) F.empty (ReportsOne (Prints form kind)) result
         (seen_by (F.seen files.old) (K.seen output.old))
         (seen_by (F.seen files.new) (K.seen output.new)) }
 {
-    let mut text = open(files, name)?;
+    let [name] = names else { unreachable!() };
+    let mut text = open(files, name.as_str())?;
     let ended = run_text(alloc, form, kind, &mut text.device, output, kept);
     let failure = close_read(files, text);
     name_failure(ended, failure)
@@ -47,8 +50,8 @@ pub(crate) fn judge_files<'a, F: Files, K: Sink>(
     output: &mut K,
     kept: &mut Option<Outcome>,
 ) -> Result<Status, CommandError<'a>>
-    requires { length names.now ≡ file_count kind }
-    ensures runs { RunsFiles (reads (map string_bytes names.now)) (F.holds files.old) F.empty (ReportsJudged kind) result
+    requires { TakesFiles (Judge kind) (length names.now) }
+    ensures runs { RunsFiles (reads_first (texts_of (Judge kind)).read (map string_bytes names.now)) (F.holds files.old) F.empty (ReportsJudged kind) result
         (seen_by (F.seen files.old) (K.seen output.old))
         (seen_by (F.seen files.new) (K.seen output.new)) }
 {

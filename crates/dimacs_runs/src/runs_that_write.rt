@@ -1,17 +1,17 @@
 //! Runs that solve an instance in files.
 
 ghost use Rattle.std.specs.{Prelude.{◌≡◌, ◌≢◌, ◌∷◌, [], length, map}, String.{string_bytes}};
-ghost use Rattle.dimacs_runs.specs.declared.jobs.SolveJob.TheVariants as solves;
-ghost use Rattle.dimacs_runs.specs.Commands.{RunsFiles, WritesSolved, read_count, reads_first, seen_by};
+ghost use Rattle.dimacs_jobs.specs.{Jobs.{TakesFiles, texts_of}, declared.jobs.Verb.TheVariants.{Solve}};
+ghost use Rattle.dimacs_jobs.specs.declared.jobs.SolveJob.TheVariants as solves;
+ghost use Rattle.dimacs_runs.specs.{inside.Commands.{reads_first}, Commands.{RunsFiles, WritesSolved, seen_by}};
 
 use crate::discard::Discard;
 use crate::failure::{CommandError, name_failure};
 use crate::files::Files;
-use crate::jobs::SolveJob;
 use crate::open_files::{close_read, close_written, create, open};
 use crate::outcome::{Outcome, write_outcome};
 use crate::solve::solve_texts;
-use crate::status::Status;
+use dimacs_jobs::{SolveJob, Status};
 use dimacs_lines::{MemorySource, Sink};
 use std::alloc::Global;
 
@@ -24,8 +24,8 @@ pub(crate) fn solve_files<'a, F: Files, K: Sink>(
     output: &mut K,
     kept: &mut Option<Outcome>,
 ) -> Result<Status, CommandError<'a>>
-    requires { length names.now ≡ 3 }
-    ensures runs { RunsFiles (reads_first (read_count job) (map string_bytes names.now)) (F.holds files.old) F.empty (WritesSolved job) result
+    requires { TakesFiles (Solve job) (length names.now) }
+    ensures runs { RunsFiles (reads_first (texts_of (Solve job)).read (map string_bytes names.now)) (F.holds files.old) F.empty (WritesSolved job) result
         (seen_by (F.seen files.old) (K.seen output.old))
         (seen_by (F.seen files.new) (K.seen output.new)) }
 {

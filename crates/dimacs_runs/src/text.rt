@@ -1,20 +1,21 @@
 //! Runs that print one text: its canonical form, or a line that describes it.
 
-ghost use Rattle.std.specs.Prelude.{◌≡◌, ◌≢◌, ◌∷◌, ℕ, List, [], Some, Err};
-ghost use Rattle.dimacs_runs.specs.{declared.status.RunError.TheVariants.{Memory}, Judgings.{CountsDevices}};
-ghost use Rattle.dimacs_runs.specs.declared.text.TextForm.TheVariants.{Canonical, Summary};
+ghost use Rattle.std.specs.Prelude.{◌≡◌, ◌≢◌, ◌∷◌, ℕ, List, [], IfOk, Some, Err};
+ghost use Rattle.dimacs_jobs.specs.declared.status.RunError.TheVariants.{Memory};
+ghost use Rattle.dimacs_runs.specs.{Judgings.{CountsDevices}, declared.text.TextForm.TheVariants.{Canonical, Summary}};
 ghost use Rattle.dimacs_runs.specs.{Runs.{Reports, IsPrinted, Prints, in_form}, inside.Judgings.{FaultIn, text_spells}};
+ghost use Rattle.dimacs_runs.specs.inside.Outcomes.{KeepsReport};
 ghost use Rattle.dimacs_lines.specs.Puts.{Puts};
 
 use crate::discard::Discard;
 use crate::early_end::{EarlyEnd, outcome_of};
 use crate::outcome::{Outcome, write_outcome};
-use crate::status::{RunError, Status};
 use crate::texts_in_turn::{read, read_summary};
 use dimacs_claims::{Cut, Distances, Labels, Potentials, Solution};
 use dimacs_instance::{
     Graph, GraphSummary, MaxInstance, MaxSummary, MinInstance, MinSummary, Queries, Summary,
 };
+use dimacs_jobs::{RunError, Status};
 use dimacs_lines::{DeviceFault, Sink, Source};
 use dimacs_network::{ArcView, CapacityArc, PlainArcs, WeightArc};
 use dimacs_records::{Text, TextKind};
@@ -75,6 +76,7 @@ pub(crate) fn run_text<S: Source, K: Sink>(
     ensures faults { CountsDevices result (S.faults text.old ∷ (K.seen sink.old).faults ∷ []) (S.faults text.new ∷ (K.seen sink.new).faults ∷ []) }
     ensures nothing_written { S.faults text.new ≢ S.faults text.old → K.seen sink.new ≡ K.seen sink.old }
     ensures memory { result ≡ Err Memory → K.seen sink.new ≡ K.seen sink.old }
+    ensures kept { IfOk result (λ status. KeepsReport (K.seen sink.old) (K.seen sink.new) kept.old kept.new) }
 {
     match (form, kind) {
         (TextForm::Summary, TextKind::Max) => sum_up::<MaxSummary, S, K>(alloc, text, sink, kept),
@@ -113,6 +115,7 @@ fn print<T: Text, S: Source, K: Sink>(
     ensures faults { CountsDevices result (S.faults text.old ∷ (K.seen sink.old).faults ∷ []) (S.faults text.new ∷ (K.seen sink.new).faults ∷ []) }
     ensures nothing_written { S.faults text.new ≢ S.faults text.old → K.seen sink.new ≡ K.seen sink.old }
     ensures memory { result ≡ Err Memory → K.seen sink.new ≡ K.seen sink.old }
+    ensures kept { IfOk result (λ status. KeepsReport (K.seen sink.old) (K.seen sink.new) kept.old kept.new) }
 {
     match read::<T, S>(alloc, text) {
         Ok(value) => {
@@ -151,6 +154,7 @@ fn sum_up<T: Summary, S: Source, K: Sink>(
     ensures faults { CountsDevices result (S.faults text.old ∷ (K.seen sink.old).faults ∷ []) (S.faults text.new ∷ (K.seen sink.new).faults ∷ []) }
     ensures nothing_written { S.faults text.new ≢ S.faults text.old → K.seen sink.new ≡ K.seen sink.old }
     ensures memory { result ≡ Err Memory → K.seen sink.new ≡ K.seen sink.old }
+    ensures kept { IfOk result (λ status. KeepsReport (K.seen sink.old) (K.seen sink.new) kept.old kept.new) }
 {
     match read_summary::<T, S>(alloc, text) {
         Ok(summary) => {

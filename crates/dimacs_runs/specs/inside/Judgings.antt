@@ -5,9 +5,10 @@ use Rattle.dimacs_records.specs.{declared.faults.ReadError.{ReadError}, declared
 use Rattle.dimacs_records.specs.{declared.reasons.Reason.{Reason}, Faults.{Fault}, Readings.{LineRecord}}
 use Rattle.dimacs_records.specs.Texts.{Reads, SpellsValue}
 use Rattle.dimacs_runs.specs.{declared.early_end.EarlyEnd.{EarlyEnd}, declared.early_end.EarlyEnd.TheVariants.{Error}}
-use Rattle.dimacs_runs.specs.{declared.status.RunError.TheVariants.{Device}, declared.status.Status.{Status}}
-use Rattle.dimacs_runs.specs.{declared.status.Status.TheVariants.{Refused}, Judgings.{OneMore}, Refusals.{refusal_line}}
-use Rattle.dimacs_runs.specs.{Runs.{text_word}, inside.Outcomes.{unread_end}}
+use Rattle.dimacs_runs.specs.{Judgings.{OneMore}, Refusals.{refusal_line}, Runs.{text_word}}
+use Rattle.dimacs_runs.specs.inside.Outcomes.{unread_end}
+use Rattle.dimacs_jobs.specs.{declared.status.RunError.TheVariants.{Device}, declared.status.Status.{Status}}
+use Rattle.dimacs_jobs.specs.declared.status.Status.TheVariants.{Refused}
 
 -- a text: its word in refusals, the value that it spells, and its fault
 pub record TextSpells (V : Type 0) : Type 1 where

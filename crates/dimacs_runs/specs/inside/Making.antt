@@ -2,13 +2,13 @@
 use Rattle.std.specs.Prelude.{ℕ, ◌≡◌, ◌⊎◌, ◌++◌, List, [], ◌∷◌, Option, None, Some, Result, IsErr, map}
 use Rattle.std.specs.List.{flat_map}
 use Rattle.dimacs_lines.specs.Devices.{Written}
-use Rattle.dimacs_runs.specs.{declared.failure.CommandError.{CommandError}, declared.status.RunError.{RunError}}
-use Rattle.dimacs_runs.specs.{declared.status.Status.{Status}, declared.outcome.Outcome.{Outcome}, Outputs.{ReportsAll}}
-use Rattle.dimacs_runs.specs.{declared.runs_that_make.ClaimJob.{ClaimJob}, inside.Outcomes.{IfEnds, shown_texts}}
-use Rattle.dimacs_runs.specs.declared.runs_that_make.ClaimJob.TheVariants.{Certify, Spread}
-use Rattle.dimacs_runs.specs.Commands.{Contents, MakesCertificate, MakesSpread, Making, RunsOver, Seen, StopsOpening, WritesNothing, accepted_before, accepted_after, failures_named, files_for, made_events, output_faults, reads, text_first}
+use Rattle.dimacs_runs.specs.{declared.failure.CommandError.{CommandError}, declared.outcome.Outcome.{Outcome}}
+use Rattle.dimacs_runs.specs.{Outputs.{ReportsAll}, declared.runs_that_make.ClaimJob.{ClaimJob}}
+use Rattle.dimacs_runs.specs.{inside.Outcomes.{IfEnds, shown_texts}, inside.Reports.{report_status}}
+use Rattle.dimacs_runs.specs.{inside.Commands.{reads}, declared.runs_that_make.ClaimJob.TheVariants.{Certify, Spread}}
+use Rattle.dimacs_runs.specs.Commands.{Contents, MakesCertificate, MakesSpread, Making, RunsOver, Seen, StopsOpening, WritesNothing, accepted_before, accepted_after, failures_named, files_for, made_events, output_faults, text_first}
 use Rattle.dimacs_runs.specs.Files.{FileEvent, FilesSeen, NotCreated, Opened, Read, ReadFile, Sees, WrittenFile, failures}
-use Rattle.dimacs_runs.specs.inside.Reports.{report_status}
+use Rattle.dimacs_jobs.specs.{declared.status.RunError.{RunError}, declared.status.Status.{Status}}
 
 -- the name, if there is one
 abbrev pub names_of : {W : Type 0} → (W → List ℕ) → Option W → List (List ℕ)

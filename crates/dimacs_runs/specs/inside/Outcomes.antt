@@ -1,6 +1,6 @@
 -- Inside: the outcomes of runs, their texts, and what ends a run early.
-use Rattle.std.specs.Prelude.{ℕ, ℤ, ◌≡◌, List, [], ◌∷◌, Option, None, Result, Ok, Err, map}
-use Rattle.dimacs_lines.specs.Devices.{Written}
+use Rattle.std.specs.Prelude.{ℕ, ℤ, ◌≡◌, ◌⊎◌, List, [], ◌∷◌, Option, None, Some, Result, Ok, Err, map}
+use Rattle.dimacs_lines.specs.Devices.{Written, after_piece}
 use Rattle.dimacs_claims.specs.{Cuts.{SpellsCut, canonical_cut}, Labels.{AreLabels}, LabelTexts.{canonical_labels}}
 use Rattle.dimacs_claims.specs.Potentials.{SpellsPotentials, canonical_potentials}
 use Rattle.dimacs_claims.specs.SolutionTexts.{SolutionValue, canonical_solution, claimed}
@@ -10,14 +10,15 @@ use Rattle.dimacs_records.specs.{declared.faults.ReadError.{ReadError}, declared
 use Rattle.dimacs_network.specs.declared.network.ArcView.{ArcView}
 use Rattle.dimacs_solve.specs.{declared.error.SolveError.{SolveError}, declared.maximum.MaxAnswer.{MaxAnswer}}
 use Rattle.dimacs_solve.specs.{declared.least.MinAnswer.{MinAnswer}, Spread.{Deals, spread_rows}}
-use Rattle.dimacs_runs.specs.{declared.jobs.SpreadKind.{SpreadKind}, declared.status.Status.{Status}, Spread.{IsBestOf}}
-use Rattle.dimacs_runs.specs.{declared.status.RunError.{RunError}, declared.outcome.OutputText.{OutputText}}
-use Rattle.dimacs_runs.specs.{declared.status.RunError.TheVariants.{Device, Memory}, declared.outcome.Outcome.{Outcome}}
+use Rattle.dimacs_jobs.specs.{declared.jobs.SpreadKind.{SpreadKind}, declared.status.Status.{Status}}
+use Rattle.dimacs_jobs.specs.declared.status.RunError.{RunError}
+use Rattle.dimacs_jobs.specs.declared.status.RunError.TheVariants.{Device, Memory}
+use Rattle.dimacs_runs.specs.{Spread.{IsBestOf}, declared.outcome.OutputText.{OutputText}, Judgings.{OneMore}}
+use Rattle.dimacs_runs.specs.{declared.outcome.Outcome.{Outcome}, declared.report.Report.{Report}, Runs.{ReportsAlone}}
 use Rattle.dimacs_runs.specs.declared.outcome.OutputText.TheVariants.{Nothing, Solution, Cut, Potentials, Labels}
-use Rattle.dimacs_runs.specs.{declared.report.Report.{Report}, declared.early_end.EarlyEnd.{EarlyEnd}}
-use Rattle.dimacs_runs.specs.{declared.early_end.EarlyEnd.TheVariants.{Error}, Judgings.{OneMore}, Runs.{ReportsAlone}}
-use Rattle.dimacs_runs.specs.Outputs.{AcceptAll, AcceptInTurn, MayWrite, WritesAlike}
-use Rattle.dimacs_runs.specs.inside.Reports.{report_lines, report_status}
+use Rattle.dimacs_runs.specs.{declared.early_end.EarlyEnd.{EarlyEnd}, declared.early_end.EarlyEnd.TheVariants.{Error}}
+use Rattle.dimacs_runs.specs.{Outputs.{AcceptAll, AcceptInTurn, MayWrite, WritesAlike}, Reports.{report_lines}}
+use Rattle.dimacs_runs.specs.inside.Reports.{report_status}
 use Rattle.dimacs_judging.specs.declared.verdict.JudgeError.TheVariants as judge_errors
 use Rattle.dimacs_judging.specs.declared.verdict.Verdict.TheVariants as verdicts
 use Rattle.dimacs_records.specs.declared.faults.ReadError.TheVariants as read_errors
@@ -81,6 +82,10 @@ EndsWriting (Err error) result old new = (result ≡ Err error) × (new ≡ old)
 abbrev pub Keeps : {O : Type 0} → (Outcome → O) → Result Outcome RunError → Status → O → Type 0
 Keeps texts (Ok o) status out = (status ≡ report_status o.report) × (out ≡ texts o)
 Keeps texts (Err error) status out = ⊥
+
+-- nothing more was kept, or an outcome whose report is all that was written
+abbrev pub KeepsReport : Written → Written → Option Outcome → Option Outcome → Type 0
+KeepsReport old new kept more = (more ≡ kept) ⊎ ((o : Outcome) × (more ≡ Some o) × (new.accepted ≡ after_piece old.accepted (report_lines o.report)))
 
 -- why a run stops: a text of this kind can't be read, or a judge or a solver has an error
 abbrev pub unread_end : TextKind → ReadError → EarlyEnd

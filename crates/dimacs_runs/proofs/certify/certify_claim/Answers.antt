@@ -1,5 +1,6 @@
 use Rattle.std.proofs.Common.{refl, subst}
-use Rattle.dimacs_runs.specs.{declared.jobs.JudgeKind.{JudgeKind}, Certified.{IsClaimed}}
+use Rattle.dimacs_jobs.specs.declared.jobs.JudgeKind.{JudgeKind}
+use Rattle.dimacs_runs.specs.Certified.{IsClaimed}
 use Rattle.dimacs_runs.proofs.certify.certify_claim.Goals.{in-Max, in-Min, in-Infeasible, in-Paths}
 use Rattle.dimacs_runs.proofs.certify.certify_claim.Goals as goal
 

@@ -1,10 +1,10 @@
 use Rattle.std.proofs.Common.{◌≡◌, ◌∙◌, subst, sym, ap, refl, Option, Some, None}
 use Rattle.dimacs_records.specs.declared.kinds.TextKind.{TextKind}
-use Rattle.dimacs_runs.specs.{declared.jobs.JudgeKind.{JudgeKind}, Judged.{IsClaim, claim_kind, instance_kind}}
-use Rattle.dimacs_runs.specs.inside.Judgings.{HasFault}
+use Rattle.dimacs_jobs.specs.declared.jobs.JudgeKind.{JudgeKind}
+use Rattle.dimacs_runs.specs.{Judged.{IsClaim, claim_kind, instance_kind}, inside.Judgings.{HasFault}}
 use Rattle.dimacs_runs.proofs.judge.judge_texts.Goals.{in-Max, in-Min, in-Infeasible, in-Paths}
 use Rattle.dimacs_records.specs.declared.kinds.TextKind.TheVariants as kinds
-use Rattle.dimacs_runs.specs.declared.jobs.JudgeKind.TheVariants as judges
+use Rattle.dimacs_jobs.specs.declared.jobs.JudgeKind.TheVariants as judges
 use Rattle.dimacs_runs.proofs.judge.judge_texts.Goals as goal
 
 pub returns-clause-reports : goal.returns-clause-reports

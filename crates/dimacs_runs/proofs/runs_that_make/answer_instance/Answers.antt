@@ -3,7 +3,7 @@ use Rattle.dimacs_runs.specs.{Commands.{MakesCertificate}, Files.{Read, ReadFile
 use Rattle.dimacs_runs.specs.inside.Outcomes.{IfEnds, outcome_of, shown_texts}
 use Rattle.dimacs_runs.proofs.{FileLemmas.{one_first}, MakingLemmas.{answers_files, answers_nothing}}
 use Rattle.dimacs_runs.proofs.PlanLemmas.{each_text, sees_nothing}
-use Rattle.dimacs_runs.specs.declared.jobs.JudgeKind.TheVariants as judges
+use Rattle.dimacs_jobs.specs.declared.jobs.JudgeKind.TheVariants as judges
 use Rattle.dimacs_runs.proofs.runs_that_make.answer_instance.Goals as goal
 
 pub returns-in_err-instance : goal.returns-in_err-instance

@@ -1,4 +1,4 @@
-use Rattle.dimacs_runs.proofs.ArgumentLemmas.{reads_two}
+use Rattle.dimacs_runs.proofs.NameLemmas.{reads_two}
 use Rattle.dimacs_runs.proofs.runs_that_make.certify_files.Goals as goal
 
 pub returns-in-Infeasible : goal.returns-in-Infeasible

@@ -1,6 +1,6 @@
 use Rattle.std.proofs.{Common.{[], ◌∷◌, drop, map}, lemmas.List.{length-map}}
 use Rattle.std.specs.String.{string_bytes}
-use Rattle.dimacs_runs.proofs.{MakingLemmas.{makes_nothing, makes_of_files}, ArgumentLemmas.{first_name, last_name}}
+use Rattle.dimacs_runs.proofs.{MakingLemmas.{makes_nothing, makes_of_files}, NameLemmas.{first_name, last_name}}
 use Rattle.dimacs_runs.proofs.runs_that_make.certify_instance.Goals as goal
 
 pub returns-in_err-outcome : goal.returns-in_err-outcome

@@ -1,7 +1,6 @@
 use Rattle.std.proofs.{Common.{[], ◌∷◌, drop, map}, lemmas.List.{length-map}}
 use Rattle.std.specs.String.{string_bytes}
-use Rattle.dimacs_runs.proofs.MakingLemmas.{makes_nothing, makes_of_files}
-use Rattle.dimacs_runs.proofs.ArgumentLemmas.{first_two_names, last_name}
+use Rattle.dimacs_runs.proofs.{MakingLemmas.{makes_nothing, makes_of_files}, NameLemmas.{first_two_names, last_name}}
 use Rattle.dimacs_runs.proofs.runs_that_make.make_of_claim.Goals as goal
 
 pub returns-in_err-outcome : goal.returns-in_err-outcome

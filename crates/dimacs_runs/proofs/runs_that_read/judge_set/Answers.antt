@@ -4,7 +4,7 @@ use Rattle.dimacs_runs.specs.inside.Commands.{named}
 use Rattle.dimacs_runs.proofs.FileLemmas.{sees_two, two_first}
 use Rattle.dimacs_runs.proofs.PlanLemmas.{each_text, no_outcome, reports_named, sees_nothing, stops_opening, uses_files}
 use Rattle.dimacs_runs.proofs.WritingLemmas.{counts_reported, counts_without, report_written, unreported}
-use Rattle.dimacs_runs.specs.declared.jobs.JudgeKind.TheVariants as judges
+use Rattle.dimacs_jobs.specs.declared.jobs.JudgeKind.TheVariants as judges
 use Rattle.dimacs_runs.proofs.runs_that_read.judge_set.Goals as goal
 
 pub returns-in_err-instance : goal.returns-in_err-instance

@@ -6,7 +6,7 @@ use Rattle.dimacs_runs.specs.inside.Outcomes.{accepted_by, nowhere}
 use Rattle.dimacs_runs.proofs.FileLemmas.{sees_three, sees_two, three_first}
 use Rattle.dimacs_runs.proofs.PlanLemmas.{each_text, no_outcome, reports_all_named, sees_nothing, stops_creating, stops_opening, uses_files}
 use Rattle.dimacs_runs.proofs.WritingLemmas.{all_written, counts_both, counts_without, unwritten}
-use Rattle.dimacs_runs.specs.declared.jobs.SolveJob.TheVariants as solves
+use Rattle.dimacs_jobs.specs.declared.jobs.SolveJob.TheVariants as solves
 use Rattle.dimacs_runs.proofs.runs_that_write.solve_distances.Goals as goal
 
 pub returns-in_err-graph : goal.returns-in_err-graph

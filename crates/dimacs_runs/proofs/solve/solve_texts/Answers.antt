@@ -1,5 +1,6 @@
 use Rattle.std.proofs.Common.{subst}
-use Rattle.dimacs_runs.specs.{declared.jobs.SolveJob.{SolveJob}, Solved.{AreQueries}}
+use Rattle.dimacs_jobs.specs.declared.jobs.SolveJob.{SolveJob}
+use Rattle.dimacs_runs.specs.Solved.{AreQueries}
 use Rattle.dimacs_runs.proofs.solve.solve_texts.Goals.{in-Max, in-Min, in-Paths}
 use Rattle.dimacs_runs.proofs.solve.solve_texts.Goals as goal
 

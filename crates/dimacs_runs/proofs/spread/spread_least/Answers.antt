@@ -2,8 +2,8 @@ use Rattle.std.proofs.{Common.{rules}, lemmas.Int.{to_z-of_z}}
 use Rattle.std.specs.Int.{w128}
 use Rattle.dimacs_claims.specs.SolutionTexts.{GivesSolution, claimed}
 use Rattle.dimacs_instance.specs.MinTexts.{GivesMin}
-use Rattle.dimacs_runs.specs.{declared.jobs.SpreadKind.TheVariants.{Min}, Spread.{SpreadsClaim}}
-use Rattle.dimacs_runs.specs.{inside.Outcomes.{outcome_of}, inside.Judgings.{text_of}}
+use Rattle.dimacs_jobs.specs.declared.jobs.SpreadKind.TheVariants.{Min}
+use Rattle.dimacs_runs.specs.{Spread.{SpreadsClaim}, inside.Outcomes.{outcome_of}, inside.Judgings.{text_of}}
 use Rattle.dimacs_runs.proofs.{SpreadLemmas.{min_deals}, SolvingLemmas.{counts_none}}
 use Rattle.dimacs_runs.proofs.TextLemmas.{certifying, two_end, two_stop}
 use Rattle.dimacs_records.specs.declared.kinds.TextKind.TheVariants as kinds

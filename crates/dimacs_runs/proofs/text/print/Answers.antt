@@ -1,7 +1,8 @@
 use Rattle.std.proofs.{Common.{Err, inr, refl}, lemmas.Result.{err_from_is_err_and}}
-use Rattle.dimacs_runs.specs.{declared.status.Status.TheVariants.{Done}, Runs.{IsPrinted, in_form}}
-use Rattle.dimacs_runs.specs.inside.Judgings.{FaultIn, text_spells}
-use Rattle.dimacs_runs.proofs.{WritingLemmas.{report_written}, ReportLemmas.{unread_printed, value_printed}}
+use Rattle.dimacs_jobs.specs.declared.status.Status.TheVariants.{Done}
+use Rattle.dimacs_runs.specs.{Runs.{IsPrinted, in_form}, inside.Judgings.{FaultIn, text_spells}}
+use Rattle.dimacs_runs.proofs.WritingLemmas.{report_kept, report_written}
+use Rattle.dimacs_runs.proofs.ReportLemmas.{unread_printed, value_printed}
 use Rattle.dimacs_runs.proofs.text.print.Goals as goal
 
 pub returns-in_ok-write_in_form-in-Ok-clause-reports : goal.returns-in_ok-write_in_form-in-Ok-clause-reports
@@ -23,3 +24,7 @@ returns-in-Err-clause-reports g c = λ bytes coming.
     let text = text_spells g.T.Writable.kind g.T.Writable.spells bytes in
     report_written (FaultIn text (IsPrinted printed)) c.outcome_of-answer.result c.write_outcome.result (g.K.Sink.seen c.args.sink.now) (g.K.Sink.seen c.write_outcome.new.report)
     (rw c.outcome_of-answer.ensures (unread_printed text printed c.in-Err.ended (Err c.in-Err.ended) refl (c.in-Err.ensures.reads bytes coming))) c.write_outcome.ensures.ends
+
+pub returns-in-Err-clause-kept : goal.returns-in-Err-clause-kept
+returns-in-Err-clause-kept g c =
+    report_kept c.outcome_of-answer.result c.write_outcome.result (g.K.Sink.seen c.args.sink.now) (g.K.Sink.seen c.write_outcome.new.report) c.args.kept.now c.write_outcome.new.kept c.write_outcome.ensures.ends c.write_outcome.ensures.kept
