@@ -1,0 +1,2 @@
+pub mod Retold
+pub mod Texts
