@@ -1,15 +1,16 @@
 //! What arguments ask for, in words.
 
-ghost use Rattle.std.specs.{Prelude.{◌≡◌, ◌↔◌, IfOk, IsTrue, List, [], None, map, ℕ}, String.{string_bytes}};
-ghost use Rattle.dimacs_runs.specs.Commands.{WritesTwice};
+ghost use Rattle.std.specs.Prelude.{◌≡◌, ◌≢◌, ◌↔◌, IfOk, IsSome, IsTrue, List, [], None, map, ℕ};
+ghost use Rattle.std.specs.String.{string_bytes};
+ghost use Rattle.dimacs_jobs.specs.Jobs.{WritesTwice};
 ghost use Rattle.dimacs_usage.specs.{Answers.{Answers, RequestsRun}, Plans.{BeginsWithMarks}, Slips.{IsSolver}};
 
 use crate::misuse::{complaint_of, complaint_of_slip};
-use crate::plan::{created, first_file, marks, opened_count};
+use crate::plan::{first_file, marks};
 use crate::slips::Slip;
 use crate::usage::{self, Command};
+use dimacs_jobs::{Job, Request, Verb, request, version, words_ask_for_one_thing};
 use dimacs_quote::Shown;
-use dimacs_runs::{Job, Request, request, version};
 use std::alloc::{AllocError, Global};
 
 /// What arguments ask for.
@@ -37,7 +38,7 @@ pub struct Run<'a> {
 }
 
 /// What these arguments, without the program's name, ask for. `same` has for each argument the place of the first that
-/// names the same regular file, or its own.
+/// names the same regular file, or its own, as for a file that isn't there yet.
 pub fn ask<'a>(
     alloc: Global,
     arguments: &'a [String],
@@ -75,8 +76,9 @@ fn ask_run<'a>(
     requires { RequestsRun (map string_bytes arguments.now) job explains }
     ensures { IfOk result (Answers (map string_bytes arguments.now) same.now) }
 {
+    words_ask_for_one_thing();
     match Slip::of(job, explains, same) {
-        Some(slip) if explains || !solves(job) => {
+        Some(slip) if explains || !solves(job.verb) => {
             let line = slip.line(alloc, job, arguments)?;
             Ok(Asked::Nothing(complaint_of_slip(alloc, arguments, line)?))
         }
@@ -90,10 +92,10 @@ fn ask_run<'a>(
 }
 
 /// Whether a run solves.
-fn solves(job: Job<'_>) -> bool
-    ensures { IsTrue result ↔ IsSolver job.entry }
+fn solves(verb: Verb) -> bool
+    ensures { IsTrue result ↔ IsSolver verb }
 {
-    matches!(job, Job::Solve(..))
+    matches!(verb, Verb::Solve(_))
 }
 
 /// What is told of the files that a run has written. The words of the run name them.
@@ -103,16 +105,27 @@ fn told(
     slip: Option<Slip<'_>>,
     words: &[String],
 ) -> Result<String, AllocError>
-    ensures { slip.entry ≡ None → ((name : List ℕ) → ¬ WritesTwice job.entry name) → IfOk result (λ text. string_bytes text ≡ []) }
+    ensures nothing { slip.entry ≡ None → ((name : List ℕ) → ¬ WritesTwice job.entry name) → IfOk result (λ text. string_bytes text ≡ []) }
+    ensures slip { IsSome slip.entry → IfOk result (λ text. string_bytes text ≢ []) }
+    ensures twice { (name : List ℕ) → WritesTwice job.entry name → IfOk result (λ text. string_bytes text ≢ []) }
 {
-    let mut text = String::new(alloc);
-    if let Some(name) = job.written_twice() {
-        write!(text, "dimacs: {}: written twice\n", Shown(name))?;
-    }
     if let Some(slip) = slip {
-        write!(text, "dimacs: {}\n", slip.line(alloc, job, words)?)?;
+        return message(alloc, slip.line(alloc, job, words)?.as_str());
     }
-    Ok(text)
+    match job.written_twice() {
+        Some(name) => message(
+            alloc,
+            format!(in alloc; "{}: written twice", Shown(name))?.as_str(),
+        ),
+        None => Ok(String::new(alloc)),
+    }
+}
+
+/// A message of this line.
+fn message(alloc: Global, line: &str) -> Result<String, AllocError>
+    ensures { IfOk result (λ text. string_bytes text ≢ []) }
+{
+    format!(in alloc; "dimacs: {line}\n")
 }
 
 impl Run<'_> {
@@ -132,8 +145,7 @@ impl Run<'_> {
         let mut text = String::new(alloc);
         let first = first_file(self.job, self.explains);
         let files = self.words.get(first..).unwrap_or_default();
-        let count = opened_count(self.job).saturating_add(created(self.job).len());
-        for name in files.iter().take(count) {
+        for name in files.iter().take(self.job.files.len()) {
             write!(text, "{}\n", Shown(name.as_str()))?;
         }
         text.push_str(self.told.as_str())?;

@@ -1,6 +1,6 @@
 //! What the command says about its arguments: usage texts, complaints, and what a run does with its files.
 //!
-//! For the program and for the commands over the library. `dimacs_runs::request` decides what arguments ask for.
+//! For the program and for the commands over the library. `dimacs_jobs::request` decides what arguments ask for.
 #![tactic(auto)]
 
 mod asked;

@@ -1,6 +1,6 @@
-//! The usage texts, of one table of commands. `dimacs_runs::request` reads the arguments.
+//! The usage texts, of one table of commands. clap only renders them: `dimacs_jobs::request` reads the arguments.
 
-use dimacs_runs::version;
+use dimacs_jobs::version;
 use std::alloc::{AllocError, Global};
 
 /// A command: its name with its arguments, of which those in brackets may be left out, and what it does. Both fit into
@@ -197,7 +197,8 @@ pub static KINDS: [&str; 9] = [
 const ABOUT: &str =
     "Reads, converts, judges and makes the DIMACS texts of flows and shortest paths";
 
-const USAGE: &str = "Usage: dimacs COMMAND FILE...";
+/// The words of any command.
+const USAGE: &str = "dimacs COMMAND FILE...";
 
 /// The end of the usage text of all commands.
 static ENDING: &str = "\
@@ -212,28 +213,42 @@ Example:
 
 /// The usage text of all commands, after the version.
 pub fn of_all(alloc: Global) -> Result<String, AllocError> {
-    let mut text = format!(in alloc; "dimacs {}\n{ABOUT}\n\n{USAGE}\n\nCommands:\n", version())?;
+    let mut notes = notes(alloc, None)?;
+    notes.push_str("\n\n")?;
+    notes.push_str(ENDING)?;
+    let mut page = page(alloc, USAGE).about(ABOUT).after_help(notes.as_str());
     for &Command(words, about) in &COMMANDS {
-        write!(text, "  {words:<51}  {about}\n")?;
+        page = page.subcommand(clap::Command::new(alloc, words).about(about))?;
     }
-    write!(text, "\n{}\n\n{ENDING}\n", notes(alloc, None)?)?;
-    Ok(text)
+    let text = page.render_help()?;
+    format!(in alloc; "dimacs {}\n{text}", version())
 }
 
 /// The usage text of arguments that name no command.
 pub fn of_none(alloc: Global) -> Result<String, AllocError> {
-    format!(in alloc; "{USAGE}\n\n`dimacs help` lists the commands\n")
+    page(alloc, USAGE)
+        .after_help("`dimacs help` lists the commands")
+        .render_help()
 }
 
 /// The usage text of one command.
 pub fn of_one(alloc: Global, command: Command) -> Result<String, AllocError> {
     let Command(words, about) = command;
-    let mut text = format!(in alloc; "{about}\n\nUsage: dimacs {words}\n")?;
+    let usage = format!(in alloc; "dimacs {words}")?;
     let notes = notes(alloc, Some(command))?;
+    let mut page = page(alloc, usage.as_str()).about(about);
     if !notes.is_empty() {
-        write!(text, "\n{notes}\n")?;
+        page = page.after_help(notes.as_str());
     }
-    Ok(text)
+    page.render_help()
+}
+
+/// A page of help on this usage.
+fn page(alloc: Global, usage: &str) -> clap::Command<'_> {
+    clap::Command::new(alloc, "dimacs")
+        .disable_help_subcommand(true)
+        .disable_help_flag(true)
+        .override_usage(usage)
 }
 
 /// The notes on a command, or on all, with an empty line between them.
