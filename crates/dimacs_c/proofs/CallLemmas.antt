@@ -1,10 +1,10 @@
 -- What was written to memory is handed out.
 use Rattle.std.proofs.Common.{◌≡◌, ◌∙◌, ◌++◌, ℕ, List, [], ◌∷◌, Option, None, Some, Result, Ok, Err, ap, subst, get_or, drop, inl, inr}
 use Rattle.std.specs.Prelude.{unwrap_or}
-use Rattle.dimacs_runs.specs.{declared.jobs.JudgeKind.{JudgeKind}, declared.status.RunError.{RunError}, Runs.{Reports}}
-use Rattle.dimacs_runs.specs.{declared.status.Status.{Status}, declared.jobs.SolveJob.{SolveJob}, Judged.{IsClaim}}
-use Rattle.dimacs_runs.specs.{declared.jobs.SolveJob.TheVariants.{Max, Min, Paths}, Outputs.{AcceptAll, ReportsAll}}
-use Rattle.dimacs_runs.specs.Solved.{AreQueries}
+use Rattle.dimacs_jobs.specs.{declared.jobs.JudgeKind.{JudgeKind}, declared.status.RunError.{RunError}}
+use Rattle.dimacs_jobs.specs.{declared.status.Status.{Status}, declared.jobs.SolveJob.{SolveJob}}
+use Rattle.dimacs_jobs.specs.declared.jobs.SolveJob.TheVariants.{Max, Min, Paths}
+use Rattle.dimacs_runs.specs.{Runs.{Reports}, Judged.{IsClaim}, Outputs.{AcceptAll, ReportsAll}, Solved.{AreQueries}}
 use Rattle.dimacs_c.specs.{Calls.{Answers, AnswersTexts, Handed, HandNothing, HandsEach, HandsOut}, inside.Calls.{Ends}}
 
 pub is_claim : (k : JudgeKind) (coming : Option (List ℕ)) (b : List ℕ) → coming ≡ Some b → IsClaim k coming b

@@ -1,7 +1,8 @@
 -- The end of a command that explains its answer.
 use Rattle.std.proofs.Common.{◌≡◌, ◌∙◌, ℕ, List, [], ◌∷◌, Ok, ap, get_or, inl, inr, refl, subst, suc, sym, zero}
-use Rattle.dimacs_runs.specs.{declared.jobs.Job.{Job}, declared.status.Status.{Status}, InMemory.{IsExplained}}
-use Rattle.dimacs_runs.specs.{declared.status.Status.TheVariants.{Done, Refused, GaveUp}, Outcomes.{status_number}}
+use Rattle.dimacs_explained.specs.Explained.{IsExplained}
+use Rattle.dimacs_jobs.specs.{declared.jobs.Job.{Job}, declared.status.Status.{Status}, Outcomes.{status_number}}
+use Rattle.dimacs_jobs.specs.declared.status.Status.TheVariants.{Done, Refused, GaveUp}
 use Rattle.dimacs_c.specs.Command.{EndsJob}
 
 -- a status is known by its number

@@ -1,6 +1,7 @@
 -- What calls return and hand out.
 use Rattle.std.specs.Prelude.{ℕ, ◌≡◌, ◌++◌, ◌⊎◌, List, [], ◌∷◌, Option, None, Some, Ok, length, take, drop}
-use Rattle.dimacs_runs.specs.{declared.status.Status.{Status}, Outcomes.{status_number}, Runs.{ReportsAlone}}
+use Rattle.dimacs_jobs.specs.{declared.status.Status.{Status}, Outcomes.{status_number}}
+use Rattle.dimacs_runs.specs.Runs.{ReportsAlone}
 
 -- a caller's buffer for bytes or numbers, before and after the call, and the length that the call set
 pub record Handed (X : Type 0) : Type 0 where

@@ -1,13 +1,13 @@
 -- The numbers of the kinds.
 use Rattle.std.specs.Prelude.{ℕ, ◌==◌, if◌then◌else◌, Option, None, Some}
 use Rattle.dimacs_records.specs.{declared.kinds.TextKind.{TextKind}, declared.records.QueryKind.{QueryKind}}
-use Rattle.dimacs_runs.specs.{declared.jobs.JudgeKind.{JudgeKind}, declared.jobs.SolveJob.{SolveJob}}
-use Rattle.dimacs_runs.specs.declared.jobs.SpreadKind.{SpreadKind}
+use Rattle.dimacs_jobs.specs.{declared.jobs.JudgeKind.{JudgeKind}, declared.jobs.SolveJob.{SolveJob}}
+use Rattle.dimacs_jobs.specs.declared.jobs.SpreadKind.{SpreadKind}
 use Rattle.dimacs_records.specs.declared.kinds.TextKind.TheVariants as texts
 use Rattle.dimacs_records.specs.declared.records.QueryKind.TheVariants as asks
-use Rattle.dimacs_runs.specs.declared.jobs.JudgeKind.TheVariants as judges
-use Rattle.dimacs_runs.specs.declared.jobs.SolveJob.TheVariants as jobs
-use Rattle.dimacs_runs.specs.declared.jobs.SpreadKind.TheVariants as spreads
+use Rattle.dimacs_jobs.specs.declared.jobs.JudgeKind.TheVariants as judges
+use Rattle.dimacs_jobs.specs.declared.jobs.SolveJob.TheVariants as jobs
+use Rattle.dimacs_jobs.specs.declared.jobs.SpreadKind.TheVariants as spreads
 
 abbrev pub judge_kind : ℕ → Option JudgeKind
 judge_kind number =

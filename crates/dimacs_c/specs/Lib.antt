@@ -4,6 +4,7 @@ pub mod Calls
 pub mod Command
 pub mod Kinds
 pub mod Laws
+pub mod LineEnd
 pub mod Reading
 pub mod Requests
 pub mod inside

@@ -3,8 +3,8 @@
 ghost use Rattle.std.specs.Prelude.{◌≡◌};
 ghost use Rattle.dimacs_c.specs.{Calls.{HandsOut, handed}, inside.Calls.{Ends, EndsPrinted}};
 
+use dimacs_jobs::{RunError, Status, exit_status};
 use dimacs_lines::DeviceFault;
-use dimacs_runs::{RunError, Status, exit_status};
 
 /// The status of a misused call.
 pub(crate) const MISUSED: u32 = 2;

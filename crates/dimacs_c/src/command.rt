@@ -1,23 +1,25 @@
 //! Running a command over texts in memory.
 
-ghost use Rattle.std.specs.{Prelude.{◌≡◌, ◌∷◌, [], ◌↔◌, IsTrue, map}, String.{string_bytes}};
+ghost use Rattle.std.specs.{Prelude.{◌≡◌, ◌∷◌, [], ◌↔◌, IfOk, IsTrue, map}, String.{string_bytes}};
 ghost use Rattle.dimacs_c.specs.{Calls.{handed}, inside.Command.{Ended}};
 ghost use Rattle.dimacs_c.specs.Command.{AnswersCommand, EndsBytes, EndsCommand, EndsJob, IsUnread, readable};
-ghost use Rattle.dimacs_runs.specs.InMemory.{IsExplained};
+ghost use Rattle.dimacs_explained.specs.Explained.{IsExplained};
+ghost use Rattle.dimacs_runs.specs.InMemory.{RanOver};
 
 use crate::answer::{MISUSED, NO_MEMORY, hand_out};
 use crate::words::words_of;
-use dimacs_runs::{
-    Job, MemoryTexts, Ran, Request, StandFor, exit_status, explain_in_memory, refuses_text,
-    request, run_in_memory,
-};
+use dimacs_explained::explain_in_memory;
+use dimacs_jobs::{Job, Request, exit_status, request, words_ask_for_one_thing};
+use dimacs_quote::StandFor;
+use dimacs_runs::{MemoryTexts, Ran, refuses_text, run_in_memory};
 use std::alloc::Global;
 
 /// The status if the run comes to a text that can't be read.
 const UNREAD: u32 = 3;
 
-/// Runs a command over texts, as `dimacs`: those of the files that its words name, in order. The one at the place `unread`,
-/// from 1, can't be read. `form` is 0 if they are of files, 1 if they are in none, and 2 if they stand for arrays.
+/// Runs a command over texts, as `dimacs`, but in spite of a slip: those of the files that its words name, in order. The
+/// one at the place `unread`, from 1, can't be read. `form` is 0 if they are of files, 1 if they are in none, and 2 if they
+/// stand for arrays.
 #[unsafe(no_mangle)]
 pub extern "C" fn dimacs_command(
     alloc: Global,
@@ -95,18 +97,22 @@ fn run(
 ) -> Result<Ran, u32>
     ensures { Ended (EndsCommand (map string_bytes arguments.now) unread texts.entry.first.now texts.entry.second.now texts.entry.third.now) result }
 {
+    words_ask_for_one_thing();
     match request(arguments) {
         Some(Request::Run(job)) => run_job(alloc, job, unread, texts),
         Some(Request::Explain(job)) => explain_job(alloc, job, form, unread, texts),
-        Some(Request::Help | Request::HelpOn(_) | Request::Version) => Err(MISUSED),
+        Some(Request::Help) => Err(MISUSED),
+        Some(Request::HelpOn(_)) => Err(MISUSED),
+        Some(Request::Version) => Err(MISUSED),
         None => Err(MISUSED),
     }
 }
 
 fn run_job(alloc: Global, job: Job<'_>, unread: u32, texts: MemoryTexts<'_>) -> Result<Ran, u32>
-    ensures { Ended (EndsJob job.entry (λ status report printed. printed ≡ report) unread texts.entry.first.now texts.entry.second.now texts.entry.third.now) result }
+    ensures ends { Ended (EndsJob job.entry (λ status report printed. printed ≡ report) unread texts.entry.first.now texts.entry.second.now texts.entry.third.now) result }
+    ensures ran { IfOk result (RanOver job.entry.verb texts.entry.first.now texts.entry.second.now texts.entry.third.now) }
 {
-    match run_in_memory(alloc, job, texts) {
+    match run_in_memory(alloc, job.verb, texts) {
         Ok(ran) if is_unread(job, unread, ran.printed.bytes()) => Err(UNREAD),
         Ok(ran) => Ok(ran),
         Err(_) => Err(NO_MEMORY),
@@ -134,7 +140,7 @@ fn is_unread(job: Job<'_>, unread: u32, report: &[u8]) -> bool
     ensures { IsTrue result ↔ IsUnread job.entry unread report.now }
 {
     match unread.checked_sub(1) {
-        Some(place) => refuses_text(job, place as usize, report),
+        Some(place) => refuses_text(job.verb, place as usize, report),
         None => false,
     }
 }

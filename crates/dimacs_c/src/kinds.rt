@@ -3,8 +3,8 @@
 ghost use Rattle.std.specs.Prelude.{◌≡◌};
 ghost use Rattle.dimacs_c.specs.Kinds.{judge_kind, number_of_queries, query_kind, solve_job, spread_kind, text_kind};
 
+use dimacs_jobs::{JudgeKind, SolveJob, SpreadKind};
 use dimacs_records::{QueryKind, TextKind};
-use dimacs_runs::{JudgeKind, SolveJob, SpreadKind};
 
 pub(crate) fn judge_of(number: u32) -> Option<JudgeKind>
     ensures { result ≡ judge_kind number }

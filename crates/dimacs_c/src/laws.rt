@@ -1,7 +1,8 @@
-//! Theorems: arrays that are written as a text come back from it.
+//! Theorems: arrays that are written as a text come back from it, and what stands for a text that can't be read is none.
 //!
 //! The contract of a function here states the theorem. The body is empty on purpose: there is nothing to compute.
 
+ghost use Rattle.dimacs_c.specs.LineEnd.{LineEndLaw};
 ghost use Rattle.dimacs_c.specs.Laws.{CutArrayLaw, DistancesArrayLaw, GraphArraysLaw, LabelArraysLaw, MaxArraysLaw, MinArraysLaw, PotentialsArrayLaw, QueryArraysLaw, SolutionArraysLaw};
 
 /// What `dimacs_write_graph` writes, `dimacs_read_graph` reads into arrays with the same items, as far as they have room,
@@ -48,4 +49,10 @@ pub fn distances_array_comes_back()
 /// The same of `dimacs_write_labels` and `dimacs_read_labels`, from the same source.
 pub fn label_arrays_come_back()
     ensures { LabelArraysLaw }
+{}
+
+/// A text of a line end alone, which `dimacs_command` reads in place of one that can't be read, is refused, whatever its
+/// kind.
+pub fn line_end_is_no_text()
+    ensures { LineEndLaw }
 {}

@@ -36,6 +36,6 @@ mod written;
 
 pub use laws::{
     cut_array_comes_back, distances_array_comes_back, graph_arrays_come_back,
-    label_arrays_come_back, max_arrays_come_back, min_arrays_come_back,
+    label_arrays_come_back, line_end_is_no_text, max_arrays_come_back, min_arrays_come_back,
     potentials_array_comes_back, query_arrays_come_back, solution_arrays_come_back,
 };

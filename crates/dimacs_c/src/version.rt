@@ -1,11 +1,11 @@
 //! The version of the library, and whether it is proved.
 
 ghost use Rattle.std.specs.Prelude.{◌≡◌};
-ghost use Rattle.dimacs_runs.specs.Version.{proved_version};
+ghost use Rattle.dimacs_jobs.specs.Version.{proved_version};
 ghost use Rattle.dimacs_c.specs.Calls.{HandsOut, handed};
 
 use crate::answer::hand_out;
-use dimacs_runs::{PROVED, version};
+use dimacs_jobs::{PROVED, version};
 
 /// Version 0.2.0, as `DIMACS_VERSION_NUMBER` of `dimacs.h`.
 const VERSION: u32 = 200;

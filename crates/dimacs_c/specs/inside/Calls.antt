@@ -1,8 +1,8 @@
 -- Inside: the ends of calls.
 use Rattle.std.specs.Prelude.{ℕ, ◌≡◌, List, Result, Ok, Err}
 use Rattle.dimacs_lines.specs.declared.device.DeviceFault.{DeviceFault}
-use Rattle.dimacs_runs.specs.{declared.status.RunError.{RunError}, declared.status.Status.{Status}}
-use Rattle.dimacs_runs.specs.Outcomes.{status_number}
+use Rattle.dimacs_jobs.specs.{declared.status.RunError.{RunError}, declared.status.Status.{Status}}
+use Rattle.dimacs_jobs.specs.Outcomes.{status_number}
 use Rattle.dimacs_c.specs.Calls.{Handed, HandsNothing, HandsOut}
 
 -- the end of a call whose run ended like this and wrote this text
