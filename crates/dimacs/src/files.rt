@@ -6,9 +6,10 @@ ghost use Rattle.dimacs_lines.specs.Devices.{one_more};
 ghost use Rattle.dimacs_runs.specs.Judgings.{CountsDevices};
 
 use crate::kept::{Again, KeptTexts, ReadFile};
+use dimacs_jobs::RunError;
 use dimacs_lines::{FileSink, FileSource};
 use dimacs_quote::Reopen;
-use dimacs_runs::{Files, RunError};
+use dimacs_runs::Files;
 use std::fs::File;
 use std::io::ErrorKind;
 use std::{fs, io};
@@ -120,6 +121,8 @@ impl<'a> Files for SystemFiles<'a> {
 /// Regular files are opened again: a pipe is empty the second time, and opening it may block for ever.
 impl<'a> Reopen for SystemFiles<'a> {
     type Input = Again;
+
+    ghost reopens = { λ s name coming. coming ≡ None };
 
     fn open(&self, name: &str) -> Option<Again> {
         if let Some(text) = self.kept.as_ref().and_then(|kept| kept.text(name)) {

@@ -5,7 +5,7 @@
 #![tactic(auto)]
 
 ghost use Rattle.std.specs.{Prelude.{IfOk, List, map, ℕ}, String.{string_bytes}};
-ghost use Rattle.dimacs_runs.specs.Jobs.{HasFiles};
+ghost use Rattle.dimacs_jobs.specs.Jobs.{HasFiles};
 ghost use Rattle.dimacs_usage.specs.Answers.{Answers};
 
 mod files;
@@ -14,12 +14,11 @@ mod same;
 
 use crate::files::SystemFiles;
 use crate::same::same_files;
+use dimacs_explained::explain_job;
+use dimacs_jobs::{NO_RUN, RunError, Status, complaint, exit_status};
 use dimacs_lines::{FileSink, Sink, StdoutSink, put_all};
 use dimacs_quote::Shown;
-use dimacs_runs::{
-    CommandError, Failure, NO_RUN, RunError, Status, command_status, complaint, exit_status,
-    explain_job, run_job,
-};
+use dimacs_runs::{CommandError, Failure, command_status, run_job};
 use dimacs_usage::{Asked, Run, ask, complaint_of_bytes};
 use std::alloc::{AllocError, Global};
 use std::fs::File;

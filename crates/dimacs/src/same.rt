@@ -1,6 +1,6 @@
 //! Which arguments name the same file.
 
-use dimacs_runs::request;
+use dimacs_jobs::request;
 use std::alloc::AllocError;
 use std::fs;
 use std::os::unix::fs::MetadataExt;

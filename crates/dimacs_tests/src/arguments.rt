@@ -2,27 +2,30 @@
 //! `tests/usage.py` asks for help and gives arguments that ask for nothing.
 
 use crate::checks::same;
-use dimacs_runs::request;
+use dimacs_jobs::request;
 use std::alloc::Global;
 use std::process::Abort;
 use std::test::Fail;
 
 /// Command lines, each with what it asks for.
 static REQUESTS: &str = "\
-convert gr - | Some(Run(Convert(Graph, \"-\")))
-convert gr --help | Some(Run(Convert(Graph, \"--help\")))
-convert gr convert | Some(Run(Convert(Graph, \"convert\")))
-judge-infeasible --version -V | Some(Run(Judge(Infeasible, [\"--version\", \"-V\"])))
-certify-min certify-max --help - | Some(Run(Certify(Min, [\"certify-max\", \"--help\", \"-\"])))
-solve-max instance solution cut --limit -0 | Some(Run(Solve(Max(0), [\"instance\", \"solution\", \"cut\"])))
-solve-max instance solution cut --limit +007 | Some(Run(Solve(Max(7), [\"instance\", \"solution\", \"cut\"])))
-solve-min instance solution pot --limit 1000000000 | Some(Run(Solve(Min(1000000000), [\"instance\", \"solution\", \"pot\"])))
-solve-max instance --limit 5 | Some(Run(Solve(Max(1000000), [\"instance\", \"--limit\", \"5\"])))
-solve-min --limit 5 pot | Some(Run(Solve(Min(1000000), [\"--limit\", \"5\", \"pot\"])))
-solve-max - --limit --limit --limit 5 | Some(Run(Solve(Max(5), [\"-\", \"--limit\", \"--limit\"])))
-solve-paths --limit --help - | Some(Run(Solve(Paths, [\"--limit\", \"--help\", \"-\"])))
-spread-min spread-min help explain | Some(Run(Spread(Min, [\"spread-min\", \"help\", \"explain\"])))
-explain convert gr --help | Some(Explain(Convert(Graph, \"--help\")))
+convert gr - | Some(Run(Job { verb: Convert(Graph), files: [\"-\"] }))
+convert gr --help | Some(Run(Job { verb: Convert(Graph), files: [\"--help\"] }))
+convert gr convert | Some(Run(Job { verb: Convert(Graph), files: [\"convert\"] }))
+judge-infeasible --version -V | Some(Run(Job { verb: Judge(Infeasible), files: [\"--version\", \"-V\"] }))
+certify-min certify-max --help - | Some(Run(Job { verb: Certify(Min), files: [\"certify-max\", \"--help\", \"-\"] }))
+solve-max instance solution cut --limit -0 | Some(Run(Job { verb: Solve(Max(0)), files: [\"instance\", \"solution\", \"cut\"] }))
+solve-max instance solution cut --limit +007 | Some(Run(Job { verb: Solve(Max(7)), files: [\"instance\", \"solution\", \"cut\"] }))
+solve-min instance solution pot --limit 1000000000 | Some(Run(Job { verb: Solve(Min(1000000000)), files: [\"instance\", \"solution\", \"pot\"] }))
+solve-max instance --limit 5 | Some(Run(Job { verb: Solve(Max(1000000)), files: [\"instance\", \"--limit\", \"5\"] }))
+solve-min --limit 5 pot | Some(Run(Job { verb: Solve(Min(1000000)), files: [\"--limit\", \"5\", \"pot\"] }))
+solve-max - --limit --limit --limit 5 | Some(Run(Job { verb: Solve(Max(5)), files: [\"-\", \"--limit\", \"--limit\"] }))
+solve-paths --limit --help - | Some(Run(Job { verb: Solve(Paths), files: [\"--limit\", \"--help\", \"-\"] }))
+spread-min spread-min help explain | Some(Run(Job { verb: Spread(Min), files: [\"spread-min\", \"help\", \"explain\"] }))
+judge-max --help | Some(HelpOn(\"judge-max\"))
+certify-infeasible -h | Some(HelpOn(\"certify-infeasible\"))
+certify-infeasible ./--help | Some(Run(Job { verb: Certify(Infeasible), files: [\"./--help\"] }))
+explain convert gr --help | Some(Explain(Job { verb: Convert(Graph), files: [\"--help\"] }))
  | None
 - | None
 --Help | None
@@ -42,7 +45,7 @@ solve-max instance solution cut --limit  | None
 solve-max instance solution cut --limit 99999999999999999999 | None
 --help --help | None
 --version judge-max | None
-help --help | None
+help --help | Some(HelpOn(\"help\"))
 explain help judge-max | None
 explain explain convert gr file | None";
 

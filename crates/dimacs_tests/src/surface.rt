@@ -1,6 +1,6 @@
 //! The calls that a program in Rattle makes and `dimacs` doesn't, by the paths that it uses: those of `dimacs_lines`,
-//! `dimacs_records`, `dimacs_instance`, `dimacs_claims`, `dimacs_judge` and `dimacs_runs` alone, which the gate tests.
-//! The answers were worked out by hand.
+//! `dimacs_records`, `dimacs_instance`, `dimacs_claims`, `dimacs_judge`, `dimacs_jobs` and `dimacs_runs` alone, which the
+//! gate tests. The answers were worked out by hand.
 
 mod claims;
 mod devices;

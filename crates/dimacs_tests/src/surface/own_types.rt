@@ -6,13 +6,11 @@ ghost use Rattle.std.specs.Prelude.{[], ◌∷◌, ◌≡◌, None, pos};
 use crate::checks::{holds, same};
 use dimacs_claims::{CutReading, read_cut, read_solution};
 use dimacs_instance::{ArcView, MaxInstance, Network};
+use dimacs_jobs::{JudgeKind, RunError, SolveJob, SpreadKind, Status};
 use dimacs_judge::{Verdict, judge_max};
 use dimacs_lines::{DeviceFault, Sink, Source};
 use dimacs_records::{Reading, Record, TakeError, TextKind, read_text};
-use dimacs_runs::{
-    JudgeKind, RunError, SolveJob, SpreadKind, Status, run_certify, run_convert, run_judge,
-    run_show, run_solve, run_spread,
-};
+use dimacs_runs::{run_certify, run_convert, run_judge, run_show, run_solve, run_spread};
 use std::alloc::Global;
 use std::test::Fail;
 
