@@ -149,11 +149,12 @@ enum {
 };
 
 /* Hands out what the words of a command ask for. They come without `dimacs`, and each ends with a byte 0. `same` has for
- * each word the place, from 0, of the first that names the same regular file, or its own: a run that would replace what
- * it reads is misused. DIMACS_DONE: the text to print, of help or the version. DIMACS_MISUSED: what to tell on the
- * standard error. DIMACS_RUN: a line with a mark for each word, `-` if it names no file, `r` if the run reads the file,
- * `c` if it creates or empties the file before it reads, `w` if it writes the file once it has a text for it; then a
- * line for each file with its name as messages have it; then what to tell on the standard error after the run. */
+ * each word the place, from 0, of the first that names the same regular file, or its own, as for one that isn't there
+ * yet: a run that would replace what it reads is misused. DIMACS_DONE: the text to print, of help or the version.
+ * DIMACS_MISUSED: what to tell on the standard error. DIMACS_RUN: a line with a mark for each word, `-` if it names no
+ * file, `r` if the run reads the file, `c` if it creates or empties the file before it reads, `w` if it writes the file
+ * once it has a text for it; then a line for each file with its name as messages have it; then what to tell on the
+ * standard error after the run. */
 uint32_t dimacs_request(const uint8_t *words, size_t words_length, const uint32_t *same, size_t same_length, uint8_t *out,
                         size_t room, size_t *needed);
 
@@ -161,7 +162,8 @@ uint32_t dimacs_request(const uint8_t *words, size_t words_length, const uint32_
  * come as above, such as "explain\0judge-max\0instance\0solution\0cut" with the 0 of C. Those that name files are names
  * of `first`, `second` and `third`, in order: lines that explain an answer quote them. A command with fewer files
  * doesn't read the other texts. Text number `unread`, from 1, can't be read; 0 if all can: the call returns
- * DIMACS_DEVICE if the run comes to it. Returns what the command would, or DIMACS_MISUSED if the words ask for no run.
+ * DIMACS_DEVICE if the run comes to it. Returns what the command would, but runs in spite of a slip, which
+ * dimacs_request tells; or DIMACS_MISUSED if the words ask for no run.
  * If memory runs out after the command's own lines, some or all of the lines after them are missing. */
 uint32_t dimacs_command(uint32_t form, const uint8_t *words, size_t words_length, uint32_t unread, const uint8_t *first,
                         size_t first_length, const uint8_t *second, size_t second_length, const uint8_t *third,

@@ -14,9 +14,9 @@
 //     }
 //
 // If the claim stays undecided, a call throws: std::bad_alloc if it is out of memory, WrongLength if an array has a
-// wrong length, PastLimit, which has the arc or the node, if a number of the instance is past its limit, and
-// UnknownAnswer if the library is of another version. All calls have the strong guarantee, keep nothing, and may run in
-// several threads at once.
+// wrong length, PastLimit, which has the arc or the node, if a number of the instance is past its limit, Unread if a text
+// of a command can't be read, and UnknownAnswer if the library is of another version. All calls have the strong
+// guarantee, keep nothing, and may run in several threads at once.
 //
 // The graphs of LEMON and Boost are judged by dimacs/lemon.hpp and dimacs/boost.hpp.
 //
@@ -172,6 +172,10 @@ enum class Text : std::uint32_t {
     dist = DIMACS_TEXT_DIST,
     distances = DIMACS_TEXT_DISTANCES
 };
+
+// What the texts of a command are: of files, in no file, or made of arrays. It decides how lines that explain an answer
+// refer to them; dimacs.h has how.
+enum class Form : std::uint32_t { files = DIMACS_FILES, texts = DIMACS_TEXTS, arrays = DIMACS_ARRAYS };
 
 // ---- What is answered: a yes ----
 
@@ -375,6 +379,31 @@ struct Labels {
     std::optional<std::int64_t> radius;
 };
 
+// A file that a word names. A run reads it, creates or empties it before it reads others, or writes it once it has a
+// text for it.
+struct File {
+    enum class Access : char { read = 'r', create = 'c', write = 'w' };
+
+    Access access = Access::read;
+    std::string shown;  // its name as messages have it: without control characters
+};
+
+// The words of a command ask for a run.
+struct Run {
+    std::vector<std::optional<File>> plan;  // for each word the file that it names, if it names one
+    std::string told;                       // for the standard error after the run; mostly empty
+};
+
+// How a command ended. As a number it is the exit status.
+enum class Status : std::uint32_t { done = DIMACS_DONE, refused = DIMACS_REFUSED, gave_up = DIMACS_GAVE_UP };
+
+// What a command prints, and the texts that it makes for files, in order, also if its words name none for them. A text
+// that it doesn't make is empty.
+struct Ran {
+    Status status = Status::done;
+    std::string report, made, more;
+};
+
 // ---- What is answered: a no ----
 
 // The place of a fault: the text's name ("instance", "query", "solution", "distances", "certificate"), and its line and
@@ -430,6 +459,20 @@ struct GaveUp {
     std::string message() const { return "g limit"; }
 };
 
+// The words of a command ask for help or the version.
+struct Help {
+    std::string text;  // for the standard output
+
+    std::string message() const { return text; }
+};
+
+// The words of a command ask for nothing, or for what is likely a slip, as to replace what the run reads.
+struct Complaint {
+    std::string told;  // for the standard error: what is wrong, and the usage
+
+    std::string message() const { return told; }
+};
+
 // ---- What is thrown ----
 
 // An array has a wrong length, or a number names no kind.
@@ -461,6 +504,13 @@ class PastLimit : public std::invalid_argument {
 
   private:
     std::shared_ptr<const Refused> refused_;
+};
+
+// A command comes to its text at this place, from 1, which can't be read.
+class Unread : public std::runtime_error {
+  public:
+    explicit Unread(std::uint32_t place)
+        : std::runtime_error("text " + std::to_string(place) + " of the command can't be read") {}
 };
 
 // The library answers what this header doesn't know: it is of another version. The claim is undecided.
@@ -624,6 +674,13 @@ inline Pair pair_of(std::string_view line) {
     return it;
 }
 
+// The first of these lines, without its end. What is left are the others.
+inline std::string_view take_line(std::string_view &lines) {
+    const std::string_view line = lines.substr(0, lines.find('\n'));
+    lines.remove_prefix(std::min(line.size() + 1, lines.size()));
+    return line;
+}
+
 // The fields of the lines of `judge-paths`.
 inline JudgedPaths paths_of(std::string_view lines) {
     JudgedPaths it;
@@ -631,11 +688,21 @@ inline JudgedPaths paths_of(std::string_view lines) {
         it.sources = sources_of(lines);
         return it;
     }
-    while (!lines.empty()) {
-        const std::size_t length = std::min(lines.find('\n'), lines.size());
-        it.pairs.push_back(pair_of(lines.substr(0, length)));
-        lines.remove_prefix(std::min(length + 1, lines.size()));
+    while (!lines.empty()) it.pairs.push_back(pair_of(take_line(lines)));
+    return it;
+}
+
+// The plan of so many words: a mark for each, a line for each file, and what is told after the run.
+inline Run run_of(std::string_view lines, std::size_t words) {
+    Run it;
+    const std::string_view marks = take_line(lines);
+    if (marks.size() != words || marks.find_first_not_of("-rcw") != marks.npos) throw UnknownAnswer(marks);
+    for (const char mark : marks) {
+        if (mark != '-' && lines.empty()) throw UnknownAnswer(marks);
+        it.plan.emplace_back();
+        if (mark != '-') it.plan.back() = File{static_cast<File::Access>(mark), std::string(take_line(lines))};
     }
+    it.told = lines;
     return it;
 }
 
@@ -744,16 +811,21 @@ inline void throw_for(std::uint32_t status, std::string_view line) {
     }
 }
 
-// Makes a call, and again if a room was too small.
+// Makes a call, and again if a room was too small. Returns any status.
 template <class Function, class... Arguments>
-std::uint32_t call(Function function, Arguments &&...arguments) {
+std::uint32_t status_of(Function function, Arguments &&...arguments) {
     for (;;) {
         const std::uint32_t status = std::apply(function, std::tuple_cat(in_c(arguments)...));
-        if ((grow(arguments) + ...) == 0) {
-            throw_for(status, line_room_of(arguments...).text());
-            return status;
-        }
+        if ((grow(arguments) + ...) == 0) return status;
     }
+}
+
+// The same of a call about a claim. Throws for a status that leaves it undecided.
+template <class Function, class... Arguments>
+std::uint32_t call(Function function, Arguments &&...arguments) {
+    const std::uint32_t status = status_of(function, arguments...);
+    throw_for(status, line_room_of(arguments...).text());
+    return status;
 }
 
 // Makes a call that hands out lines alone, for which there is so much room at first.
@@ -997,29 +1069,86 @@ inline Answer<std::string, Refused> show(Text kind, std::string_view text) {
     return detail::lines_of(detail::line_room + text.size(), dimacs_show, kind_number, text);
 }
 
-// The lines that `dimacs explain` prints for a command over texts: its own, then what explains them. The words that
-// name files are names of the texts, in order, as {"judge-max", "my pipes.max", "flow", "cut"}. Throws
-// std::invalid_argument if the words aren't a command with its files.
-inline std::string explain(const std::vector<std::string_view> &command, std::string_view first,
-                           std::string_view second = {}, std::string_view third = {}) {
-    std::string words("explain"), typed;
-    for (const std::string_view it : command) {
-        words.append(1, '\0').append(it);
-        typed.append(1, ' ').append(it);
+// ---- Commands over texts in memory, by their words ----
+
+namespace detail {
+
+// Room for a usage, or for lines that explain an answer.
+inline constexpr std::size_t page_room = 16 * line_room;
+
+// The words of a command as the library takes them.
+inline std::string ended(const std::vector<std::string_view> &words) {
+    std::string ended;
+    for (const std::string_view it : words) {
+        if (it.find('\0') != it.npos) throw std::invalid_argument("a word of a command has a byte 0");
+        ended.append(it).append(1, '\0');
     }
-    words.append(1, '\0');
-    detail::TextRoom lines(16 * detail::line_room);
-    const std::uint32_t form = DIMACS_FILES, unread = 0;
-    std::uint8_t *const none = nullptr;
-    const std::size_t no_room = 0;
-    std::size_t made = 0, more = 0;
-    try {
-        detail::call(dimacs_command, form, std::string_view(words), unread, first, second, third, lines, none, no_room,
-                     &made, none, no_room, &more);
-    } catch (const WrongLength &) {
-        throw std::invalid_argument("no command with its files:" + typed);
+    return ended;
+}
+
+// Room for what a command prints, and for what it makes of texts of these lengths, as by the calls above.
+struct Rooms {
+    TextRoom report, made, more;
+
+    Rooms(const std::vector<std::string_view> &words, std::size_t first, std::size_t second)
+        : report(page_room), made(0), more(0) {
+        const std::string_view verb = words.empty() ? "" : words[words.size() > 1 && words[0] == "explain"];
+        const auto begins = [verb](std::string_view with) { return verb.substr(0, with.size()) == with; };
+        if (begins("convert")) report = TextRoom(page_room + first);
+        if (begins("judge-paths") || begins("solve-paths")) report = TextRoom(page_room + 4 * second);
+        if (begins("certify") || begins("spread")) made = TextRoom(line_room + first + second);
+        if (begins("solve")) made = TextRoom(line_room + 2 * first);
+        if (begins("solve-m")) more = TextRoom(line_room + 2 * first);
     }
-    return lines.take();
+};
+
+}  // namespace detail
+
+// What the words of a command ask for, as {"judge-max", "my pipes.max", "flow", "cut"}: a run, with what it does with
+// its files. Help if it is no run; a Complaint also if a word isn't UTF-8. `same` has for each word the place, from 0, of
+// the first that names the same regular file, or its own; if it is empty, each word names another file. Throws
+// WrongLength if `same` has another length, and std::invalid_argument if a word has a byte 0.
+inline Answer<Run, Help, Complaint> request(const std::vector<std::string_view> &words,
+                                            span<const std::uint32_t> same = {}) {
+    const std::string ended = detail::ended(words);
+    if (!same.empty() && same.size() != words.size()) throw WrongLength("same", same.size(), words.size(), "words");
+    detail::TextRoom text(detail::page_room);
+    const std::uint32_t status = detail::status_of(dimacs_request, std::string_view(ended), same, text);
+    if (status == DIMACS_RUN) return detail::run_of(text.text(), words.size());
+    if (status == DIMACS_MISUSED) return Complaint{text.take()};
+    detail::throw_for(status, {});
+    return Help{text.take()};
+}
+
+// Runs a command over the texts of the files that its words name, in order; std::nullopt for one that can't be read.
+// Opens no file, and runs in spite of a slip, of which request complains. Throws Unread if it comes to a text that can't
+// be read, and std::invalid_argument if the words ask for no run, or one isn't UTF-8 or has a byte 0.
+inline Ran command(const std::vector<std::string_view> &words, std::optional<std::string_view> first,
+                   std::optional<std::string_view> second = std::nullopt,
+                   std::optional<std::string_view> third = std::nullopt, Form form = Form::texts) {
+    const std::string ended = detail::ended(words);
+    const std::string_view one = first.value_or(""), two = second.value_or(""), three = third.value_or("");
+    const std::uint32_t unread = !first ? 1 : !second ? 2 : !third ? 3 : 0;
+    detail::Rooms rooms(words, one.size(), two.size());
+    const std::uint32_t status =
+        detail::status_of(dimacs_command, static_cast<std::uint32_t>(form), std::string_view(ended), unread, one, two,
+                          three, rooms.report, rooms.made, rooms.more);
+    if (status == DIMACS_DEVICE) throw Unread(unread);
+    if (status == DIMACS_MISUSED) {
+        std::string no_command("no command with its files:");
+        for (const std::string_view it : words) no_command.append(1, ' ').append(it);
+        throw std::invalid_argument(no_command);
+    }
+    detail::throw_for(status, {});
+    return {static_cast<Status>(status), rooms.report.take(), rooms.made.take(), rooms.more.take()};
+}
+
+// The lines that `dimacs explain` prints for a command over texts, which its words name in order: its own, then what
+// explains them. Throws as command.
+inline std::string explain(std::vector<std::string_view> words, std::string_view first, std::string_view second = {},
+                           std::string_view third = {}) {
+    words.insert(words.begin(), "explain");
+    return command(words, first, second, third).report;
 }
 
 // ---- Arrays in memory ----

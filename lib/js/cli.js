@@ -7,8 +7,11 @@ import {DEVICE, DONE, FILES, NO_MEMORY, OutOfMemory, RUN} from "./library.js";
 const COMPLAINTS = {[DEVICE]: "dimacs: device fault", [NO_MEMORY]: "dimacs: out of memory"};
 const STDOUT = 1, STDERR = 2;
 
-/** At most so many bytes are read or written at once. */
+/** At most so many bytes are written at once. */
 const PIECE = 2 ** 30;
+
+/** A line of more bytes is refused, whatever follows. So many are read at once too. */
+const LINE = 2 ** 20;
 
 /** Why the system failed, where node has other words than the C library. */
 const REASONS = {
@@ -56,14 +59,18 @@ function identity(name) {
     }
 }
 
+/** The bytes of a file, or those up to a line that is too long. */
 function readAll(file) {
-    let room = Buffer.allocUnsafe(Math.max(fstatSync(file).size + 1, 65536)), length = 0;
-    for (;;) {
-        const got = readSync(file, room, length, Math.min(room.length - length, PIECE), null);
-        if (got === 0) return room.subarray(0, length);
+    let room = Buffer.allocUnsafe(Math.max(fstatSync(file).size + 1, 65536)), length = 0, line = 0;
+    while (line <= LINE) {
+        const got = readSync(file, room, length, Math.min(room.length - length, LINE), null);
+        if (got === 0) break;
+        const end = room.subarray(length, length + got).lastIndexOf(10);
+        line = end < 0 ? line + got : got - end - 1;
         length += got;
         if (length === room.length) room = Buffer.concat([room, Buffer.allocUnsafe(length)]);
     }
+    return room.subarray(0, length);
 }
 
 function writeAll(file, bytes) {
@@ -104,7 +111,11 @@ function run(texts, words, files) {
     const opened = reads.map((it) => open(it, "opened", "r"));
     const created = writes.map((it) => (it.mark === "c" ? open(it, "created", "w") : null));
     const {read, failure} = readTexts(reads, opened);
-    const {status, handed: [printed, ...made]} = texts.command(FILES, words, read, failure ? read.length + 1 : 0);
+    const unread = failure ? read.length + 1 : 0;
+    // A name has one text: the library takes one with two for a pipe.
+    const named = new Map(read.map((text, i) => [reads[i].name, text]));
+    const given = reads.map(({name}, i) => read[i] ?? named.get(name) ?? Buffer.alloc(0));
+    const {status, handed: [printed, ...made]} = texts.command(FILES, words, given, unread);
     if (status === DEVICE) throw failure;
     opened.forEach((it) => closeSync(it));
     for (const [i, it] of writes.entries()) {

@@ -21,6 +21,91 @@ static void throws_limit(const char *name, const Call &call, const std::string &
     throws<PastLimit>(name, call, line, [&](const auto &it) { is(name, it.refused().printed, line); });
 }
 
+/* The words of commands, what they do with their files, texts, and what is made of these, as in tests/rows/commands. */
+static constexpr std::nullopt_t none = std::nullopt;
+static const char one_arc[] = "p max 2 1\nn 1 s\nn 2 t\na 1 2 3\n";
+static const struct {
+    const char *words, *marks;
+    std::optional<std::string_view> first, second, third;
+    Status status;
+    std::string report, made, more;
+} runs[] = {
+    {"convert gr G", "--r", "c x\n p sp 1 1\r\na 1 1 +07", none, none, Status::done, "p sp 1 1\na 1 1 7\n", "", ""},
+    {"convert gr G", "--r", "", none, none, Status::refused, "x instance 1 0 ProblemMissing\n", "", ""},
+    {"show max I", "--r", max, none, none, Status::done, "i max 4 5 1 4\n", "", ""},
+    {"judge-max I S C", "-rrr", max, flow, cut, Status::done, "v max 6\n", "", ""},
+    {"judge-max I S C", "-rrr", max, cut, none, Status::refused, "x solution 1 1 UnknownLine\n", "", ""},
+    {"judge-min I S P", "-rrr", min, least, pot, Status::done, "v min 14\n", "", ""},
+    {"judge-infeasible I C", "-rr", surplus, both, none, Status::done, "v infeasible\n", "", ""},
+    {"judge-paths G Q L", "-rrr", graph, pairs, dist, Status::done, "v 1 2 5\nv 1 4 unreachable\n", "", ""},
+    {"certify-max I S C", "-rrw", max, flow, none, Status::done, "v max 6\n", cut, ""},
+    {"certify-max I S", "-rr", one_arc, "s 0\n", none, Status::refused, "x solution 1 2 NotMaximum\n",
+     "s 3\nf 1 2 3\n", ""},
+    {"certify-min I S P", "-rrw", min, least, none, Status::done, "v min 14\n",
+     "p pot 4 3\ny 1 3\ny 2 1\ny 4 -1\n", ""},
+    {"certify-infeasible I C", "-rw", surplus, none, none, Status::done, "v infeasible\n", both, ""},
+    {"certify-paths G D L", "-rrw", graph, near, none, Status::done, "v sp distances 1\n", dist, ""},
+    {"spread-max I S O", "-rrw", one_arc, "s 3\nf 1 2 1\nf 1 2 2\n", none, Status::done, "", "s 3\nf 1 2 3\n", ""},
+    {"solve-max I S C --limit 10", "-rcc--", one_arc, none, none, Status::done, "v max 3\n", "s 3\nf 1 2 3\n",
+     "p cut 2 1\nu 1\n"},
+    {"solve-max I S C --limit 0", "-rcc--", one_arc, none, none, Status::gave_up, "g limit\n", "", ""},
+    {"solve-min I S C", "-rcc", surplus, none, none, Status::done, "v infeasible\n", "", both},
+    {"solve-paths G Q L", "-rrc", graph, source, none, Status::done, "v sp ss 1\n", dist, ""},
+    {"explain show cut C", "---r", cut, none, none, Status::done, "i cut 4 1\n", "", ""},
+};
+
+static void runs_commands() {
+    for (const auto &it : runs) {
+        const auto words = detail::words_of(it.words);
+        const auto asked = request(words);
+        std::string marks;
+        for (const auto &file : asked.value().plan) marks += file ? static_cast<char>(file->access) : '-';
+        is(it.words, marks, it.marks);
+        const Ran ran = command(words, it.first, it.second, it.third);
+        check_that(it.words, ran.status == it.status);
+        is(it.words, ran.report, it.report);
+        is(it.words, ran.made, it.made);
+        is(it.words, ran.more, it.more);
+    }
+    const Ran of_arrays = command({"explain", "judge-max", "I", "S", "C"}, max, "s 4\nf 1 2 4\n", cut, Form::arrays);
+    is("texts made of arrays", of_arrays.report,
+       "x node 2 Balance\n0 leaves node \0022, 4 enters it: 4 too little leaves\nflows out of it: 0\n"
+       "flows into it: 1\n  arc \0011: \0021 -> \0022, FLOW 4\n");
+    throws<Unread>("the second text", [] { return command({"judge-max", "I", "S", "C"}, max, none, cut); },
+                   "text 2 of the command can't be read");
+    throws<Unread>("it explained", [] { return command({"explain", "show", "max", "I"}, none); },
+                   "text 1 of the command can't be read");
+    throws<std::invalid_argument>("a text", [] { return command({"help"}, max); }, "no command with its files: help");
+    throws<std::invalid_argument>("no UTF-8", [] { return command({"show", "max", "\xff"}, max); },
+                                  "no command with its files: show max \xff");
+    throws<std::invalid_argument>("no words", [] { return command({}, max); }, "no command with its files:");
+}
+
+static bool begins(const std::string &text, const std::string &with) { return text.rfind(with, 0) == 0; }
+
+static void asks_for_no_run() {
+    is("the version", request({"--version"}).message(), "dimacs " + version_text() + "\n");
+    const auto help = request({"help", "judge-max"});
+    check_that("help", help.get_if<Help>()->text.find("Usage: dimacs judge-max INSTANCE") != std::string::npos);
+    const auto guess = request({"judgemax"}), odd = request({"show", "max", "\xff"});
+    check_that("a guess", begins(guess.message(), "dimacs: usage\nno command judgemax: judge-max?\n"));
+    check_that("no UTF-8", begins(odd.get_if<Complaint>()->told, "dimacs: usage\nan argument isn't UTF-8\n"));
+    check_that("no words", request({}).holds<Complaint>());
+    const auto twice = request({"solve-max", "an\nI", "S", "S"});
+    is("a name without control characters", twice->plan[1]->shown, "an\\x0aI");
+    is("told after the run", twice->told, "dimacs: S: written twice\n");
+    const std::vector<std::string_view> slip{"certify-max", "I", "S", "S"};
+    const auto replaces = request(slip, Ids{0, 1, 2, 2});
+    check_that("a slip", begins(replaces.message(),
+                                "dimacs: usage\nSOLUTION and CERTIFICATE are the same file: S\n"));
+    check_that("which may be two files", request(slip).has_value());
+    is("and runs all the same", command(slip, max, flow).made, cut);
+    throws<WrongLength>("another length", [&] { return request(slip, Ids{0}); },
+                        "same has 1 items, and there are 4 words");
+    throws<std::invalid_argument>("a byte 0", [] { return request({std::string_view("show\0max", 8), "I"}); },
+                                  "a word of a command has a byte 0");
+}
+
 static void explains_texts() {
     const std::string no = explain({"judge-max", "I", "S", "C"}, max, "s 4\nf 1 2 4\n", cut);
     check_that("a refusal explained", no.rfind("x node 2 Balance\n0 leaves node 2, 4 enters it", 0) == 0);
@@ -29,9 +114,14 @@ static void explains_texts() {
     const std::string quoted = explain({"judge-max", "two words", "S", "C"}, "p max 1 x\n", flow, cut);
     check_that("a name with a blank", quoted.rfind("x instance 1 4 BadNumber\ntwo words:1: p max 1 x\n", 0) == 0);
     is("a single text", explain({"show", "cut", "C"}, cut), "i cut 4 1\n");
+    const std::string empty = explain({"judge-max", "I", "S", "C"}, max, "", cut);
+    check_that("a text in no file", empty.find("a solve run") == empty.npos);
     throws<std::invalid_argument>(
         "no command", [] { explain({"judge-max", "I", "S"}, max, flow, cut); },
-        "no command with its files: judge-max I S");
+        "no command with its files: explain judge-max I S");
+    throws<std::invalid_argument>(
+        "a byte 0", [] { explain({std::string_view("judge-max\0I", 11), "S", "C"}, max, flow, cut); },
+        "a word of a command has a byte 0");
 }
 
 static void judges_texts() {
@@ -350,6 +440,9 @@ static void unknown_answers() {
     }
     throws<UnknownAnswer>("an empty line", [] { return paths_of("v 1 2 3\n\nv 1 3 4\n"); }, known);
     throws<UnknownAnswer>("a status", [] { return throw_for(9, ""), 0; }, known + "the status 9");
+    for (const char *lines : {"-r", "-rr\na\n", "-x\na\n", "-rr\na\nb\n"}) {
+        throws<UnknownAnswer>(lines, [&] { return run_of(lines, std::string_view(lines) == "-rr\na\n" ? 3 : 2); });
+    }
     check_that("its own lines are known", refused("x query 1 0 ProblemMissing\n").text->text == "query" &&
                                               value_of("v min -1000000000000000000000000000000\n") != 0 &&
                                               paths_of("v sp ss 18446744073709551615\n").sources == UINT64_MAX);
@@ -389,6 +482,8 @@ static void takes_what_has_items() {
 }
 
 int main() {
+    runs_commands();
+    asks_for_no_run();
     explains_texts();
     judges_texts();
     certifies_texts();

@@ -113,6 +113,9 @@ class Calls(unittest.TestCase):
 class Interrupted(unittest.TestCase):
     """Ctrl-C is raised at once in a long call, which goes on to its end."""
 
+    def setUp(self):  # a shell ignores Ctrl-C in what it begins in the background
+        self.addCleanup(signal.signal, signal.SIGINT, signal.signal(signal.SIGINT, signal.default_int_handler))
+
     def interrupt(self, call, *words):
         main, begun = threading.main_thread().ident, time.monotonic()
         threading.Timer(0.1, signal.pthread_kill, [main, signal.SIGINT]).start()

@@ -31,6 +31,8 @@ dimacs solve-max pipe a b >&-
 dimacs solve-max pipe /dev/full b 2>&-
 cat unmet | dimacs judge-infeasible /dev/stdin /dev/stdin
 cat unmet | dimacs explain judge-infeasible /dev/stdin /dev/stdin
+dimacs judge-max /dev/stdin flow cut <&-
+ulimit -v 4000000; dimacs show max /dev/zero
 """
 
 

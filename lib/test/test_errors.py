@@ -138,7 +138,10 @@ class Arrays(Errors):
         wide[17] = NAN
         graph = 2, 1, 2, [1] * 20, [2] * 20, [3] * 20
         certify, past = dimacs.certify_max_arrays, f"flows[1] is {2**63}, not a whole number of 64 bits"
-        from_zero = "tails[0] is {}, not a whole number of -1 to 4294967294"
+        from_zero = "tails[0] is {}, not a whole number of 0 to 4294967294"
+
+        def labels(first=-1, **base):
+            return dimacs.Labels(0, [0, 3], [first, 0], **base)
 
         def from_0(tails, source=0):
             return dimacs.solve_max_arrays(2, source, 1, tails, [1, 0], [3, 3], base=0)
@@ -149,6 +152,8 @@ class Arrays(Errors):
             (past, certify, *MAX, numpy.array([0, 2**63], "uint64")),
             *((from_zero.format(it), from_0, kind([it, 0])) for kind in (list, numpy.array) for it in (2**32 - 1, LAST, -2)),
             ("source is 4294967295, not a whole number of 0 to 4294967294", from_0, [0, 1], 2**32 - 1),
+            ("predecessors[0] is -1, not a whole number of 0 to 4294967295; base=0 numbers nodes from 0", labels),
+            ("predecessors[0] is -2, not a whole number of -1 to 4294967294", partial(labels, -2, base=0)),
             ("flows has 2 dimensions, and not one", certify, *MAX, numpy.zeros((2, 2))),
         )
         single = changed(MAX, 5, numpy.array(5))
@@ -224,7 +229,8 @@ class Arrays(Errors):
         rows = [("NotO", frame.certify_max, 1, 3, "flow"), ("Infe", never.solve_min), ("NotO", dimacs.certify_networkx_max, graph, 1, 3, flow)]
         solved = dimacs.solve_max_arrays(*MAX)
         self.assertEqual(solved, (4, pandas.Index([4, 4]), [True, True, False]))
-        self.assertNotEqual(solved, (4, pandas.Series([4, 4]), [True, True, False]))
+        self.assertEqual(solved, (4, pandas.Series([4, 4]), [True, True, False]))
+        self.assertNotEqual(solved, (4, pandas.Series([4, 4], [2, 1]), [True, True, False]))
         for of in list, numpy.array, pandas.Series:
             rows += [("NotO", certify, *MAX, of([3, 3])), ("Refu", certify, *MAX, of([6, 6]))]
             least = 2, [1], [2], [0], of([9]), [3]

@@ -146,4 +146,4 @@ class Loaded(unittest.TestCase):
         words = [sys.executable, "-c", "import dimacs"]
         environment = {**os.environ, "DIMACS_LIBRARY": "nowhere.so", "PYTHONPATH": str(FOLDER)}
         ran = subprocess.run(words, env=environment, capture_output=True, text=True, check=False)
-        self.assertIn("nowhere.so isn't there: build it by `make`, or by `make quick`, unproved", ran.stderr)
+        self.assertIn("nowhere.so isn't there: build it by `make`, or by `make rust` without the kit, unproved", ran.stderr)

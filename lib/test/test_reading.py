@@ -457,10 +457,13 @@ class Converted(unittest.TestCase):
         self.assertEqual(dimacs.write(found).split(b"\n")[0], b"c 1 is an amount of 1/10")
         again = found.to_networkx()
         self.assertEqual(MaxInstance.from_networkx(again, "mine", "town"), found)
+        networkx.set_edge_attributes(again, 7, "tons")
+        other = MaxInstance.from_networkx(again, "mine", "town", capacity="tons")
+        self.assertEqual((other.caps.tolist(), other.units), ([7, 7], None))
         for call in MaxInstance.from_networkx, dimacs.solve_networkx_max:
             message = "scale= comes beside the attribute 'dimacs_units', '1/10 1': delete it if numbers aren't whole by it"
             self.assertRaisesRegex(ValueError, message, call, again, "mine", "town", scale=10)
-        for unit in "metres", "1", "1 2 3", (1, 2), "1 1/0":
+        for unit in "metres", "1", "1 2 3", (1, 2), b"1/10 1", "1 1/0":
             other = networkx.DiGraph(again, dimacs_units=unit)
             message = "the attribute 'dimacs_units' is .*, and has to be two numbers, as '1/100 1'"
             self.assertRaisesRegex(ValueError, message, MaxInstance.from_networkx, other, "mine", "town")
@@ -525,6 +528,12 @@ class Converted(unittest.TestCase):
         self.assertEqual((scaled.caps.tolist(), table.attrs), ([50, 30, 10, 90], {"dimacs_units": "1/10 1/10"}))
         again = dimacs.from_frame(table, "source", "target", capacity="capacity")
         self.assertEqual((again.max_instance(2, 3).units, again.min_instance().units, again.graph().units), (tenths,) * 3)
+        table["tons"] = 7  # which no unit was made for
+        other = dimacs.from_frame(table, "source", "target", capacity="tons").max_instance(2, 3)
+        self.assertEqual((other.caps.tolist(), other.units), ([7] * 4, None))
+        self.assertEqual(dimacs.write(other).split(b"\n")[0], b"p max 3 4")
+        message = "the attribute 'dimacs_units' isn't of all of 'tons' and 'capacity'"
+        self.assertRaisesRegex(ValueError, message, dimacs.from_frame, table, "source", "target", low="tons", capacity="capacity")
         table["price"] = 2.5  # whole by no unit
         message = "scale= comes beside the attribute 'dimacs_units', '1/10 1/10'"
         self.assertRaisesRegex(ValueError, message, dimacs.from_frame, table, "source", "target", cost="price", scale=10)

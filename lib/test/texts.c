@@ -98,8 +98,7 @@ static void explains(void) {
               "the limit, 0, counts flows, the flow 0 first and each of a greater value than the last: none of them is maximum, "
               "so no answer is written\n"
               "a greater one may do, as --limit N: N is at most 1000000000, and 1000000 without it\n"
-              "S is empty: a solve run creates the files that it writes, or empties them, before it reads the others\n"
-              "C is empty: a solve run creates the files that it writes, or empties them, before it reads the others\n");
+              "S and C are empty: a solve run creates the files that it writes, or empties them, before it reads the others\n");
     COMMANDED("explain\0solve-max\0I\0S\0C\0--limit", flow, 2, "");
     COMMANDED("explain\0explain\0judge-max\0I\0S\0C", flow, 2, "");
     COMMANDED("explain\0help", flow, 2, "");

@@ -20,6 +20,11 @@ from .buffers import bytes_of
 _COMPLAINTS = {library.DEVICE: "device fault", library.NO_MEMORY: "out of memory"}
 _STDOUT, _STDERR = 1, 2
 _BYTES = getattr(os, "O_BINARY", 0)
+#: What can be opened and not read. Windows opens no folder.
+_FOLDER = os.devnull if os.name == "nt" else "/"
+
+#: A line of more bytes is refused, whatever follows. So many are read at once too.
+_LINE = 2**20
 
 
 class _Fault(Exception):
@@ -57,9 +62,15 @@ def _created(file: _File) -> int:
         return os.open(file.name, os.O_WRONLY | os.O_CREAT | os.O_TRUNC | _BYTES, 0o666)
 
 
-def _read(file: _File, opened: int) -> bytes:
+def _read(file: _File, opened: int) -> memoryview:
+    """The bytes of a file, or those up to a line that is too long."""
+    text, line = bytearray(), 0
     with _attempt(file.shown, "read"), open(opened, "rb", buffering=0) as it:
-        return bytes(it.readall())
+        while line <= _LINE and (piece := it.read(_LINE)):
+            text += piece
+            end = piece.rfind(b"\n")
+            line = line + len(piece) if end < 0 else len(piece) - end - 1
+    return memoryview(text).toreadonly()
 
 
 def _put(descriptor: int, text: bytes) -> None:
@@ -90,7 +101,7 @@ def _run(words: Sequence[str], files: Sequence[_File]) -> int:
     reads, writes = ([it for it in files if (it.mark == "r") == is_read] for is_read in (True, False))
     opened = [_opened(it) for it in reads]
     created = [_created(it) for it in writes if it.mark == "c"]
-    texts: list[bytes] = []
+    texts: list[memoryview] = []
     fault: _Fault | None = None
     try:
         for file, it in zip(reads, opened):
@@ -98,6 +109,9 @@ def _run(words: Sequence[str], files: Sequence[_File]) -> int:
     except _Fault as why:
         fault = why
     unread = len(texts) + 1 if fault else 0
+    # A name has one text: the library takes one with two for a pipe.
+    named = {it.name: text for it, text in zip(reads, texts)}
+    texts += [named.get(it.name, memoryview(b"")) for it in reads[len(texts) :]]
     status, (printed, *made) = commands.run_words(library.FILES, words, [bytes_of(it) for it in texts], unread)
     if status == library.NO_MEMORY:
         raise MemoryError
@@ -149,8 +163,8 @@ def main() -> int:
     """Does what the arguments ask for, and returns the exit status."""
     # A call can't be interrupted: the process ends at once.
     signal.signal(signal.SIGINT, signal.SIG_DFL)
-    # No file gets the descriptor of a standard stream that is closed.
-    while (stand_in := os.open(os.devnull, os.O_RDONLY)) <= _STDERR:
+    # No file gets the descriptor of a standard stream that is closed, and none is read as empty there.
+    while (stand_in := os.open(_FOLDER, os.O_RDONLY)) <= _STDERR:
         pass
     os.close(stand_in)
     return _ended(lambda: _answered(sys.argv[1:]))

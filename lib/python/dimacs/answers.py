@@ -92,10 +92,11 @@ class Explainable:
 
 
 def _items(part: Any) -> Any:
-    """A part of an answer that == compares: the items of an array, those of a Series or frame with their index."""
+    """A part of an answer that == compares: the items of an array, those of a Series or frame with their index, if it isn't
+    that of their places."""
     if hasattr(part, "to_numpy"):
         index, items = getattr(part, "index", None), part.to_numpy().tolist()
-        return items if index is None or callable(index) else (list(index), items)
+        return items if index is None or callable(index) or [*index] == [*range(len(items))] else (list(index), items)
     return part.tolist() if hasattr(part, "tolist") else part
 
 

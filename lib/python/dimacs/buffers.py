@@ -358,8 +358,11 @@ def test_array(numbers: Any, items: Items, name: str, wanted: str = "an array") 
 def number_of(number: Any, items: Items, name: str) -> int:
     whole = number if type(number) is int else _whole(number, items, name)
     if not items.least <= whole <= items.greatest:
-        width = "64 bits" if items.least < 0 and items.greatest == 2**63 - 1 else f"{items.least} to {items.greatest}"
-        raise ValueError(f"{name} is {written(number)}, not a whole number of {width}")
+        is_parent = name.startswith("predecessors")  # with base=0 none is -1
+        least = 0 if items.least == -1 and not is_parent else items.least
+        width = "64 bits" if items.least < 0 and items.greatest == 2**63 - 1 else f"{least} to {items.greatest}"
+        hint = "; base=0 numbers nodes from 0" if is_parent and items.least == 0 and whole == -1 else ""
+        raise ValueError(f"{name} is {written(number)}, not a whole number of {width}{hint}")
     return whole
 
 

@@ -125,6 +125,10 @@ def _column_of(items: Any, index: Any) -> pd.Series:
     return pd.Series(listed, index, dtype=None if len(set(map(type, listed))) == 1 else object)
 
 
+#: How to_frame calls columns of amounts, and of costs.
+_WRITTEN: list[list[tuple[str, tuple[str, ...]]]] = [[("lows", ("low",)), ("caps", ("capacity",))], [("costs", ("cost", "weight"))]]
+
+
 class Frame:
     """A network of edges in a DataFrame. See from_frame.
 
@@ -145,7 +149,8 @@ class Frame:
         self.nodes = list(self._numbers)
         self._tails, self._heads = ([self._numbers[it] for it in ends] for ends in (tails, heads))
         self._supplies = [supplies.get(node, 0) for node in self.nodes]
-        self._units = units_kept(edges.attrs, scale)
+        called = [[(columns[it], names) for it, names in group if it in columns] for group in _WRITTEN]
+        self._units = units_kept(edges.attrs, scale, *called)
 
     def __repr__(self) -> str:
         return f"Frame of {len(self.edges)} edges between {len(self.nodes)} nodes"

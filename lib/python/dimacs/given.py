@@ -81,7 +81,7 @@ class Names:
     has_inf_alone = False
 
     def __init__(self, base: int = 1, nodes: Sequence[Any] | None = None) -> None:
-        if not isinstance(base, Integral) or is_bool(base):
+        if type(base) is not int and (not isinstance(base, Integral) or is_bool(base)):  # abstract classes go before the end
             raise TypeError(f"base is {base!r}, and has to be the int 0 or 1")
         if base not in (0, 1):
             raise ValueError(f"base is {written(base)}, and has to be 0 or 1")

@@ -21,7 +21,7 @@ from .answers import Certified, Number, Solved, Verdict
 from .buffers import LIMIT, is_bool, unlabelled
 from .explained import like
 from .given import DISTANCES, FLOWS, GRAPH, INSIDE, MAX, MIN, POTENTIALS, Array, Given, Names
-from .scales import units_kept
+from .scales import Called, units_kept
 
 #: flow[u][v] is an amount, or flow[u][v][key].
 Flow = dict[Any, dict[Any, Any]]
@@ -104,7 +104,6 @@ class NumberedGraph(Names):
             raise TypeError(f"the graph is a {type(graph).__name__}, and has to be a DiGraph or MultiDiGraph of networkx")
         if not graph.is_directed():
             raise ValueError("the graph is undirected: graph.to_directed() has an arc each way")
-        self.units = units_kept(graph.graph, scale)
         self._arcs = Arcs(graph)
         self.nodes, self.edges = self._arcs.nodes, list(self._arcs.names())
         self._ends = self._arcs.tails, self._arcs.heads
@@ -115,16 +114,22 @@ class NumberedGraph(Names):
             raise ValueError(f"{node!r} is no node of the graph")
         return self._arcs.number[node]
 
+    def _keep_units(self, amounts: Called, costs: Called = ()) -> None:
+        self.units = units_kept(self._arcs.graph.graph, self._how["scale"], amounts, costs)
+
     def max(self, source: Any, sink: Any, capacity: Any = "capacity") -> Given:
         ends = self.number(source), self.number(sink)
+        self._keep_units([(capacity, ("capacity",))])
         return Given(MAX, len(self.nodes), *ends, *self._ends, self._arcs.numbers(capacity, math.inf), **self._how)
 
     def min(self, demand: Any = "demand", capacity: Any = "capacity", weight: Any = "weight") -> Given:
         demands = [it for _, it in self._arcs.graph.nodes(data=demand, default=0)]
+        self._keep_units([(demand, ("demand",)), (capacity, ("capacity",))], [(weight, ("weight",))])
         numbers = [0] * len(self.edges), self._arcs.numbers(capacity, math.inf), self._arcs.numbers(weight, 0)
         return Given(MIN, len(self.nodes), *self._ends, *numbers, demands, **self._how)
 
     def graph(self, weight: Any = "weight") -> Given:
+        self._keep_units([], [(weight, ("weight",))])
         return Given(GRAPH, len(self.nodes), *self._ends, self._arcs.numbers(weight, 1), **self._how)
 
     def paths(self, source: Any) -> Given:

@@ -45,8 +45,8 @@ def _find() -> str:
         if os.path.isfile(place):
             return place
     raise ImportError(
-        f"{looked[-1]} isn't there: build it by `make`, or by `make quick`, unproved, and name it by "
-        "DIMACS_LIBRARY=build/quick/libdimacs.so"
+        f"{looked[-1]} isn't there: build it by `make`, or by `make rust` without the kit, unproved, and name it by "
+        "DIMACS_LIBRARY=build/rust/libdimacs.so"
     )
 
 

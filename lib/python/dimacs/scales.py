@@ -177,19 +177,29 @@ class Units(NamedTuple):
 UNITS = "dimacs_units"
 
 
-def units_kept(attributes: Mapping[Any, Any], scale: Any) -> tuple[Any, Any] | None:
-    """What 1 stands for by the attributes of a graph or frame, which have it if its numbers are whole ones made by a scale.
-    Raises ValueError if there is another scale too: which numbers it would be of isn't known."""
+#: Columns, or attributes of edges and nodes: what they are called, and how to_frame and to_networkx call them.
+Called = Sequence[tuple[Any, tuple[str, ...]]]
+
+
+def units_kept(attributes: Mapping[Any, Any], scale: Any, amounts: Called, costs: Called) -> tuple[Any, Any] | None:
+    """What 1 stands for by the attributes of a graph or frame, which have it if its numbers are whole ones made by a scale:
+    those that to_frame and to_networkx wrote. Others are what they are. Raises ValueError if there is another scale too, or
+    only some of the amounts are those: which numbers it would be of isn't known."""
     text = attributes.get(UNITS)
-    if text is None:
+    of_amounts = {called in written for called, written in amounts} or {True}  # supplies have no column
+    of_costs = {called in written for called, written in costs} or of_amounts
+    if text is None or {False} == of_amounts == of_costs:
         return None
+    if len(of_amounts) > 1:
+        named = " and ".join(repr(called) for called, _ in amounts)
+        raise ValueError(f"the attribute {UNITS!r} isn't of all of {named}: delete it if numbers aren't whole by it")
     if scale is not None:
         raise ValueError(f"scale= comes beside the attribute {UNITS!r}, {text!r}: delete it if numbers aren't whole by it")
     try:
         amount, cost = (decimal.Decimal(it) if {*it} & {*".E"} else Fraction(it) for it in text.split())
-    except (AttributeError, ValueError, ArithmeticError):
+    except (AttributeError, TypeError, ValueError, ArithmeticError):
         raise ValueError(f"the attribute {UNITS!r} is {text!r}, and has to be two numbers, as '1/100 1'") from None
-    return amount, cost
+    return amount if True in of_amounts else 1, cost if True in of_costs else 1
 
 
 def ones_of(given: Any) -> tuple[Any, Any] | None:

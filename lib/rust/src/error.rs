@@ -65,11 +65,14 @@ pub enum Error<Flow, Set> {
         array: &'static str,
         /// How many items it has.
         items: usize,
-        /// How many there have to be: one for each arc, of which there are as many as tails, or for each node.
+        /// How many there have to be: one for each arc, of which there are as many as tails, for each node, or for each
+        /// word of a command.
         wanted: usize,
     },
-    /// The words that are to be explained aren't a command with its files.
+    /// The words aren't a command with its files, or one isn't UTF-8 or has a byte 0.
     NoCommand,
+    /// A command comes to its text at this place, from 1, which can't be read.
+    Unread(u32),
     /// Out of memory: the claim is undecided.
     OutOfMemory,
     /// The library answers this, which the crate doesn't know: another version of it was linked. The claim is undecided.
@@ -89,6 +92,7 @@ impl<Flow, Set> fmt::Display for Error<Flow, Set> {
                 write!(out, "{array} has {items} items, and there have to be {wanted}")
             }
             Error::NoCommand => out.write_str("the words aren't a command with its files"),
+            Error::Unread(place) => write!(out, "text {place} of the command can't be read"),
             Error::OutOfMemory => out.write_str("there was not enough memory"),
             Error::UnknownAnswer(answer) => write!(out, "libdimacs answers what the crate doesn't know: {answer}"),
         }

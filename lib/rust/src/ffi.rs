@@ -5,10 +5,10 @@ use crate::instances::{Max, Min, RawGraph};
 pub const DONE: u32 = 0;
 pub const REFUSED: u32 = 1;
 pub const MISUSED: u32 = 2;
+pub const DEVICE: u32 = 3;
 pub const NO_MEMORY: u32 = 4;
 pub const GAVE_UP: u32 = 5;
-
-pub const FILES: u32 = 0;
+pub const RUN: u32 = 6;
 
 /// Declares functions by the types of their arguments, of which some stand for several, as in [`call`].
 macro_rules! functions {
@@ -38,6 +38,7 @@ functions! {
     dimacs_solve(u32, [u8], [u8], u64, {u8}, {u8}, {u8});
     dimacs_convert(u32, [u8], {u8});
     dimacs_show(u32, [u8], {u8});
+    dimacs_request([u8], [u32], {u8});
     dimacs_command(u32, [u8], u32, [u8], [u8], [u8], {u8}, {u8}, {u8});
     dimacs_judge_max_arrays(*const Max, [i64], [u8], {u8});
     dimacs_judge_min_arrays(*const Min, [i64], [i64], {u8});

@@ -22,6 +22,7 @@
 //! stack alone. This crate itself isn't proved: it is a layer over calls that are.
 
 pub mod arrays;
+mod commands;
 mod error;
 mod ffi;
 mod instances;

@@ -69,7 +69,7 @@ impl<T: Copy> Room<T> {
 }
 
 impl Room<u8> {
-    /// A text that was handed out, which is ASCII. It isn't copied.
+    /// A text that was handed out, which is UTF-8: ASCII, but for names of files. It isn't copied.
     pub fn text(self) -> Result<String, NoAnswer> {
         String::from_utf8(self.take()).or_else(|_| unknown("bytes that are no UTF-8"))
     }

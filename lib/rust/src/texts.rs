@@ -3,9 +3,12 @@
 //!
 //! Each call returns [`Error::Refused`] for the fault of the first text that has one, else for the first test that fails,
 //! [`Error::OutOfMemory`], and [`Error::UnknownAnswer`]. Its documentation names the other variants that it returns.
+//! [`command`] and [`explain`], which take the words of a command, return what it prints after a refusal too.
+
+pub use crate::commands::{command, explain, request, Access, File, Form, Ran, Request, Status};
 
 use crate::error::NoAnswer;
-use crate::ffi::{self, call, GAVE_UP, MISUSED, REFUSED};
+use crate::ffi::{self, call};
 use crate::rooms::{Room, LINE};
 use crate::words::{is_feasible, is_infeasible, is_not_optimal, known, line_of, value, words};
 
@@ -357,34 +360,6 @@ pub fn show(kind: Kind, text: impl AsRef<[u8]>) -> Result<String, Error> {
     let mut out = Room::new(LINE)?;
     let status = call!(ffi::dimacs_show: kind as u32, [text], {out});
     line_of(status, out)
-}
-
-/// The lines that `dimacs explain` prints for a command over texts: its own, after a refusal too, then what explains
-/// them. The words that name files are names of the texts, in order; a text that isn't read may be empty.
-/// [`Error::NoCommand`] if the words aren't a command with its files.
-///
-/// ```
-/// # use dimacs::texts::explain;
-/// let pipe = "p max 2 1\nn 1 s\nn 2 t\na 1 2 7\n";
-/// let lines = explain(&["judge-max", "my pipe", "flow", "cut"], pipe, "s 8\nf 1 2 8\n", "p cut 2 1\nu 1\n").unwrap();
-/// assert!(lines.starts_with("x arc 1 AboveCap\nmy pipe:4: a 1 2 7\n"));
-/// ```
-pub fn explain(
-    command: &[impl AsRef<str>], first: impl AsRef<[u8]>, second: impl AsRef<[u8]>, third: impl AsRef<[u8]>,
-) -> Result<String, Error> {
-    let mut words = String::from("explain\0");
-    for it in command {
-        words.extend([it.as_ref(), "\0"]);
-    }
-    let [words, first, second, third] = [words.as_bytes(), first.as_ref(), second.as_ref(), third.as_ref()];
-    let (mut lines, none, mut made, mut more) = (Room::new(16 * LINE)?, std::ptr::null_mut(), 0, 0);
-    let status = call!(ffi::dimacs_command: ffi::FILES, [words], 0, [first], [second], [third], {lines},
-        none, 0, &mut made, none, 0, &mut more);
-    match status {
-        REFUSED | GAVE_UP => Ok(lines.text()?),
-        MISUSED => Err(Error::NoCommand),
-        _ => line_of(status, lines),
-    }
 }
 
 #[cfg(test)]

@@ -5,7 +5,7 @@ use crate::ffi::{DONE, GAVE_UP, MISUSED, NO_MEMORY, REFUSED};
 use crate::rooms::Room;
 
 /// A copy, if there is memory for it.
-fn owned(text: &str) -> Result<String, NoAnswer> {
+pub fn owned(text: &str) -> Result<String, NoAnswer> {
     let mut copy = String::new();
     copy.try_reserve_exact(text.len())?;
     copy.push_str(text);

@@ -90,7 +90,13 @@ fn answers_are_explained() {
     assert!(yes.starts_with("v max 7\non the source's side of the cut, 1 of the 2 nodes: 1\n"));
     let gave_up = texts::explain(&["solve-max", "I", "S", "C", "--limit", "0"], max, "", "").unwrap();
     assert!(gave_up.starts_with("g limit\nthe limit, 0, counts flows"));
-    assert_eq!(texts::explain(&["judge-max", "I", "S"], max, flow, cut), Err(Error::NoCommand));
+    let empty = texts::explain(&["judge-max", "I", "S", "C"], max, "", cut).unwrap();
+    assert!(!empty.contains("a solve run"), "{empty}");
+    let not_utf8 = ["judge-max".as_bytes(), b"\xff", b"S", b"C"];
+    assert_eq!(texts::explain(&not_utf8, max, flow, cut), Err(Error::NoCommand));
+    for words in [&["judge-max", "I", "S"][..], &["judge-max\0I", "S", "C"]] {
+        assert_eq!(texts::explain(words, max, flow, cut), Err(Error::NoCommand));
+    }
 }
 
 #[test]

@@ -70,6 +70,8 @@ fn calls_run_out_of_memory() {
     refuse_each(|| arrays::certify_max(&PIPES, &[3, 3]));
     refuse_each(|| texts::judge_paths(graph, queries, labels));
     refuse_each(|| texts::judge_paths(graph, queries, "t 1"));
+    refuse_each(|| texts::request(&["show", "gr", "G"], &[]));
+    refuse_each(|| texts::explain(&["show", "gr", "G"], graph, "", ""));
     refuse_each(|| reading::read_queries(queries));
     refuse_each(|| reading::write_queries(&pairs));
 }
