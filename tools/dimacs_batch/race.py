@@ -4,23 +4,26 @@ import os
 import re
 import shlex
 import shutil
+import signal
 import stat
 import sys
-import tempfile
 import time
 from contextlib import suppress
 from typing import NamedTuple
 
 from dimacs_batch import ANY_NAMES, fail
 from dimacs_batch.answers import DISTANCES, LABELS, SOLUTIONS, Task, instances_in, path_in, walk
-from dimacs_batch.files import FOLDER, install, is_unchanged, plain, queries_of, split, text_of, unpack
+from dimacs_batch.box import box_of, boxed
+from dimacs_batch.files import head_of, install, is_unchanged, plain, queries_of, split, temporary, text_of, unpack
 from dimacs_batch.options import HERE
-from dimacs_batch.runs import name_of
+from dimacs_batch.runs import LONGEST, name_of
 
 RUNNER = [sys.executable, "-I", "-S", os.path.join(HERE, "runner.py")]
+LATEST = 20  # seconds that a runner has beyond the limit by the clock to end all
+NUMBER = r"[0-9]{1,15}(\.[0-9]{1,15})?(e[+-][0-9]{1,2})?"  # of what a run takes, and of a limit
 
 # The columns of a run. Those that are known before it decide whether it has to be made anew.
-KNOWN = ["round", "run", "run_limits", "run_sha256"]
+KNOWN = ["round", "run", "run_version", "run_box", "run_limits", "run_sha256"]
 RUN = [*KNOWN, "end", "run_cpu", "run_seconds", "run_memory", "run_date", "run_host"]
 
 # What is kept: the columns, the hash of the answer and of the one that it replaces, and the last line printed.
@@ -33,10 +36,20 @@ LIMITS = {
 }
 
 
+def machine():
+    """This machine: its name, processors, memory and system."""
+    with open("/proc/cpuinfo", **ANY_NAMES) as it:
+        found = re.search("^model name[ \t]*: (.*)$", it.read(), re.MULTILINE)
+    its, memory = os.uname(), os.sysconf("SC_PHYS_PAGES") * os.sysconf("SC_PAGE_SIZE") / (1 << 30)
+    model = found[1] if found else its.machine
+    return f"{its.nodename}: {os.cpu_count()} x {model}, {memory:.0f} GB, {its.sysname} {its.release}"
+
+
 class Run(NamedTuple):
-    """What is run: the words before names are filled in, the round, the limits, and where what it took is kept."""
+    """What is run: the words to be filled in, the queries that they name, the round, the limits, and what keeps it."""
 
     words: list
+    query: str
     round: int
     limits: list
     place: str
@@ -49,29 +62,31 @@ def races(options, keep):
     folders = walk(inside if os.path.isdir(inside) else folder, but=[out, keep])
     instances = [one for it in folders for one in instances_in(*it)]
     for turn in range(options.rounds):
-        for it in instances:
-            (file,) = it.files
+        for it, query in ((it, one) for it in instances for one in queries_of(it.files[0]) or [""]):
+            (file,), others = it.files, queries_of(it.files[0])[1:]
             for name, kind, words in options.solvers[:: -1 if turn % 2 else 1]:
-                if kind not in ("", it.kind):
+                asks = re.findall("{(query|labels)}", " ".join(words)) if it.kind == "gr" else []
+                if kind not in ("", it.kind) or query in others and not asks:
                     continue
-                stem = path_in(out, os.path.join(name, *it.folders, it.name)) + (f".{turn + 1}" if turn else "")
+                stem = path_in(out, os.path.join(name, *it.folders, it.name))
+                stem += (split(query)[1] if others and asks else "") + (f".{turn + 1}" if turn else "")
                 if seen.setdefault(stem, file) != file:
                     fail(f"{file}, {seen[stem]}: their answers have one name: rename one")
-                queries = [queries_of(file)] if it.kind == "gr" and "{labels}" in " ".join(words) else []
-                ending = LABELS if queries else DISTANCES if it.kind == "gr" else SOLUTIONS[0]
-                run = Run(words, turn + 1, [f"{one:g}" for one in limits], f"{stem}.run")
-                lacks = "it has no queries" if None in queries else ""
-                yield Task(file, [*filter(None, queries), stem + ending], name, it.kind, [], lacks, run)
+                ending = LABELS if "labels" in asks else DISTANCES if it.kind == "gr" else SOLUTIONS[0]
+                run = Run(words, query, turn + 1, [f"{one:g}" for one in limits], f"{stem}.run")
+                lacks = "it has no queries" if "labels" in asks and not query else ""
+                beside = [query] if query and ("labels" in asks or others and asks) else []
+                yield Task(file, [*beside, stem + ending], name, it.kind, [], lacks, run)
 
 
 def kept(place):
     """What is kept of a run; nothing if none is."""
     if not os.path.lexists(place):
         return {}
-    with open(place, **ANY_NAMES) as it, suppress(ValueError, TypeError, KeyError):
+    with open(place, **ANY_NAMES) as it, suppress(ValueError, TypeError, KeyError, RecursionError):
         found = json.load(it)
-        numbers = (float(found[it]) for it in ("run_cpu", "run_seconds", "run_memory"))
-        if all(isinstance(found[it], str) for it in KEPT) and min(numbers) >= 0:
+        numbers = (re.fullmatch(NUMBER, found[it]) for it in ("run_cpu", "run_seconds", "run_memory"))
+        if all(isinstance(found[it], str) for it in KEPT) and all(numbers):
             return found
     raise OSError(0, "isn't what is kept of a run", place)
 
@@ -82,8 +97,14 @@ def now():
 
 def filled(task, **others):
     """The words of a run, with names filled in."""
-    names = {"instance": task.instance, "query": queries_of(task.instance) or "", **others}
+    names = {"instance": task.instance, "query": task.run.query, **others}
     return [re.sub(r"\{(\w+)\}", lambda it: names.get(it[1], it[0]), word) for word in task.run.words]
+
+
+def shown(line):
+    """A line without what moves and colors a terminal."""
+    line = re.sub(r"\x1b\[[0-9;?]*[A-Za-z]", "", line)
+    return "".join(it if it.isprintable() else " " for it in line).strip()
 
 
 def hash_at(place):
@@ -108,16 +129,25 @@ def why_none(run, found):
 class Race:
     """Runs solvers that haven't been run yet on the same files within the same limits, if it may."""
 
-    def __init__(self, runs):
-        self.runs, self.may_run = runs, True
+    def __init__(self, runs, options):
+        self.runs, self.may_run, self.box, self.stood = runs, True, box_of(options), 0
+        self.versions = {name: self.version(name, options) for name in options.versions}
 
-    @staticmethod
-    def known(task):
-        """What decides whether a run stands: its words, the limits, the hashes of its program and of other files."""
+    def version(self, name, options):
+        """The first line that a solver prints of itself."""
+        words, limits = options.versions[name], ["60", "60", str(options.solver_memory)]
+        with temporary() as room:
+            self.run(words, room, limits, os.devnull, os.path.join(room, "said"))
+            lines = head_of(os.path.join(room, "said")).decode("utf-8", "replace").strip()
+        return shown(lines.partition("\n")[0][:LONGEST]) or fail(f"--solver-version {name}: {words[0]} printed nothing")
+
+    def known(self, task):
+        """What decides whether a run stands: its words, version, box, limits, hashes of its program and other files."""
         run, words = task.run, filled(task)
-        files = [shutil.which(words[0]) or "", *words[1:], task.instance]
+        files = [shutil.which(words[0]) or "", *words[1:], task.instance, *task.answers[:-1]]
         hashes = " ".join(text_of(it).sha256 for it in dict.fromkeys(filter(os.path.isfile, files)))
-        return dict(zip(KNOWN, [str(run.round), shlex.join(run.words), " ".join(run.limits), hashes]))
+        its = [shlex.join(run.words), self.versions.get(task.solver, ""), self.box, " ".join(run.limits), hashes]
+        return dict(zip(KNOWN, [str(run.round), *its]))
 
     def take(self, task, known):
         """What is kept of the run of a task, after it."""
@@ -125,6 +155,7 @@ class Race:
         before, found, there = hash_at(place), kept(place), hash_at(answer)
         is_whole = found and found["answer_sha256"] == there
         if is_whole and not (self.may_run and any(found[it] != known[it] for it in KNOWN)):
+            self.stood += 1
             return found
         if not self.may_run:
             raise OSError(0, "isn't there with its answer", place)
@@ -135,29 +166,33 @@ class Race:
     def made(self, task, known, before, there):
         """Runs a solver. What it took replaces what was kept before, then its answer the one that is there; each comes
         into its place at once and whole."""
-        place, answer, text = task.run.place, task.answers[-1], text_of(task.instance)
+        place, answer = task.run.place, task.answers[-1]
+        texts = {it: text_of(it) for it in (task.instance, *queries_of(task.instance))}
         os.makedirs(os.path.dirname(answer), exist_ok=True)
-        with tempfile.TemporaryDirectory(prefix=FOLDER) as folder:
-            solution, certificate, new = (os.path.join(folder, it) for it in ("solution", "certificate", "new"))
-            took = self.run(task, folder, solution, certificate)
-            if not is_unchanged(task.instance, text):  # it isn't what the others solve
-                fail(f"{task.instance}: was changed while {task.solver} solved it")
+        with temporary() as folder:
+            room, new = os.path.join(folder, "room"), os.path.join(folder, "new")
+            solution, certificate = (os.path.join(room, it) for it in ("solution", "certificate"))
+            os.mkdir(room)
+            took = self.solve(task, folder, room, solution, certificate)
+            for it, text in texts.items():
+                if not is_unchanged(it, text):  # it isn't what the others solve
+                    fail(f"{it}: was changed while {task.solver} solved it")
             # No solution beside a certificate claims that no flow is feasible, as `dimacs solve-min` writes it.
             if task.kind == "min" and took["status"] == 0 and has_bytes(certificate) and not has_bytes(solution):
                 solution = os.path.join(folder, "claim")
                 with open(solution, "x", encoding="ascii") as it:
                     it.write("s infeasible\n")
-            has_answer = took["end"] == "ended" and took["status"] >= 0 and has_bytes(solution)
             if took["end"] == "ended" and took["status"]:
-                took["end"] = f"status {took['status']}" if took["status"] > 0 else name_of(-took["status"])
+                number = took["status"] - 128 if took["status"] > 128 else -took["status"]  # as shells and boxes say it
+                took["end"] = name_of(number) if 0 < number <= signal.SIGRTMAX else f"status {took['status']}"
+            has_answer = took["end"].startswith(("ended", "status")) and has_bytes(solution)
             made = {
                 **known, "end": took["end"], "run_cpu": f"{took['cpu']:.3f}", "run_seconds": f"{took['seconds']:.3f}",
-                "run_memory": str(took["memory"]), "run_date": now(), "run_host": os.uname().nodename,
-                "said": took["said"], "answer_sha256": hash_at(solution) if has_answer else "", "replaced": there,
+                "run_memory": str(took["memory"]), "run_date": now(), "run_host": machine(), "replaced": there,
+                "answer_sha256": hash_at(solution) if has_answer else "", "said": shown(took["said"]),
             }
             with open(new, "x", **ANY_NAMES) as it:
-                json.dump(made, it, indent=0)
-                it.write("\n")
+                it.write(json.dumps(made, indent=0) + "\n")
             install(new, place, before)
             if has_answer:
                 install(solution, answer, there)
@@ -165,7 +200,7 @@ class Race:
                 os.unlink(answer)
         return made
 
-    def run(self, task, folder, solution, certificate):
+    def solve(self, task, folder, room, solution, certificate):
         """What a run took. A compressed instance is unpacked first."""
         instance, asked = task.instance, " ".join(task.run.words)
         if plain(instance) != instance:
@@ -174,7 +209,12 @@ class Race:
         source = os.devnull if "{instance}" in asked else instance
         output = "" if re.search("{(solution|labels)}", asked) else solution
         words = filled(task, solution=solution, labels=solution, certificate=certificate, instance=instance)
-        took = self.runs.run_solver([*RUNNER, str(os.getpid()), *task.run.limits, source, output, *words])
-        if not took.strip():
-            raise OSError(0, "was ended from outside", task.run.place)
-        return json.loads(took)
+        return self.run(words, room, task.run.limits, source, output, [instance, task.run.query])
+
+    def run(self, words, room, limits, source, output, files=()):
+        """What a solver took, which may write to its room alone if it is in a box."""
+        how = [*RUNNER, str(os.getpid()), *limits, source, output, *boxed(words, room, self.box, files)]
+        said = self.runs.run_solver(how, float(limits[1]) + LATEST).strip()
+        if not said:
+            raise OSError(0, "was ended from outside", words[0])
+        return json.loads(said.rpartition(b"\n")[2])  # whatever stands before the runner's line

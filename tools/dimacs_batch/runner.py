@@ -3,9 +3,10 @@
     runner.py PARENT SECONDS CLOCK MEGABYTES INPUT OUTPUT WORD..
 
 The line is JSON: how it ended (`ended`, or the limit: `seconds`, `clock`, `memory`), its status, the seconds of the
-processor and of the clock, the greatest memory in KiB, and the last line that it printed. There is none if the runner
-is stopped, as it is once PARENT, who starts it, has ended. It is small, and apart from dimacs-batch: the system counts
-the memory of whoever starts a program to its peak. All that is started belongs to it, whatever sessions that makes.
+processor and of the clock, the greatest memory in KiB, and the last line that it printed. There is none, and a status,
+if the runner is stopped, as it is once PARENT, who starts it, has ended. It is small, and apart from dimacs-batch: the
+system counts the memory of whoever starts a program to its peak. All that is started belongs to it, whatever sessions
+that makes.
 """
 import ctypes
 import json
@@ -28,17 +29,19 @@ control = ctypes.CDLL(None).prctl
 
 
 def family():
-    """All processes that this one started, and what these started: the ticks and the pages of each."""
+    """All processes that this one started, and what these started, by number and begin: the ticks of each, its own and
+    those of children that it waited for; its pages; and its group."""
     children, used, found = {}, {}, {}
     for it in filter(str.isdigit, os.listdir("/proc")):
         with suppress(OSError), open(f"/proc/{it}/stat", "rb") as stat:
             fields = stat.read().rpartition(b")")[2].split()
             children.setdefault(int(fields[1]), []).append(int(it))
-            used[int(it)] = sum(map(int, fields[11:15])), int(fields[21])
+            own, waited = sum(map(int, fields[11:13])), sum(map(int, fields[13:15]))
+            used[int(it)] = (int(it), fields[19]), (own, waited, int(fields[21]), int(fields[2]))
     todo = [os.getpid()]
     for it in todo:
         todo += children.get(it, [])
-        found.update({one: used[one] for one in children.get(it, [])})
+        found.update(used[one] for one in children.get(it, []))
     return found
 
 
@@ -71,7 +74,7 @@ class Family:
     """What those took that have ended, what all were seen to take, and the status of the first."""
 
     def __init__(self, first):
-        self.first, self.status, self.ended, self.cpu, self.peak = first, None, 0, 0, 0
+        self.first, self.status, self.ended, self.cpu, self.peak, self.own = first, None, 0, 0, 0, {}
 
     def take(self, how):
         """Takes the end of one; whether there may be more."""
@@ -86,17 +89,21 @@ class Family:
 
     def look(self):
         """Counts the seconds and the memory that all of them have now."""
-        its = family().values()
-        self.cpu = max(self.cpu, self.ended + sum(ticks for ticks, _ in its) / TICK)
-        self.peak = max(self.peak, sum(pages for _, pages in its) * PAGE >> 10)
+        its = family()
+        self.own.update((it, own) for it, (own, *_) in its.items())  # what nobody waits for counts as it was seen
+        waited_for = self.ended + sum(own + waited for own, waited, *_ in its.values()) / TICK
+        self.cpu = max(self.cpu, waited_for, sum(self.own.values()) / TICK)
+        self.peak = max(self.peak, sum(pages for *_, pages, _ in its.values()) * PAGE >> 10)
 
     def end(self):
-        """Ends all that is left."""
+        """Ends all that is left, with its groups: one that always starts another has its group still."""
         while True:
-            for it in family():
+            for it in {group for *_, group in family().values()}:
                 with suppress(ProcessLookupError):
-                    os.kill(it, signal.SIGKILL)
+                    os.killpg(it, signal.SIGKILL)
             self.take(0)
+            while self.take(os.WNOHANG):
+                pass
 
 
 def main(parent, seconds, clock, megabytes, *words):
@@ -127,7 +134,9 @@ def main(parent, seconds, clock, megabytes, *words):
     end = over[0] if over else "seconds" if its.cpu > float(seconds) else "ended"
     line = last[0].decode("utf-8", "replace").strip().rpartition("\n")[2]
     found = {"end": end, "status": its.status, "cpu": its.cpu, "seconds": took, "memory": its.peak, "said": line}
-    print("" if stopped else json.dumps(found))
+    if stopped:
+        sys.exit(1)
+    print(f"\n{json.dumps(found)}")  # in a line of its own, whatever the solver wrote there
 
 
 if __name__ == "__main__":

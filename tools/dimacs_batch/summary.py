@@ -10,18 +10,20 @@ from dimacs_batch.runs import FAULTY, INCOMPLETE, NO, NO_ANSWER, NOTHING, UNTEST
 WRONG, OTHER, NONE, LIMIT, SOLVED = OUTCOMES = ["wrong", "not judged", "no answer", "limit", "solved"]
 OF_CLASS = {YES: SOLVED, NO_ANSWER: NONE, **dict.fromkeys((NO, FAULTY, INCOMPLETE, NOTHING, UNTESTED), WRONG)}
 
-# How often the limit an instance counts that is not solved (PAR2, of the SAT competitions), and the seconds that a run
-# counts at least in a ratio.
-PENALTY, LEAST = 2, 0.01
+PENALTY, LEAST = 2, 0.01  # limits that an instance counts which isn't solved (PAR2), and the least seconds in a ratio
 
 ABOUT = (
-    "Solved: each round's answer is certified. Seconds are the processor's, of the median round. An instance that isn't"
-    " solved counts as twice the limit, in the mean of all seconds (PAR2, as the SAT competitions have it) and in the"
-    " geometric mean of the ratios to the best solver, which is over instances that some solver solved, and has runs of"
-    f" {LEAST} s at least. Not measured: what else the machine did meanwhile, since solvers are neither isolated nor"
-    " pinned to cores; work that they have done elsewhere, as by a service; and what they keep from round to round."
+    "Solved: each round's answer is certified. Seconds are the processor's, of the median round (least to"
+    " greatest), and of the whole process: its start (0.01 s more in a box), reading, solving, writing. An instance"
+    " of one arc shows what a start takes, and counts for nothing else. An instance that isn't solved counts as"
+    " twice the limit, in the mean of all seconds (PAR2, as the SAT competitions have it) and in the geometric mean"
+    " of the ratios to the best solver, which is over instances that some solver solved. To find the best, and in"
+    f" ratios, less than {LEAST} s counts as {LEAST} s. Not measured: what else the machine did meanwhile, since"
+    " solvers are not pinned to cores; work that they have done elsewhere, as by a service, or by many short"
+    " processes that nobody waits for; files in memory; and what they keep from round to round."
 )
 APART = "Not comparable, since the runs are of several machines"
+NOT_BOXED = "Run in no box, so that they could change what the others are asked and what is kept of them"
 COLORS = ["#0072b2", "#d55e00", "#009e73", "#cc79a7", "#e69f00", "#56b4e9", "#888888"]  # of Okabe and Ito
 WIDTH, HEIGHT, LEFT, RIGHT = 750, 256, 46, 560  # of the picture, and of the profile in it
 
@@ -40,23 +42,28 @@ class Race:
         for row in rows:
             if row["round"] and row["kind"] == kind:
                 runs.setdefault((row["instance"], row["solver"]), []).append(row)
+        outcomes = {key: min(map(outcome_of, its), key=OUTCOMES.index) for key, its in runs.items()}
+        solved = [key for key, outcome in outcomes.items() if outcome == SOLVED]
+        seconds = {key: statistics.median(float(it["run_cpu"]) for it in runs[key]) for key in solved}
+        small = {row["instance"] for row in rows if row["arcs"] == "1"}
+        small = small if {it for it, _ in runs} - small else {}
+        self.starts = {solver: f"{its:.3f}" for (it, solver), its in seconds.items() if it in small}
+        self.runs, self.outcomes, self.seconds = (
+            {key: its for key, its in all_of.items() if key[0] not in small} for all_of in (runs, outcomes, seconds)
+        )
         self.limit = max(float(row["run_limits"].split(" ")[0] or 0) for its in runs.values() for row in its)
-        self.solvers = sorted({solver for _, solver in runs})
-        self.instances = sorted({instance for instance, _ in runs})
-        self.outcomes = {key: min(map(outcome_of, its), key=OUTCOMES.index) for key, its in runs.items()}
-        self.seconds = {
-            key: statistics.median(float(it["run_cpu"]) for it in runs[key])
-            for key, outcome in self.outcomes.items() if outcome == SOLVED
-        }
+        self.solvers = sorted({solver for _, solver in self.runs})
+        self.instances = sorted({instance for instance, _ in self.runs})
 
     def best(self, instance):
-        """The least seconds, if any solver solved it."""
-        return min((self.seconds[instance, it] for it in self.solvers if (instance, it) in self.seconds), default=None)
+        """The least seconds that count in a ratio, if any solver solved it."""
+        its = [self.seconds[instance, it] for it in self.solvers if (instance, it) in self.seconds]
+        return max(LEAST, min(its)) if its else None
 
     def ratios(self, solver, unsolved=math.inf):
         """The ratios to the best on instances that some solver solved; what this one didn't counts as `unsolved`."""
         its = [it for it in self.instances if (it, solver) in self.outcomes and self.best(it) is not None]
-        return [max(self.seconds.get((it, solver), unsolved), LEAST) / max(self.best(it), LEAST) for it in its]
+        return [max(self.seconds.get((it, solver), unsolved), LEAST) / self.best(it) for it in its]
 
     def sums(self):
         """Yields a row for each solver."""
@@ -69,12 +76,18 @@ class Race:
             row = {"kind": self.kind, "solver": solver, "instances": len(its), **counts}
             row["PAR2, s"] = f"{statistics.mean(taken):.3f}"
             row["ratio to best"] = f"{statistics.geometric_mean(ratios):.2f}" if ratios else ""
-            row["best"] = sum(self.seconds.get((it, solver)) == self.best(it) is not None for it in its)
+            row["best"] = sum(it == 1 for it in self.ratios(solver))
+            most = max(float(row["run_memory"] or 0) for it in its for row in self.runs[it, solver])
+            row["most MB"] = f"{most / 1024:.0f}"
+            row.update({"start, s": self.starts.get(solver, "")} if self.starts else {})
             yield {name: str(it) for name, it in row.items()}
 
     def by_instance(self):
         """Yields a row for each instance: the seconds of each solver, or what came of it; * is the best."""
-        timed = {key: f"{its:.3f}" + " *" * (its == self.best(key[0])) for key, its in self.seconds.items()}
+        timed = {key: f"{its:.3f}" + " *" * (its <= self.best(key[0])) for key, its in self.seconds.items()}
+        for key in timed:
+            seconds = [float(it["run_cpu"]) for it in self.runs[key]]
+            timed[key] += f" ({min(seconds):.3f} to {max(seconds):.3f})" if seconds[1:] else ""
         shown = {**self.outcomes, **timed}
         for it in self.instances:
             yield {"instance": it, **{solver: shown.get((it, solver), "") for solver in self.solvers}}
