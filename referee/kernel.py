@@ -164,7 +164,7 @@ def run_judge(word, folder, count, made):
         raise Failed(ran.returncode, ran.stderr.decode(errors="replace").strip())
     if not is_report(ran.stdout) or wrote and not wrote.endswith(b"\n"):
         raise Failed(5, f"the judge prints or writes what no report has: {ran.stdout[:200]!a} {wrote[-200:]!a}")
-    if ran.returncode not in (0, 1):
+    if ran.returncode not in (0, 1) or ran.stdout == b"g search\n":
         raise Failed(5, f"the judge ends with {ran.returncode}: {ran.stdout[:200]!a}")
     return ran.returncode, ran.stdout, wrote
 
@@ -172,9 +172,11 @@ def run_judge(word, folder, count, made):
 def accepted(folder, size):
     """What Coq says of Claim.v in a folder. From a second on, it is said how long this takes."""
     words = ["coqc", "-q", "-R", BUILT, "Dimacs", "Claim.v"]
+    signal.pthread_sigmask(signal.SIG_BLOCK, SIGNALS)  # else one could come while Coq is begun, and Coq go on
     with subprocess.Popen(words, cwd=folder, stdin=subprocess.DEVNULL, stdout=subprocess.PIPE, stderr=subprocess.STDOUT) as ran:
         seconds, said = 1, None
         try:
+            signal.pthread_sigmask(signal.SIG_UNBLOCK, SIGNALS)
             while said is None:
                 with contextlib.suppress(subprocess.TimeoutExpired):
                     said, _ = ran.communicate(timeout=10 if seconds > 1 else 1)

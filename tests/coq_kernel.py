@@ -52,11 +52,14 @@ LIES = [
     ("max", "v max 0012\n", "", 0, "no report has"),
     ("max", "", "", 0, "doesn't accept"),
     ("max", "v max 12\n", "", 7, "ends with 7"),
+    ("max", "g search\n", "", 1, "ends with 1"),
+    ("certify-max", "g search\n", "", 1, "ends with 1"),
 ]
 
 # Odd instances, beside the spoiled ones.
 PIPE = b"p max 2 1\nn 1 s\nn 2 t\na 1 2 1\n"
 ODD = [b"", b"\0", b"\xff" + PIPE, PIPE.replace(b"\n", b"\r\n"), PIPE.replace(b"\n", b"\r"), PIPE[:-1], b'c "*)\n' + PIPE, b'"' + PIPE]
+ODD += [PIPE.replace(b" 1\n", b" \xb1\n")]  # a byte that is packed into a number, and is `1` but for a bit
 
 
 def ran(words, folder, **how):
@@ -196,6 +199,19 @@ def keeping():
         yield "a file that isn't there", answer[:2] == (3, "") and "absent: cannot be read" in answer[2], answer
 
 
+def goes_on(number):
+    """Whether a process that was killed is still there after ten seconds, and no zombie, which nobody may wait for."""
+    for _ in range(1000):
+        try:
+            with open(f"/proc/{number}/stat", encoding="ascii") as it:
+                if it.read().rpartition(") ")[2].startswith("Z"):
+                    return False
+        except OSError:
+            return False
+        time.sleep(0.01)
+    return True
+
+
 def is_ended_by_a_signal():
     """Whether SIGTERM, sent twice as by timeout, also ends coqc, here a script that waits, and no folder is left."""
     with tempfile.TemporaryDirectory(dir=MEMORY) as folder, tempfile.TemporaryDirectory(dir=MEMORY) as left:
@@ -207,7 +223,7 @@ def is_ended_by_a_signal():
                 time.sleep(0.01)
             it.terminate()
             it.terminate()
-        is_running = os.path.exists(f"/proc/{Folder(folder).read('number').strip()}")
+        is_running = goes_on(Folder(folder).read("number").strip())
         return (it.returncode, is_running, os.listdir(left)) == (143, False, []), (it.returncode, is_running, os.listdir(left))
 
 

@@ -22,6 +22,10 @@ NEEDED = ["coqc", "ocamlfind", "flock"]
 # The files with promises, each after those that it needs.
 FILES = ["Canonical", "Judge", "Certify", "Complete"]
 
+# The modules that the search may use, of values and what it makes itself, and those that it may open or name anew.
+PURE = {"Array", "Fun", "List", "Map", "Numbers", "Option", "Queue", "Stdlib", "String", "Z"}
+NAMED = {"Judge", "Z", "Integers", "Map"}
+
 UNPROVED, AXIOM, UNSTATED = "the file isn't proved", "a promise uses an axiom", "a statement isn't proved"
 
 
@@ -94,9 +98,13 @@ def unstated():
 
 
 def impure():
-    """Yields each word of search.ml by which a search that is linked in could print, end, or change what it was given."""
-    code = re.sub(r"\(\*.*?\*\)", "", scripts.read("referee/proof/search.ml"), flags=re.DOTALL)
-    for word in re.findall(r"\w*print\w*|prerr\w*|std\w+|open_\w+|\w*exit|Unix|Obj|Sys|Bytes|unsafe\w*|external", code):
+    """Yields each word of search.ml by which a search that is linked in could print, end, or change what it was given: a
+    module but those that do none of it, or a word of OCaml's own."""
+    code = re.sub(r"\(\*.*?\*\)|\"[^\"]*\"", "", scripts.read("referee/proof/search.ml"), flags=re.DOTALL)
+    used = re.findall(r"\b[A-Z]\w*(?=\s*\.)", code), re.findall(r"\b(?:open|include|module\s+\w+\s*=)\s*(\w+)", code)
+    for word in [*set(used[0]) - PURE, *set(used[1]) - NAMED]:
+        yield f"search.ml has {word}"
+    for word in re.findall(r"\w*print\w*|prerr\w*|std\w+|open_\w+|\w*exit|\w*unsafe\w*|external|\bset_\w+", code):
         yield f"search.ml has {word}"
 
 

@@ -3,12 +3,13 @@
 module Integers = Z
 open Judge
 module Z = Integers
+module Numbers = Map.Make (Int)
 
 (* Nodes are those that occur, numbered from 0. Residual arc 2 k is arc k, and 2 k + 1 is arc k back. *)
 type graph = {
   arcs : arc array;
   ids : int array;
-  number : (int, int) Hashtbl.t;
+  number : int Numbers.t;
   tails : int array;
   heads : int array;
   first : int array;  (* the residual arcs out of node v are out.(first.(v)) up to first.(v + 1) *)
@@ -18,9 +19,9 @@ type graph = {
 let size g = Array.length g.ids
 let from g r = if r land 1 = 0 then g.tails.(r / 2) else g.heads.(r / 2)
 let goal g r = if r land 1 = 0 then g.heads.(r / 2) else g.tails.(r / 2)
-let number_of g id = Hashtbl.find_opt g.number (Z.to_int id)
+let number_of g id = Numbers.find_opt (Z.to_int id) g.number
 
-(* For each node the places of its residual arcs, in their order. *)
+(* For each node the places of its residual arcs, in their order: the arcs out of it, then those into it, back. *)
 let incidence n tails heads =
   let first = Array.make (n + 2) 0 and out = Array.make (2 * Array.length tails) 0 in
   let count v = first.(v + 2) <- first.(v + 2) + 1 in
@@ -28,21 +29,22 @@ let incidence n tails heads =
   Array.iter count heads;
   for v = 2 to n + 1 do first.(v) <- first.(v) + first.(v - 1) done;
   let put v r = out.(first.(v + 1)) <- r; first.(v + 1) <- first.(v + 1) + 1 in
-  Array.iteri (fun k v -> put v (2 * k); put heads.(k) (2 * k + 1)) tails;
+  Array.iteri (fun k v -> put v (2 * k)) tails;
+  Array.iteri (fun k v -> put v (2 * k + 1)) heads;
   first, out
 
 (* The graph of a network, and of other nodes. *)
 let graph_of (network : network) others =
   let arcs = Array.of_list network.arcs in
-  let number = Hashtbl.create 1024 and ids = ref [] in
-  let numbered id =
-    let id = Z.to_int id in
-    try Hashtbl.find number id with Not_found -> let v = Hashtbl.length number in Hashtbl.add number id v; ids := id :: !ids; v in
+  let number = ref Numbers.empty and count = ref 0 and ids = ref [] in
+  let numbered it = let id = Z.to_int it in
+    let add v = incr count; number := Numbers.add id v !number; ids := id :: !ids; v in
+    match Numbers.find_opt id !number with Some v -> v | None -> add !count in
   let tails = Array.map (fun a -> numbered a.tail) arcs in
   let heads = Array.map (fun a -> numbered a.head) arcs in
   List.iter (fun id -> ignore (numbered id)) others;
-  let first, out = incidence (Hashtbl.length number) tails heads in
-  { arcs; ids = Array.of_list (List.rev !ids); number; tails; heads; first; out }
+  let first, out = incidence !count tails heads in
+  { arcs; ids = Array.of_list (List.rev !ids); number = !number; tails; heads; first; out }
 
 (* ---- Flows *)
 
@@ -144,11 +146,12 @@ let labels_of g x =
       let r = g.out.(j) in
       if lowers u r then lower r u (goal g r) (Z.add label.(u) (cost r))
     done in
-  (* The nodes of the queue, and those that they lower in turn, each before those that it lowers, but on cycles. So without cycles
-     two rounds are enough (Goldberg and Radzik). *)
+  (* The nodes of the queue, and those that they lower in turn, each before those that it lowers, but on cycles (Goldberg and
+     Radzik). In the rounds 1, 2, 4, 8 and so on those that they reach stand for those that they lower: so without cycles one
+     round is enough. *)
   let seen = Array.make n 0 and next = Array.make n 0 in
   let in_order round =
-    let order = ref [] in
+    let order = ref [] and is_whole = round land (round - 1) = 0 in
     let rec visit stack = function
       | v when seen.(v) < round -> seen.(v) <- round; next.(v) <- g.first.(v); go_on (v :: stack)
       | _ -> go_on stack
@@ -158,7 +161,7 @@ let labels_of g x =
       | u :: _ as stack ->
           let r = g.out.(next.(u)) in
           next.(u) <- next.(u) + 1;
-          if lowers u r then visit stack (goal g r) else go_on stack in
+          if (if is_whole then has_room g x r else lowers u r) then visit stack (goal g r) else go_on stack in
     Queue.iter (fun v -> if queued.(v) && depth.(v) > 0 then visit [] v else queued.(v) <- false) queue;
     Queue.clear queue;
     !order in
@@ -213,18 +216,22 @@ let rec push_down g x more =
     more.(w) <- Z.add more.(w) amount;
     if is_new && Z.sign more.(w) > 0 then wait w in
   let above least r = if has_room g x r then Stdlib.min least (height.(goal g r) + 1) else least in
+  let raise_up v =
+    let degree = g.first.(v + 1) - g.first.(v) in
+    height.(v) <- Array.fold_left above n (Array.sub g.out g.first.(v) degree);
+    next.(v) <- g.first.(v);
+    work := !work + degree in
+  let is_down v r = height.(v) = height.(goal g r) + 1 && has_room g x r in
+  (* Whether what comes to a node can go on, or stay; if not the node is raised, so nothing is sent there to come back. *)
+  let leads_on v =
+    while next.(v) < g.first.(v + 1) && not (is_down v g.out.(next.(v))) do next.(v) <- next.(v) + 1 done;
+    Z.sign more.(v) < 0 || next.(v) < g.first.(v + 1) || (raise_up v; false) in
   let empty v =
     while Z.sign more.(v) > 0 && next.(v) < g.first.(v + 1) do
       let r = g.out.(next.(v)) in
-      if height.(v) = height.(goal g r) + 1 && has_room g x r then send v r else next.(v) <- next.(v) + 1
+      if is_down v r && leads_on (goal g r) then send v r else next.(v) <- next.(v) + 1
     done;
-    if Z.sign more.(v) > 0 then begin
-      let degree = g.first.(v + 1) - g.first.(v) in
-      height.(v) <- Array.fold_left above n (Array.sub g.out g.first.(v) degree);
-      next.(v) <- g.first.(v);
-      work := !work + degree;
-      wait v
-    end in
+    if Z.sign more.(v) > 0 then (raise_up v; wait v) in
   Array.iteri (fun v it -> if Z.sign it > 0 then wait v) more;
   while Stdlib.max !at !top >= 0 && !work <= n + Array.length g.out do
     incr work;
@@ -263,10 +270,12 @@ let paths (network : network) (l : labelling) =
     Option.iter (fun v -> label.(v) <- Z.zero; reach v) (number_of g b.start);
     while not (Queue.is_empty queue) do
       let v = Queue.pop queue in
-      for j = g.first.(v) to g.first.(v + 1) - 1 do
-        let r = g.out.(j) in
-        let w = goal g r in
-        if r land 1 = 0 && mark.(w) = to_reach && Z.equal (Z.add label.(v) g.arcs.(r / 2).cost) label.(w) then begin
+      let j = ref g.first.(v) in
+      while !j < g.first.(v + 1) && g.out.(!j) land 1 = 0 do
+        let k = g.out.(!j) / 2 in
+        let w = g.heads.(k) in
+        incr j;
+        if mark.(w) = to_reach && Z.equal (Z.add label.(v) g.arcs.(k).cost) label.(w) then begin
           reach w;
           incr count;
           lines := line "d" [ Z.of_int g.ids.(w); label.(w); Z.of_int g.ids.(v) ] :: !lines
