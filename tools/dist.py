@@ -1,9 +1,11 @@
 #!/usr/bin/env python3
 """Makes the packages: tools/dist.py [--for SYSTEM] [OUT]
 
-SYSTEM is x86_64, else aarch64 or windows. Of what `make` proved and built for it, in build/ or build/SYSTEM/, it makes in
-OUT, or in dist/ or dist/SYSTEM/, a tarball with all that `make install` installs, packages for Debian (where debhelper is;
-tools/debian.py), by hatchling a wheel for Python, and SHA256SUMS; for Windows the wheel and the sums alone.
+SYSTEM is x86_64, else aarch64, windows or rust. Of what `make` proved and built for it, in build/ or build/SYSTEM/, it
+makes in OUT, or in dist/ or dist/SYSTEM/, a tarball with all that `make install` installs, packages for Debian (where
+debhelper is; tools/debian.py), by hatchling a wheel for Python, and SHA256SUMS; for Windows the wheel and the sums alone.
+Beside those for x86_64 lies what runs everywhere: the package for npm, the page, and the sources as plain Rust, unproved,
+of which cargo makes the program of `make rust`. For rust it makes these sources alone, by Python, tar and gzip.
 What is of other sources, or doesn't have the mark of what is proved, it refuses, with the status 2. The same files give
 the same packages: they are of the time that SOURCE_DATE_EPOCH has in seconds, or of the last date in CHANGELOG.md.
 MAINTAINER is the contact that packages for Debian name.
@@ -32,7 +34,11 @@ SYSTEMS = {
     "x86_64": System("", LINUX),
     "aarch64": System("/aarch64", LINUX),
     "windows": System("/windows", ["dimacs.dll"]),
+    "rust": System("/rust", []),
 }
+
+# What make builds for every system that has node or a browser, and how it is called beside a version.
+EVERYWHERE = {"build/npm/dimacs.tgz": "dimacs-{}-npm.tgz", "build/page/dimacs.html": "dimacs-{}.html"}
 
 # What a file that is proved says of itself, and one for Windows whose code is.
 PROVED, PROVED_CODE = b"rattle logic=", b" (proved by "
@@ -78,14 +84,38 @@ def install(build, into, *folders):
     subprocess.run([*words, *folders], check=True, stdout=subprocess.DEVNULL)
 
 
+def pack(room, name, out, release):
+    """Packs a folder of this name in an order, of one time, and without the names and the umask of who made it."""
+    plain = ["--format=gnu", "--sort=name", f"--mtime=@{release.epoch}", "--owner=root:0", "--group=root:0"]
+    plain += ["--mode=u=rwX,go=rX"]
+    words = ["tar", "-C", room, *plain, "-I", "gzip -9n", "-cf", f"{out}/{name}.tar.gz", name]
+    subprocess.run(words, check=True)
+
+
 def make_tarball(build, room, out, release):
-    """Packs what is installed in an order, of one time and without the names of who made it."""
+    """Packs what is installed."""
     name = f"dimacs-{release.version}-{release.machine}-linux"
     install(build, room, f"prefix=/{name}")
     os.remove(f"{room}/{name}/share/dimacs/files")  # of make uninstall, which has nothing to do with a tarball
-    plain = ["--format=gnu", "--sort=name", f"--mtime=@{release.epoch}", "--owner=root:0", "--group=root:0"]
-    words = ["tar", "-C", room, *plain, "-I", "gzip -9n", "-cf", f"{out}/{name}.tar.gz", name]
-    subprocess.run(words, check=True)
+    pack(room, name, out, release)
+
+
+def make_rust(room, out, release):
+    """Packs the sources as plain Rust."""
+    name = f"dimacs-{release.version}-rust"
+    subprocess.run(["tools/to_rust.py", f"{room}/{name}"], cwd=TOP, check=True)
+    shutil.copy(f"{TOP}/tools/rust/README.md", f"{room}/{name}")
+    pack(room, name, out, release)
+
+
+def copy_everywhere(out, release):
+    """Copies what runs everywhere."""
+    if not shutil.which("wasm2wat"):
+        print("left out: the package for npm and the page: no wabt")
+        return
+    subprocess.run(["make", "-s", "UNPROVED=", *EVERYWHERE], cwd=TOP, check=True)
+    for made, name in EVERYWHERE.items():
+        shutil.copy(f"{TOP}/{made}", f"{out}/{name.format(release.version)}")
 
 
 def files_of(folder):
@@ -125,10 +155,14 @@ def make(build, name, out):
     for it in files_of(out):
         os.remove(f"{out}/{it}")
     with tempfile.TemporaryDirectory() as room:
+        if name in ("x86_64", "aarch64"):
+            make_for_linux(build, release, f"{room}/linux", out)
         if name == "windows":
             make_wheel(build, release, out)
-        else:
-            make_for_linux(build, release, room, out)
+        if name in ("x86_64", "rust"):
+            make_rust(f"{room}/rust", out, release)
+        if name == "x86_64":
+            copy_everywhere(out, release)
     sums = sums_of(out)
     write(f"{out}/SHA256SUMS", "".join(f"{value}  {name}\n" for name, value in sums))
     for it, _ in sums:
@@ -141,10 +175,11 @@ def main():
     words.add_argument("out", nargs="?", type=os.path.abspath, help="the folder of the packages")
     asked = words.parse_args()
     folder = SYSTEMS[asked.system].folder
-    if not shutil.which("hatchling"):
-        refuse("hatchling makes the wheel, and isn't there")
     os.chdir(TOP)
-    test_proved(asked.system)
+    if asked.system != "rust":
+        if not shutil.which("hatchling"):
+            refuse("hatchling makes the wheel, and isn't there")
+        test_proved(asked.system)
     make(f"build{folder}", asked.system, asked.out or f"{TOP}/dist{folder}")
 
 

@@ -13,7 +13,7 @@ from texts import TOP, read
 
 MISSING = """{}: this needs the Rattle kit, and {}.
 The kit is the compiler and prover of Rattle. It isn't published yet. README.md names the one that is needed.
-A packaged dimacs needs none of it."""
+`make rust` and `make check-rust` need none of it, nor does a packaged dimacs."""
 
 
 def stop(why):

@@ -46,10 +46,10 @@ exec '{kit}/toolchain/bin/clang' "$@"
 
 def test_kit():
     """Ends the build if the sources name another logic, by which they are proved, than the kit has."""
-    named = re.search(r"logic [0-9a-f]+", read(f"{CRATES}/dimacs_runs/src/build.rt"))[0]
+    named = re.search(r"logic [0-9a-f]+", read(f"{CRATES}/dimacs_jobs/src/build.rt"))[0]
     here = subprocess.run(["rt", "version"], capture_output=True, text=True, check=True).stdout.strip()
     if named not in here:
-        sys.exit(f"this is {here}; build.rt and Version.antt in crates/dimacs_runs have {named}: name this logic there")
+        sys.exit(f"this is {here}; build.rt and Version.antt in crates/dimacs_jobs have {named}: name this logic there")
 
 
 def order(listed):

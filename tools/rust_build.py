@@ -73,23 +73,23 @@ def put_programs(made, out):
 
 
 def put_libraries(made, out):
-    for it in glob.glob(f"{made}/*dimacs_c.*"):
+    for it in glob.glob(f"{made}/*dimacs.*"):
         if it.endswith(LIBRARIES):
-            copy(it, f"{out}/{os.path.basename(it).replace('dimacs_c', 'dimacs')}")
+            copy(it, f"{out}/{os.path.basename(it)}")
 
 
 def main():
     out, is_debug = os.path.abspath(sys.argv[1]), sys.argv[2:] == ["--debug"]
     if is_debug:
-        put_programs(build(out, "-p", "dimacs"), f"{out}/debug")
+        put_programs(build(out, "-p", "dimacs_cli"), f"{out}/debug")
         return
     noted, made_of, linked = f"{out}/sources", sources.summed(MADE_OF)[:1], [f"{out}/dimacs", f"{out}/dimacs_c.a"]
     if sources.is_current(noted, made_of, linked):
         return
-    made = build(out, "--release", "-p", "dimacs", "-p", "dimacs_c")
+    made = build(out, "--release", "-p", "dimacs_cli", "-p", "dimacs_c")
     put_programs(made, out)
     if sys.platform == "linux" and shutil.which("objcopy"):
-        copy(f"{made}/libdimacs_c.a", f"{out}/dimacs_c.a")
+        copy(f"{made}/libdimacs.a", f"{out}/dimacs_c.a")
         sources.note(noted, made_of, linked)
     else:
         put_libraries(made, out)

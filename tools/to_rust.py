@@ -6,7 +6,8 @@ here; all else stays as it is, each line with its number. Each crate stands on `
 the kit's libraries. Rules see a source as one line of tokens with a blank after each, in which the brackets of a pair bear
 one number. Where a rule leaves a form that isn't known to mean the same in Rust, this ends with its place.
 
-Nothing is proved by it: that what stays means to rustc what it means to the kit's compiler is trusted.
+Nothing is proved by it: that what stays means to rustc what it means to the kit's compiler is trusted. Tokens don't show
+types, so a call that both have under one name passes, as a sort that leaves the order of equal keys open.
 """
 import glob
 import itertools
@@ -17,12 +18,22 @@ import sys
 import kit as kits
 from texts import TOP, read
 
-# What cargo gets beside the sources: the crate in place of the kit's libraries, and a script that names the compiler.
+# What cargo gets beside the sources: the crate in place of the kit's libraries, a script that names the compiler, and a test.
 STAND_IN = f"{TOP}/tools/rust"
 
-# Crates that cargo doesn't build, the library for C, and the crate that says by what it is built.
+# Crates that cargo doesn't build, and the crate that says by what it is built.
 NOT_BUILT = {"dimacs_tests", "example_judge"}
-LIBRARY, NAMES_COMPILER = "dimacs_c", "dimacs_runs"
+NAMES_COMPILER = "dimacs_jobs"
+
+# The program, the library for C and the crate in place of the kit's libraries: what cargo calls them, and makes of them.
+# The package `dimacs` is that of lib/rust.
+PROGRAM, LIBRARY, KIT = "dimacs", "dimacs_c", "dimacs_kit"
+PACKAGES = {PROGRAM: "dimacs_cli"}
+TARGETS = {
+    PROGRAM: '\n[[bin]]\nname = "dimacs"\npath = "src/main.rs"\ntest = false\n',
+    LIBRARY: '\n[lib]\nname = "dimacs"\ncrate-type = ["staticlib", "cdylib"]\n',
+    KIT: '\n[lib]\nname = "kit"\n',
+}
 
 TOKEN = re.compile(
     r"""(?P<between>(?:\s+|//[^\n]*)+)"""
@@ -43,14 +54,13 @@ GHOSTS = [
     r"(?:pub )?ghost use [^;]*; ",
     r"(?:pub )?ghost \w+ (?:: \{(\d+) .*?\}\1 )?(?:= \{(\d+) .*?\}\2 )?(?:[;,] |(?=\}))",
     r"# (?:! )?\[(\d+) (?:tactic|cycle) .*?\]\1 ",
-    rf"impl (?:< [^{{]*?)?Model for [^{{]*{IN_BRACES}",
+    r"impl (?:< [^{]*?)?Model for [^{]*\{(\d+) \}\1 ",
 ]
 
 DROPPED = [
     # Rust lets each value go, and has no other drop. One that takes a value apart does no more.
     r"impl (?:< [^{]*?)?Drop for [^{]*\{(\d+) fn drop \((\d+) self \)\2 \{(\d+) let \w+ \{(\d+) (?:\w+ : _ ,? ?)*\}\4 = self ; \}\3 \}\1 ",
     r"# \[(\d+) derive \((\d+) Drop (?:, )?\)\2 \]\1 ",
-    r", (?:Drop|Error) (?=(?:, \w+ )*(?:, )?\)\d+ \]\d+ )",
     r"\+ Drop (?=[>,{;])",
     r": Drop (?=[>,{])",
     # The texts of errors, which nothing prints.
@@ -62,6 +72,11 @@ DROPPED = [
 ]
 
 
+def derived(it):
+    """What is derived in Rust too."""
+    return ruled(r", (?:Drop|Error) (?=[,)])", "", it.group())
+
+
 def trait(it):
     """Each type has a size in Rattle. In Rust a trait has to say so."""
     bound = "+ " if it[3] and "Drop" not in it[3] else ""
@@ -70,7 +85,7 @@ def trait(it):
 
 def c_struct(it):
     """A slice in a struct for C is its address and length, which may be null and 0."""
-    return ruled(r"& 'a \[(\d+) (\w+ )\]\1 ", r"kit::ffi::Lent<'a, \2> ", it.group())
+    return ruled(r"& ('\w+) \[(\d+) (\w+ )\]\2 ", r"kit::ffi::Lent<\1, \3> ", it.group())
 
 
 def c_function(it):
@@ -90,8 +105,9 @@ def c_function(it):
 
 
 REWRITTEN = [
+    (r"# \[(\d+) derive \((\d+) .*?\)\2 \]\1 ", derived),
     (r"(?<!:: )\bstd (?=::)", "kit "),
-    (r"(?<!:: )\b(itoa|memchr|strsim) (?=::)", r"kit::\1 "),
+    (r"(?<!:: )\b(clap|itoa|memchr|strsim) (?=::)", r"kit::\1 "),
     (r"\b(format|vec|println|eprintln|eprint) (?=! )", r"kit::\1 "),
     (r"(?<=\. )(to_vec|collect|repeat|to_ascii_lowercase) (?=\(\d+ (?:alloc|rt) )", r"\1_by "),
     (r"\bFormatter < W > ", "Formatter<'_> "),
@@ -111,6 +127,13 @@ UNKNOWN = [
     r"\bderive \(\d+ (?!(?:(?:Clone|Copy|Debug|Default|Eq|Hash|Ord|PartialEq|PartialOrd) (?:, )?)*\))",
     r"(?<!::)\b(?!(?:concat|env|if|in|macro_rules|match|matches|return|say|unreachable|while|write) )\w+ ! [(\[{]",
     r"/ \*",
+    # What means something else in Rust, or may: sizes and addresses, a range without an end, names that rules change, and a
+    # struct for C with a reference that isn't a slice of numbers.
+    r"\b(?:size_of|align_of|as_slices) ",
+    r"(?:(?<=in )|(?<![\w>\])?] ))\((\d+) [^()]*\. \. \)\1 \. \w+ ",
+    r"\bmacro_rules ! (?:format|vec|println|eprintln|eprint) ",
+    r"\bfn (?:to_vec|collect|repeat|to_ascii_lowercase) (?:< [^(]*)?\(\d+ (?:& )?(?:'\w+ )?(?:mut )?self ",
+    r"\[\d+ repr \(\d+ C \)\d+ \]\d+ [^{]*\{(\d+) (?:(?!\}\1 ).)*?& ",
     rf"(?<={GAP})\w*[\u0080-\uffff]",
 ]
 
@@ -127,6 +150,8 @@ class Source:
     def __init__(self, text, name):
         self.name, self.gaps = name, [" ", ""]
         self.line, opened, count = chr(FIRST + 1), [], 0
+        if re.search(GAP, text):
+            self.stop(0, "a character that numbers blanks here")
         for it in TOKEN.finditer(text):
             token = it.group()
             if it["between"]:
@@ -170,7 +195,7 @@ class Source:
         """Ends if this is left."""
         found = re.search(rule.replace(" ", GAP), self.line)
         if found:
-            form = re.sub(r"(?<=[(\[{])\d+", "", re.sub(GAP, " ", found.group()))
+            form = re.sub(r"(?<=[(\[{)\]}])\d+", "", re.sub(GAP, " ", found.group()))
             self.stop(found.start(), f"`{form.strip()}` isn't known here")
 
     def text(self):
@@ -208,6 +233,7 @@ NO_MAIN = '#![cfg_attr(any(all(target_os = "linux", target_env = "gnu"), target_
 WORKSPACE = """[workspace]
 resolver = "2"
 members = [{members}]
+default-members = ["dimacs"]
 
 [profile.release]
 lto = "fat"
@@ -227,10 +253,7 @@ version = "{version}"
 edition = "2024"
 rust-version = "1.88"
 description = "{about}"
-{licence}
-[lib]
-{kind}
-
+{licence}{target}
 [lints.rust]
 unused_imports = "allow"
 unused_parens = "allow"
@@ -238,12 +261,17 @@ unused_parens = "allow"
 [dependencies]
 {below}"""
 
-# The crate in place of the kit's libraries, as cargo knows it, and how others name it.
-KIT, USED_AS_KIT = "dimacs_kit", 'kit = {{ package = "dimacs_kit", path = "../dimacs_kit", version = "={}" }}\n'
+# How others name the crate in place of the kit's libraries.
+USED_AS_KIT = 'kit = {{ package = "dimacs_kit", path = "../dimacs_kit", version = "={}" }}\n'
+
+
+# The files that were written, or stayed.
+PUT = set()
 
 
 def put(name, text):
     """Writes a file, but leaves one that is so already: cargo goes by times."""
+    PUT.add(name)
     os.makedirs(os.path.dirname(name), exist_ok=True)
     if not os.path.isfile(name) or read(name) != text:
         with open(name, "w", encoding="utf-8") as it:
@@ -257,26 +285,25 @@ def about(root):
     return re.match(r".*?\.(?= |$)", text)[0].translate({ord("`"): "'", ord('"'): "'"})
 
 
-def put_manifest(out, name, root, kind, below):
+def put_manifest(out, name, root, below):
     """Writes what cargo has to know of a crate over these."""
     version, licence = read("VERSION").strip(), read("LICENCE-STATUS").split("\n")[0]
     lines = "".join(f'{it} = {{ path = "../{it}", version = "={version}" }}\n' for it in below)
-    words = {"name": name, "version": version, "about": about(root), "kind": kind}
+    words = {"name": PACKAGES.get(name, name), "version": version, "about": about(root), "target": TARGETS.get(name, "")}
     words["below"] = lines if name == KIT else USED_AS_KIT.format(version) + lines
     words["licence"] = "" if licence == "NONE" else f'license = "{licence}"\n'
-    text = MANIFEST.format(**words)
-    put(f"{out}/{name}/Cargo.toml", text.replace("[lib]\n\n\n", ""))
+    put(f"{out}/{name}/Cargo.toml", MANIFEST.format(**words))
 
 
 def put_crate(out, name, below):
     """Writes a crate over those below it."""
     sources = sorted(glob.glob(f"{TOP}/crates/{name}/src/**/*.rt", recursive=True))
-    root = next(it for it in sources if it.endswith(("/src/lib.rt", "/src/main.rt")))
-    put_manifest(out, name, root, 'crate-type = ["staticlib", "cdylib"]' if name == LIBRARY else "", below)
+    root = next(it for it in sources if os.path.relpath(it, f"{TOP}/crates/{name}/src") in ("lib.rt", "main.rt"))
+    put_manifest(out, name, root, below)
     for it in sources:
         rust = translated(read(it), os.path.relpath(it, TOP))
         inner = os.path.relpath(it, f"{TOP}/crates").removesuffix(".rt")
-        put(f"{out}/{inner}.rs", NO_MAIN + rust if it.endswith("/main.rt") else rust)
+        put(f"{out}/{inner}.rs", NO_MAIN + rust if os.path.basename(it) == "main.rt" else rust)
 
 
 def main():
@@ -284,10 +311,16 @@ def main():
     listed = {name: named for name, named in kits.crates().items() if name not in NOT_BUILT}
     for name, named in listed.items():
         put_crate(out, name, [it for it in named if it in listed])
-    put_manifest(out, KIT, f"{STAND_IN}/kit/lib.rs", 'name = "kit"', [])
+    put_manifest(out, KIT, f"{STAND_IN}/kit/lib.rs", [])
     for it in glob.glob(f"{STAND_IN}/kit/*.rs"):
         put(f"{out}/{KIT}/src/{os.path.basename(it)}", read(it))
     put(f"{out}/{NAMES_COMPILER}/build.rs", read(f"{STAND_IN}/build.rs"))
+    put(f"{out}/{PROGRAM}/tests/rows.rs", read(f"{STAND_IN}/rows.rs"))
+    for it in glob.glob(f"{TOP}/tests/rows/*"):
+        put(f"{out}/{PROGRAM}/tests/rows/{os.path.basename(it)}", read(it))
+    for it in glob.glob(f"{out}/dimacs*/**/*.rs", recursive=True):
+        if os.path.normpath(it) not in map(os.path.normpath, PUT):  # of a source that went
+            os.remove(it)
     put(f"{out}/Cargo.toml", WORKSPACE.format(members=", ".join(f'"{it}"' for it in [KIT, *listed])))
 
 

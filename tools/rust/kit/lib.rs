@@ -31,6 +31,7 @@ macro_rules! holds {
 pub(crate) use holds;
 
 mod boxes;
+pub mod clap;
 pub mod collections;
 pub mod ffi;
 mod files;
