@@ -244,21 +244,60 @@ GATHERED = f"p min {PATH} {PATH - 1}\nn {PATH} {1 - PATH}\n" + "".join([*(f"n {v
 HUB = 40_000
 FALLING = f"p min {2 * HUB - 1} {3 * HUB - 4}\n" + "".join(f"a {v} {v + 1} 0 1 -1\n" for v in range(HUB - 2, 0, -1))
 FALLING += "".join(f"a {v} {HUB} 0 1 {-v}\na {HUB} {HUB + v} 0 1 -1\n" for v in range(1, HUB))
+# The same where but the first arc of the path lowers nothing at first.
+SINKING = f"p min {2 * HUB + 1} {3 * HUB - 1}\n" + "".join(f"a {v} {v + 1} 0 1 {-3 * HUB if v == 1 else 0}\n" for v in range(1, HUB))
+SINKING += "".join(f"a {v} {HUB + 1} 0 1 {-v}\na {HUB + 1} {HUB + 1 + v} 0 1 -1\n" for v in range(1, HUB + 1))
+# A pipeline that goes both ways, with an exit at each second node.
+PIPELINE = f"p min {HUB} {2 * HUB - 2}\nn 1 {HUB // 2}\n" + "".join(f"n {v} -1\n" for v in range(2, HUB + 1, 2))
+PIPELINE += "".join(f"a {v} {v + 1} 0 {HUB} 1\na {v + 1} {v} 0 {HUB} 1\n" for v in range(1, HUB))
+# Arcs into one node, and a block of distances from each tail.
+INTO = "".join(f"a {v} 1 {v}\n" for v in range(2, PATH + 1))
+FROM_EACH = f"p distances {PATH} {PATH - 1}\n" + "".join(f"t {v} 1\nd 1 {v}\n" for v in range(2, PATH + 1))
+
+
+def colliding(bits=14):
+    """Node numbers whose hashes by OCaml's Hashtbl have these last bits 0: MurmurHash3 backwards."""
+    for it in range(0, 2**32, 2**bits):
+        it ^= it >> 16
+        it = it * pow(0xC2B2AE35, -1, 2**32) % 2**32
+        it ^= it >> 13 ^ it >> 26
+        it = it * pow(0x85EBCA6B, -1, 2**32) % 2**32
+        it ^= it >> 16
+        it = (it - 0xE6546B64) * pow(5, -1, 2**32) % 2**32
+        it = (it >> 13 | it << 19) * pow(0x1B873593, -1, 2**32) % 2**32
+        it = (it >> 15 | it << 17) * pow(0xCC9E2D51, -1, 2**32) % 2**32
+        if it & 1 and 0 < it >> 1 <= 2**27:
+            yield it >> 1
+
+
+def collisions():
+    """An instance over such nodes, with many arcs between any two."""
+    nodes = list(colliding())
+    arcs = [f"a {u} {v} 0\n" for u, v in zip(nodes, nodes[1:])] * 15
+    return f"p max {max(nodes)} {len(arcs)}\nn {nodes[0]} s\nn {nodes[-1]} t\n{''.join(arcs)}"
+
+
 LIMITED = [
     ("paths wide many apart", "v 1 1 0\n" + "".join(f"v 1 {v} unreachable\n" for v in range(2, 20_001)), "-v", range(12_000, 40_000, 1_000)),
     ("certify-max max flow made", "v max 1\n", "-v", range(12_000, 40_000, 1_000)),
     ("certify-infeasible spread made", "x instance 0 0 Feasible\n", "-t", [30]),
     ("certify-infeasible gathered made", "x instance 0 0 Feasible\n", "-t", [30]),
     ("certify-min falling zero made", "v min 0\n", "-t", [30]),
+    ("certify-min sinking zero made", "v min 0\n", "-t", [30]),
+    ("certify-infeasible pipeline made", "x instance 0 0 Feasible\n", "-t", [30]),
+    ("certify-paths into from-each made", f"v sp distances {PATH - 1}\n", "-t", [20]),
+    ("certify-max collisions zero made", "v max 0\n", "-t", [10]),
 ]
 
 
 def limited_runs(judge, texts):
     """How many runs there were with these limits, and what was wrong with which: where memory is gone, nothing is printed
-    or written; a path with a deficit at each node, or a supply, isn't walked once for each."""
+    or written; a path with a deficit at each node, or a supply, isn't walked once for each, nor are others like it."""
     runs, failures = 0, []
     with tempfile.TemporaryDirectory(dir=MEMORY) as folder:
-        for name, text in (texts | {"spread": SPREAD, "gathered": GATHERED, "falling": FALLING}).items():
+        large = {"spread": SPREAD, "gathered": GATHERED, "falling": FALLING, "sinking": SINKING, "pipeline": PIPELINE}
+        large |= {"into": f"p sp {PATH} {PATH - 1}\n{INTO}", "from-each": FROM_EACH, "collisions": collisions()}
+        for name, text in (texts | large).items():
             Texts(folder).write(name, text)
         for words, printed, kind, limits in LIMITED:
             whole = (int(printed[0] == "x"), printed, []), "made" in words

@@ -42,6 +42,7 @@ MOST_KEPT = 64
 # What a limit counts.
 LIMIT_OF_FLOWS = "^the limit, {}, counts flows, the flow 0 first and each of a greater value than the last: none of them is maximum, so no answer is written\n"
 LIMIT_OF_STEPS = "^the limit, {}, counts steps, each to a better flow: they lead to none that costs least, or the costs of one that does, added up arc by arc, leave -10^30 to 10^30: no answer is written\n"
+NO_LIMIT = "no limit? then CAP is more than the others and all supplies add up to, at most 9223372036854775807; if an answer fills such an arc, there may be no best\n$"
 GREATER = "a greater one may do, as --limit N: N is at most 1000000000, and 1000000 without it\n"
 
 # The texts that commands name; a case gives others in their place.
@@ -54,6 +55,15 @@ CASES = [
     ("FieldCount", "convert gr T", {"T": "p sp 1 1\na 1 1\n"}, ["T:2: a 1 1", "3 fields, and `a TAIL HEAD WEIGHT` has 4"]),
     ("BadNumber", "convert gr T", {"T": "p sp 1 1\na 1 1 1.0\n"}, ["T:2: a 1 1 1.0", "           ^^^", "`1.0`", "write 1"]),
     ("BadNumber", "convert gr T", {"T": "p sp 1 1\na 1 1 1e6\n"}, ["`1e6`", "write 1000000"]),
+    ("BadNumber", "convert gr T", {"T": "p sp 1 1\na 1 1 1.2e1\n"}, ["`1.2e1`\nwrite 12\n$"]),
+    ("BadNumber", "convert gr T", {"T": "p sp 1 1\na 1 1 1.25e1\n"}, ["not `1.25e1`\n$"]),
+    ("BadNumber", "convert gr T", {"T": "p sp 1 1\na 1 1 1,\n"}, ["`1,`\nwrite 1\n$"]),
+    ("BadNumber", "convert gr T", {"T": "p sp 1 1\na 1 1 -1,200,345\n"}, ["`-1,200,345`\nwrite -1200345\n$"]),
+    ("BadNumber", "convert gr T", {"T": "p sp 1 1\na 1 1 1,2\n"}, ["not `1,2`\n$"]),
+    ("BadNumber", "convert max T", {"T": "p max 2 1\nn 1 s\nn 2 t\na 1 2 inf\n"}, ["not `inf`\n" + NO_LIMIT]),
+    ("NumberRange", "convert dist T", {"T": "p dist 3 1\nt 1 1\nd 2 5 -1\n"}, ["PRED is a number from 1 to 134217728 (2^27), and not -1\na node that no walk reaches has no line: leave it out\n$"]),
+    ("BadWord", "convert min T", {"T": "p asn 2 1\n"}, ["that of an assignment problem, which a min text states with supplies 1 and -1, LOW 0 and CAP 1, in the place of a minimum cost"]),
+    ("FieldCount", "convert gr T", {"T": "p aux sp co 3\nv 1 2 3\n"}, ["that of coordinates (co), which are no kind of text here, in the place of a graph (gr)\n"]),
     ("NumberRange", "convert gr T", {"T": "p sp 1 1\na 0 1 0\n"}, ["TAIL is a number from 1 to 134217728", "not 0\n", "IDs count from 1: numbered from 0? add 1 to each"]),
     ("BadWord", "convert gr T", {"T": "p max 1 1\n"}, ["`max` stands where `sp` is wanted"]),
     ("ProblemMissing", "convert gr T", {"T": ""}, ["T: is empty\n", "`p sp NODES ARCS`"]),
@@ -65,8 +75,8 @@ CASES = [
     ("EndTwice", "convert max T", {"T": "p max 3 1\nn 1 s\nn 2 t\nn 3 s\n"}, ["T:4: n 3 s", "line 2 has the same letter already"]),
     ("EndMissing", "convert max T", {"T": "p max 2 1\nn 1 s\na 1 2 1\n"}, ["`n ID t`, the sink,"]),
     ("ProblemMissing", "convert gr T", {"T": "c\n"}, ["T: ends after line 1\n"]),
-    ("BoundOrder", "convert max T", {"T": "p max 2 1\nn 1 s\nn 2 t\na 1 2 -5\n"}, ["CAP is -5, and has to be 0 or more\nno limit? then CAP is 9223372036854775807, the greatest number\n$"]),
-    ("BoundOrder", "convert min T", {"T": "p min 2 1\na 1 2 0 -1 0\n"}, ["CAP is -1, less than LOW, 0\nno limit? then CAP is 9223372036854775807, the greatest number\n$"]),
+    ("BoundOrder", "convert max T", {"T": "p max 2 1\nn 1 s\nn 2 t\na 1 2 -5\n"}, ["CAP is -5, and has to be 0 or more\n" + NO_LIMIT]),
+    ("BoundOrder", "convert min T", {"T": "p min 2 1\na 1 2 0 -1 0\n"}, ["CAP is -1, less than LOW, 0\n" + NO_LIMIT]),
     ("BoundOrder", "convert min T", {"T": "p min 2 1\na 1 2 -3 2 0\n"}, ["LOW is -3 (and CAP 2), and has to be 0 or more\n"]),
     ("BoundOrder", "convert min T", {"T": "p min 2 1\na 1 2 3 2 0\n"}, ["CAP is 2, less than LOW, 3\n$"]),
     ("TooMany", "convert gr T", {"T": "p sp 1 1\na 1 1 0\na 1 1 0\n"}, ["line 1 declares 1 arc line, and this is one more"]),
@@ -126,7 +136,7 @@ CASES = [
     # A solver that refuses has emptied what it writes: here the queries, by files in the wrong order.
     ("FieldCount", "solve-paths G L Q", {"L": "p dist 4 1\nt 1 0\n"}, ["L:1: p dist 4 1", "that of distance labels (dist), in the place of queries (query)", "\nQ is empty: a solve run", "before it reads"]),
     ("NegativeWeight", "solve-paths G Q L", {"G": "p sp 2 1\na 1 2 -4\n"}, ["the WEIGHT -4", "\nL is empty: "]),
-    ("NodeRange", "solve-max I S C", {"I": "p max 1 1\nn 1 s\nn 2 t\n"}, ["\nS is empty: ", "\nC is empty: "]),
+    ("NodeRange", "solve-max I S C", {"I": "p max 1 1\nn 1 s\nn 2 t\n"}, ["\nS and C are empty: a solve run"]),
     ("NotMaximum", "certify-max I S", {"S": "s 0\n"}, ["S:1: s 0\n       ^\nanother flow is feasible, and has 6 more than the 0 that is claimed: name a file after the solution to get it\n$"]),
     ("NotLeast", "certify-min MI S", {"S": DEAR}, ["S:1: s 15", "another flow is feasible, and costs 1 less than the 15 that is claimed: name a file after the solution to get it\n$"]),
     ("NotMaximum", "certify-max I S B", {"S": "s 0\n"}, ["S:1: s 0", "B:1: s 6", "has 6 more than the 0"]),
@@ -138,10 +148,10 @@ CASES = [
     ("Feasible", "certify-infeasible MI B", {}, ["feasible flow, which costs ", ": it goes to B\n"]),
     ("Feasible", "certify-infeasible I B", {"I": f"p min 1 1\na 1 1 {HUGE} {HUGE} {HUGE}\n", "B": "s 0\n"}, ["^a flow was found, but isn't written: its cost, added up arc by arc, leaves -10^30 to 10^30\n$"]),
     # Solvers that gave up.
-    ("limit", "solve-max I S C --limit 1", {}, [LIMIT_OF_FLOWS.format(1), f"{GREATER}S is empty: ", "\nC is empty: "]),
-    ("limit", "solve-max I S C --limit 0", {}, [LIMIT_OF_FLOWS.format(0), f"{GREATER}S is empty: "]),
-    ("limit", "solve-min I S P --limit 0", {"I": "p min 2 1\nn 1 1\nn 2 -1\na 1 2 0 1 1\n"}, [LIMIT_OF_STEPS.format(0), f"{GREATER}S is empty: "]),
-    ("limit", "solve-min I S P --limit 1000000000", {"I": f"p min 1 1\na 1 1 0 {HUGE} {-HUGE}\n"}, [f"{LIMIT_OF_STEPS.format(10**9)}S is empty: "]),
+    ("limit", "solve-max I S C --limit 1", {}, [LIMIT_OF_FLOWS.format(1), f"{GREATER}S and C are empty: "]),
+    ("limit", "solve-max I S C --limit 0", {}, [LIMIT_OF_FLOWS.format(0), f"{GREATER}S and C are empty: "]),
+    ("limit", "solve-min I S P --limit 0", {"I": "p min 2 1\nn 1 1\nn 2 -1\na 1 2 0 1 1\n"}, [LIMIT_OF_STEPS.format(0), f"{GREATER}S and P are empty: "]),
+    ("limit", "solve-min I S P --limit 1000000000", {"I": f"p min 1 1\na 1 1 0 {HUGE} {-HUGE}\n"}, [f"{LIMIT_OF_STEPS.format(10**9)}S and P are empty: "]),
     # A cycle of -1 that the source reaches, one that it doesn't, and one through it.
     ("NotShortest", "certify-paths G D", {"G": "p sp 4 4\na 1 2 3\na 2 3 4\na 3 2 -5\na 3 4 1\n", "D": "p distances 4 1\nt 1 3\nd 2 3\nd 3 7\nd 4 8\n"}, ["G:4: a 3 2 -5", "a cycle that the source reaches weighs less than 0; its arcs: 2\n  arc 2: 2 -> 3, WEIGHT 4\n  arc 3: 3 -> 2, WEIGHT -5\n4 - 5 = -1: with each round a walk weighs less, so the nodes that it leads to have no distance\n"]),
     ("NotShortest", "judge-paths G Q L", {"G": "p sp 2 2\na 1 2 3\na 2 1 -4\n", "L": "p dist 2 1\nt 1 1\nd 2 3 1\n"}, ["G:3: a 2 1 -4", "its arcs: 2\n  arc 1: 1 -> 2, WEIGHT 3\n  arc 2: 2 -> 1, WEIGHT -4\n3 - 4 = -1: "]),
@@ -210,7 +220,7 @@ CASES = [
     ("BadWord", "certify-paths G L", {"L": "p dist 4 0\n"}, ["that of distance labels (dist), in the place of distances (distances)\ndistances have no PRED and no RADIUS; to judge labels, run dimacs judge-paths GRAPH QUERY LABELS\n"]),
     ("UnknownLine", "convert gr T", {"T": "p sp 1 1\nx" + "y" * 1000 + "\n"}, ["T:2: xyy", ".."]),
     # What a solver emptied twice, and counts of 1.
-    ("NodeRange", "solve-max I S S", {"I": "p max 1 1\nn 1 s\nn 2 t\n"}, ["that line 1 declares\nS is empty: a solve run creates the files that it writes, or empties them, before it reads the others\n$"]),
+    ("NodeRange", "solve-max I N N", {"I": "p max 1 1\nn 1 s\nn 2 t\n"}, ["that line 1 declares\nN is empty: a solve run creates the files that it writes, or empties them, before it reads the others\n$"]),
     ("FieldCount", "convert gr T", {"T": "p sp 1 1\na\n"}, ["the line has 1 field, and"]),
     ("TooFew", "convert dist T", {"T": "p dist 3 1\nt 1 1\n"}, ["declares 1 d line, and has 0 before this place\n"]),
     # A line of the source, and a blank that ends no field.
@@ -232,8 +242,9 @@ CASES = [
     # A cycle of 0 that the second block's source doesn't reach.
     ("NoTightArc", "certify-paths G D", {"G": "p sp 4 3\na 1 2 5\na 2 3 0\na 3 2 0\n", "D": "p distances 4 2\nt 1 2\nd 2 5\nd 3 5\nt 4 2\nd 2 1\nd 3 1\n"}, ["D:6: d 2 1\nin the block from source 4 (line 5) node 2 is at distance 1, but no walk from the source weighs as little\n"]),
     # The tail's distance is less than 5, that of its only walk, and no walk leads to a tail that has one.
-    ("NotShortest", "certify-paths G D", {"G": "p sp 3 2\na 1 2 5\na 2 3 4\n", "D": "p distances 3 1\nt 1 2\nd 2 3\nd 3 9\n"}, ["G:3: a 2 3 4\nD:3: d 2 3\n", "node 2 is at distance 3, but no walk from the source weighs as little\nso the test of arc 2, from there to node 3, fails\n$"]),
-    ("Escapes", "certify-paths G D", {"D": "p distances 4 1\nt 1 2\nd 2 5\nd 3 1\n"}, ["G:3: a 3 4 0\nD:4: d 3 1\n", "node 3 is at distance 1, but no walk from the source weighs as little\nso the test of arc 2, from there to node 4, fails\n$"]),
+    ("NotShortest", "certify-paths G D", {"G": "p sp 3 2\na 1 2 5\na 2 3 4\n", "D": "p distances 3 1\nt 1 2\nd 2 3\nd 3 9\n"}, ["G:3: a 2 3 4\nD:3: d 2 3\n", "node 2 is at distance 3, but no walk from the source weighs as little\nso the test of arc 2, from there to node 3, fails\nif no walk leads to node 2, leave its line out\n$"]),
+    ("Escapes", "certify-paths G D", {"D": "p distances 4 1\nt 1 2\nd 2 5\nd 3 1\n"}, ["G:3: a 3 4 0\nD:4: d 3 1\n", "node 3 is at distance 1, but no walk from the source weighs as little\nso the test of arc 2, from there to node 4, fails\nif no walk leads to node 3, leave its line out\n$"]),
+    ("Escapes", "certify-paths G D", {"G": "p sp 4 2\na 1 2 5\na 3 4 1\n", "D": "p distances 4 1\nt 1 2\nd 2 5\nd 3 -1\n"}, ["D:4: d 3 -1\n", "node 3 is at distance -1, but no walk from the source weighs as little\n", "\nif no walk leads to node 3, leave its line out\n$"]),
     # A walk of 8,299 arcs, which isn't found in 2^26 steps: a hub that leads nowhere gets nearer each round.
     ("Escapes", "certify-paths G D", LONG_WALK, ["a 8299 8300 1\n", "d 8299 8298\n", "with the WEIGHT 1: by this distance node 8300 is at 8299 at most, and has no d line\n$"]),
     ("NoTightArc", "certify-paths G D", REVERSED, ["D:180500: d 1001 800\n", "in the block from source 200 (line 179699) node 1001 is at distance 800, but no walk from the source weighs as little\n"]),

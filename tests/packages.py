@@ -195,8 +195,9 @@ def copy_of_2001(path, target):
 def copy_sources(its):
     """Copies the sources and what is built: all is of another time, and nobody but its owner may read it."""
     made = f"{its.place}/copy"
-    ignored = shutil.ignore_patterns(".git", "__pycache__", "dist", "out", "quick")
+    ignored = shutil.ignore_patterns(".git", "__pycache__", "out", "quick")
     shutil.copytree(TOP, made, symlinks=True, ignore=ignored, copy_function=copy_of_2001)
+    shutil.rmtree(f"{made}/dist", ignore_errors=True)
     its.run("chmod", "-R", "go-rwx", made)
     return made
 

@@ -5,6 +5,7 @@
  * and never fail.
  *
  *   REFUSE_GROWTH, REFUSE_READ, REFUSE_WRITE, REFUSE_OPENING   the number of the call that fails, once
+ *   REFUSE_SIZE the size in bytes of growths that fail, each time
  *   INTERRUPT   so many reads or writes in a row, from the one that fails on, are interrupted by a signal
  *   AT_MOST     the most bytes that one read or write moves
  *   EVENTS      the file that is written at the end: a line for each file that was opened, created or closed, or not
@@ -37,7 +38,7 @@ enum call { GROWTH, READ, WRITE, OPENING, CALLS };
 enum { MOST_FILES = 64, MOST_NAME = 256 };
 
 static long counts[CALLS], refused[CALLS];
-static size_t bytes;
+static size_t bytes, refused_size;
 static size_t at_most = (size_t)-1;
 static long interrupts;
 static int counting;
@@ -62,6 +63,7 @@ __attribute__((constructor)) static void start(void)
     refused[READ] = number("REFUSE_READ");
     refused[WRITE] = number("REFUSE_WRITE");
     refused[OPENING] = number("REFUSE_OPENING");
+    refused_size = number("REFUSE_SIZE");
     if (number("AT_MOST") > 0)
         at_most = number("AT_MOST");
     interrupts = number("INTERRUPT");
@@ -131,6 +133,10 @@ static int grows_not(size_t size)
 {
     if (counting)
         bytes += size;
+    if (counting && size && size == refused_size) {
+        errno = ENOMEM;
+        return 1;
+    }
     return fails(GROWTH, ENOMEM, "grown", "");
 }
 

@@ -203,10 +203,14 @@ class Runs(Folder):
         words = [*by_shell, self.binary, *(NAMES.get(word, word) for word in words.split())]
         ran = subprocess.run(words, capture_output=True, env=env, cwd=self.folder, check=False)
         outputs = [*map(self.made, MADE), ran.stdout.decode("ascii")]
-        return Ran(ran.returncode, ran.stderr.decode(), outputs, *((None, None) if closed else self.counted()))
+        # A file that is written twice is known by its number too if it is there already.
+        complaint = re.sub(r"SOLUTION and \w+ are the same file: (.*)", r"\1: written twice", ran.stderr.decode())
+        return Ran(ran.returncode, complaint, outputs, *((None, None) if closed else self.counted()))
 
     def counted(self):
-        """What the library counted in a run, and the call that it refused, if it did."""
+        """What the library counted in a run, and the call that it refused, if it did; nothing of a run that was aborted."""
+        if not os.path.exists(self.path("counts")):
+            return None, None
         line, _, refused = self.read("counts").partition("\n")
         os.remove(self.path("counts"))
         done, _, name = refused.removesuffix("\n").partition(" ")
@@ -320,6 +324,14 @@ def refuse_each(runs, words, whole, kind):
         met[ran.refused] += 1
         unchanged += is_same(ran, whole)
     return met, unchanged
+
+
+def refuse_copies(runs):
+    """Yields what is wrong with a run that gets no memory for a copy of a long name, which not each build makes."""
+    name = f"{'./' * 200}long.gr"
+    ran = runs.run(f"show gr {name}", {"REFUSE_SIZE": str(len(name) + 1)})
+    if ran.status not in (0, 4):
+        yield f"a copy of a long name refused: status {ran.status}"
 
 
 def wanted_calls(runs, kind, words, whole):
@@ -439,6 +451,7 @@ def main():
         for table, kinds in (TWICE, KINDS[:3]), (GROWING, KINDS[:1]):
             for run in table:
                 cases.faultless(refuse_all(runs, *run, kinds))
+        cases.faultless(refuse_copies(runs))
         for closed in CLOSED:
             cases.faultless(run_closed(runs, *closed))
         for call in UNSEEN:

@@ -3,10 +3,11 @@
 
 Where no library is named, the crate in lib/rust and the package for Python find build/rust, here by a copy of the
 repository in which nothing else is built; that it says it isn't proved. A program in Rust depends on that crate by its
-path. The crates can be packed. Without Rust, or with an old one, a build ends with one line. The libraries that cargo
-makes itself, for systems without GNU's objcopy, are called from C. BUILD is build/rust if none is given, and has to be of
-these sources.
+path. The crates can be packed, and their sources for who has cargo alone. Without Rust, or with an old one, a build ends
+with one line. The libraries that cargo makes itself, for systems without GNU's objcopy, are called from C. BUILD is
+build/rust if none is given, and has to be of these sources.
 """
+import glob
 import os
 import re
 import shutil
@@ -81,9 +82,20 @@ class Layers(Commands):
     def test_packing(self):
         words = ["--workspace", "--offline", "--allow-dirty", "--no-verify"]
         printed = self.run("cargo", "package", *words, cwd=f"{self.build}/crates")
-        names = set(re.findall(r"Packaging (\w+) ", printed))
-        wanted = re.findall(r'"(\w+)"', scripts.read(os.path.relpath(f"{self.build}/crates/Cargo.toml", TOP)).split("\n\n")[0])
-        self.expect("each crate is packed", names == set(wanted) - {"2"} and len(names) > 15)
+        names = re.findall(r"Packaging (\w+) ", printed)
+        folders = glob.glob(f"{self.build}/crates/*/Cargo.toml")
+        self.expect("each crate is packed", len(set(names)) == len(folders) > 15 and "dimacs" not in names)
+
+    def test_sources(self):
+        """What is packed for who has cargo alone is what was built here, and passes its own test."""
+        ran = self.run(f"{TOP}/tools/dist.py", "--for", "rust", f"{self.place}/sources")
+        (packed,) = glob.glob(f"{self.place}/sources/*.tar.gz") or [ran]
+        self.run("tar", "-xzf", packed, "-C", f"{self.place}/sources", "--strip-components=1")
+        differ = self.run("diff", "-r", "-x", "target", "-x", "Cargo.lock", f"{self.build}/crates", f"{self.place}/sources")
+        wanted = [f"Only in {self.place}/sources: {it}" for it in ("README.md", "SHA256SUMS", os.path.basename(packed))]
+        self.expect("the sources as plain Rust", sorted(differ.splitlines()) == sorted(wanted))
+        printed = self.run("cargo", "test", "--release", "--offline", cwd=f"{self.build}/crates", env=None)  # as they were built
+        self.expect("the rows by cargo test", "test result: ok. 2 passed; 0 failed" in printed)
 
     def test_lacking(self):
         for program, wanted in LACKING:
@@ -113,6 +125,7 @@ def main():
         its.test_lacking()
         its.test_plain_libraries()
         its.test_packing()
+        its.test_sources()
         its.test_rust()
         its.test_python()
     its.end()

@@ -25,7 +25,7 @@ kit     | 0      | tools/try_bodies.py --apply
 nothing | 0      | tools/group_imports.py --check
 nothing | 0      | tools/believed.py
 nothing | 0      | tools/crate_tables.py --check
-nothing | 19     | tests/module_circles.py
+nothing | 25     | tests/module_circles.py
 nothing | 370    | tests/to_rust.py
 kit     | 1      | tests/to_rust.py --by-kit
 nothing | 380    | tests/promises.py
@@ -58,7 +58,7 @@ build   | 43     | tests/install.py {build}
 build   | 28     | tests/abi.py {build}
 build   | 13     | tests/version.py {build}
 build   | 2      | tests/stacks.py {build}
-cargo   | 9      | tests/rust_layers.py {build}
+cargo   | 11     | tests/rust_layers.py {build}
 rust    | 4000   | tests/referee.py {build}/debug/dimacs 2000
 rust    | 830    | tests/rows.py {build}/debug/dimacs
 rust    | 830    | tests/rows.py {program}

@@ -29,9 +29,11 @@ ghost fields       | struct A { a: u8, ghost shown : { N } }      | struct A { a
 a tactic           | #![tactic(auto)]~#[tactic(auto, using(a))]~fn f() {} | ~~fn f() {}
 a comment stays    | // why~#[cycle(a)]~fn f() {} // one~         | // why~~fn f() {} // one~
 a model            | impl<T> Model for Vec<T> {~ ghost view = { a };~}~fn f() {} | ~~~fn f() {}
+no model           | impl Model for A {~ fn f() {}~}              | impl Model for A {~ fn f() {}~}
 a drop             | impl<T> Drop for A<T> {~ fn drop(self) { let A { a: _, b: _ } = self; }~} b | ~~ b
 a derived drop     | #[derive(Drop)] struct A;                    | struct A;
 more derived       | #[derive(Clone, Drop, Copy)] #[derive(Debug, Error)] | #[derive(Clone, Copy)] #[derive(Debug)]
+not derived        | [(1, Error)]                                 | [(1, Error)]
 the bound Drop     | fn f<T: Drop, S: A + Drop>() where T: Drop {} | fn f<T, S: A>() where T {}
 an error           | use thiserror::Error;~#[error("no {0}")]~Gone(u8) | ~~Gone(u8)
 a final method     | final fn f() {}                              | fn f() {}
@@ -44,6 +46,7 @@ a main function    | fn main(rt: HostRuntime) -> ExitCode {}      | kit::main!(s
 what is proved     | pub const PROVED: bool = true; const PROVED: u8 = 1; | pub const PROVED: bool = false ; const PROVED: u8 = 1;
 the version        | "1.0 (not proved)"                           | concat!("1.0 (by ", env!("COMPILER"), ") (not proved)")
 a struct for C     | #[repr(C)]~struct A<'a> { n: u8, a: &'a [u8] } struct B<'a> { a: &'a [u8] } | #[repr(C)]~struct A<'a> { n: u8, a: kit::ffi::Lent<'a, u8 > } struct B<'a> { a: &'a [u8] }
+another lifetime   | #[repr(C)] struct A<'b> { a: &'b [i64] }     | #[repr(C)] struct A<'b> { a: kit::ffi::Lent<'b, i64 > }
 a function for C   | extern "C" fn f(alloc: Global, a: &[u8], b: &mut [i64], c: u8) {~ 1 } | unsafe extern "C" fn f(a: *const u8 , a_length: usize , b: *mut i64 , b_length: usize , c: u8) { let alloc = kit::alloc::Global; let a = unsafe { kit::ffi::lent(a, a_length) }; let b = unsafe { kit::ffi::lent_mut(b, b_length) }; ~ 1 }
 strings, lifetimes | f("ghost { // }", b'\\'', '"', r#"a"b"#, &'a 1.0) | f("ghost { // }", b'\\'', '"', r#"a"b"#, &'a 1.0)
 """
@@ -59,6 +62,16 @@ impl Drop for A { fn drop(self) { a(); } } | 1: `Drop` isn't known here
 ~a!(b)                             | 2: `a ! (` isn't known here
 a /* b */                          | 1: `/ *` isn't known here
 {~ ( ]                             | 2: ] closes nothing
+f("\U000f0001")                    | 1: a character that numbers blanks here
+~size_of::<u8>()                   | 2: `size_of` isn't known here
+align_of::<u8>()                   | 1: `align_of` isn't known here
+(a, b.as_slices())                 | 1: `as_slices` isn't known here
+for a in (250u8..).rev() {}        | 1: `( 250u8 . . ) . rev` isn't known here
+(0..).zip(a)                       | 1: `( 0 . . ) . zip` isn't known here
+macro_rules! vec { () => {} }      | 1: `macro_rules ! vec` isn't known here
+fn collect(self, alloc: A) {}      | 1: `fn collect ( self` isn't known here
+fn repeat<T>(&'a mut self) {}      | 1: `fn repeat < T > ( & 'a mut self` isn't known here
+#[repr(C)] struct A { a: &'a mut [u8] } | 1: `[ repr ( C ) ] struct A { a : &` isn't known here
 """
 
 

@@ -29,7 +29,7 @@ def number(version):
 
 def logic():
     """The logic of the kit here, or the one that the sources name."""
-    line = read("crates/dimacs_runs/src/build.rt")
+    line = read("crates/dimacs_jobs/src/build.rt")
     if shutil.which("rt"):
         line = subprocess.run(["rt", "version"], capture_output=True, text=True, check=True).stdout
     return re.search(r"logic [0-9a-f]+", line)[0]
@@ -83,7 +83,7 @@ def of_files(wanted):
     header = dict(re.findall(r"^#define DIMACS_VERSION(\w*) ([\w\-.\"]+)$", read("lib/include/dimacs.h"), re.MULTILINE))
     numbers = dict(zip(("_MAJOR", "_MINOR", "_PATCH"), parts(wanted)))
     yield "dimacs.h", header, {"": f'"{wanted}"', **numbers}
-    text = read("crates/dimacs_runs/src/build.rt")
+    text = read("crates/dimacs_jobs/src/build.rt")
     yield "build.rt", re.findall(r'VERSION: &str = "(\S+) \(', text), [wanted, wanted]
     crate = [re.findall(r'^version = "(.*)"$', read(f"lib/rust/Cargo.{it}"), re.MULTILINE) for it in ("toml", "lock")]
     yield "the crate for Cargo", crate, [[wanted], [wanted]]
