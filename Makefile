@@ -58,12 +58,16 @@ check: quick
 	@tests/check.py build/quick
 
 ## make rust: builds them unproved in build/rust by Rust 1.88 or later, without the kit, in two minutes of processor time
-rust: build/rust/dimacs $(if $(shell command -v $(OBJCOPY)),build/rust/linked)
+rust: build/rust/dimacs $(if $(filter Linux,$(shell uname -s)),$(if $(shell command -v $(OBJCOPY)),build/rust/linked))
 	@echo 'Try:  build/rust/dimacs certify-max examples/pipes.max examples/pipes.solution'
 
 ## make check-rust: tests build/rust, in ten minutes, without the kit
 check-rust: rust
 	@tests/check.py build/rust
+
+## make rust-source: packs the sources as plain Rust in dist/rust, for who has cargo alone
+rust-source:
+	tools/dist.py --for rust
 
 ## make prove: the gate: proves all from nothing, has a tenth of the wrong bodies refused, and runs the tests over it
 prove:
@@ -94,7 +98,7 @@ build/dimacs build/dimacs_c.a build/dimacs_c.bc &: FORCE
 # What the gate runs over: what rt ci proved, put in build/ without a proof made again.
 proved-by-ci:
 	tools/proved_build.py --by-ci build
-	$(MAKE) --no-print-directory build/linked
+	$(MAKE) --no-print-directory build/linked npm page
 
 # rustc's archive has all of its std. What no call needs is left out, and all else but the calls is local: a program in
 # Rust has a std of its own.
@@ -186,5 +190,5 @@ include targets.mk
 # Of these, what a failed proof leaves is whole, and of the sources that are noted beside it.
 .PRECIOUS: build/dimacs build/dimacs_c.a build/dimacs_c.bc %/rust/dimacs %/rust/dimacs_c.a %/rust/dimacs.o %/dimacs.o \
     %/libdimacs.a %/libdimacs.so.0 %/libdimacs.so
-.PHONY: all help quick check rust check-rust referee prove prove-all proved-by-ci install uninstall linked dist \
+.PHONY: all help quick check rust check-rust rust-source referee prove prove-all proved-by-ci install uninstall linked dist \
     check-packages proved-only no-such-system release theorem bench clean FORCE
