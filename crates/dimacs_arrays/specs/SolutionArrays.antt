@@ -63,7 +63,7 @@ abbrev pub ClaimsIf : List ArcView → Result SolutionValue ReadError → Result
 ClaimsIf arcs (Ok s) result = ClaimsOver arcs s result
 ClaimsIf arcs (Err error) result = result ≡ Err (not_read error)
 
--- what the only solution that the text spells claims on the arcs; or the text's only fault
+-- what the only solution that the text spells claims on the arcs, or why it claims nothing there; or the text's only fault
 abbrev pub ReadsSolutionOver : List ArcView → List ℕ → Result ClaimedFlow JudgeError → Type 0
 ReadsSolutionOver arcs text result =
     (answer : Result SolutionValue ReadError) × Reads (SpellsSolution text) (Fault kinds.Solution (lines text)) answer × ClaimsIf arcs answer result

@@ -49,8 +49,8 @@ HaveGraph a tails heads weights sizes =
     (sizes ≡ record { nodes = a.nodes; arcs = length a.tails.now })
     × Gets a.tails.now tails × Gets a.heads.now heads × Gets a.weights.now weights
 
--- the canonical text of a graph in arrays is read, and other arrays get the same items; or the source fails, or memory
--- runs out
+-- the canonical text of a graph in arrays is read, and other arrays get the same items, if they have room; or the source
+-- fails, or memory runs out
 abbrev pub GraphArraysLaw : Type 0
 GraphArraysLaw =
     (a : GraphArrays) → length a.heads.now ≡ length a.tails.now → length a.weights.now ≡ length a.tails.now → IsGraph (graph_spelled a)

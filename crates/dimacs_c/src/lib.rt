@@ -1,8 +1,9 @@
 //! The functions of the library for C, which `lib/include/dimacs.h` declares and describes.
 //!
-//! Each returns the exit status of a command. It copies what the command prints and writes to files into the caller's
-//! buffers, as much as fits, and sets the length of the whole. Functions over arrays copy flows, distances and
-//! certificates as arrays. They return 2 if an array's length is wrong or a number is out of range.
+//! Each but `dimacs_request` and those about the version returns the exit status of a command. It copies what the command
+//! prints and writes to files into the caller's buffers, as much as fits, and sets the length of the whole. Functions over
+//! arrays copy flows, distances and certificates as arrays. They return 2 if an array's length is wrong or a number is out
+//! of range.
 #![tactic(auto)]
 
 mod answer;

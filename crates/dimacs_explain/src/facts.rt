@@ -4,7 +4,7 @@ ghost use Rattle.std.specs.Prelude.{◌≡◌, ◌+ℤ◌, ◌-ℤ◌, ◌<ℤ�
 ghost use Rattle.dimacs_claims.specs.SolutionTexts.{claimed};
 ghost use Rattle.dimacs_explain.specs.inside.Routes.{IsFarthest};
 ghost use Rattle.dimacs_facts.specs.{Blocks.{IsAlone, OthersUnreached}, Cycles.{HasNegativeCycle}, Walks.{IsNear}};
-ghost use Rattle.dimacs_facts.specs.Facts.{HasCost, HasValue, OnlyFlow, OppositeShows, SameButTight};
+ghost use Rattle.dimacs_facts.specs.Facts.{HasCost, HasValue, OnlyFlow, OppositeShows, SameButTight, tight_count};
 ghost use Rattle.dimacs_judging.specs.{Feasible.{value}, Flows.{cost}, Labels.{AreDistances}, Optimum.{NoFlow}};
 ghost use Rattle.dimacs_judging.specs.{MaxJudge.{ShowsMaximum}, MinJudge.{ShowsLeast}, Walks.{Beyond, IsDistance}};
 
@@ -51,8 +51,10 @@ pub(crate) fn write_only_flow<N: Network>(
     out: &mut Prose,
     _min: &MinInstance<N>,
     _solution: &Solution,
+    _potentials: &Potentials,
 )
-    requires { OnlyFlow _min.now (claimed _solution.now) }
+    requires only { OnlyFlow _min.now (claimed _solution.now) }
+    requires none { tight_count _min.now.arcs _potentials.now ≡ 0 }
 {
     say!(out; "no arc has r = 0: no other flow costs as little\n");
 }
@@ -63,12 +65,13 @@ pub(crate) fn write_same_cost<N: Network>(
     min: &MinInstance<N>,
     _solution: &Solution,
     _potentials: &Potentials,
-    count: u64,
+    count: u32,
 )
-    requires { SameButTight min.now (claimed _solution.now) _potentials.now }
+    requires same { SameButTight min.now (claimed _solution.now) _potentials.now }
+    requires count { count ≡ tight_count min.now.arcs _potentials.now }
 {
     say!(out; "another flow of this cost can differ only on arcs with r = 0, {} of {}:",
-        count, u64::from(min.network().arcs()));
+        u64::from(count), u64::from(min.network().arcs()));
 }
 
 pub(crate) fn write_value_claim<N: Network>(

@@ -7,7 +7,7 @@ use crate::explanation::Explanation;
 use crate::facts::{write_least, write_only_flow, write_opposite_shows, write_same_cost};
 use crate::sums::{SHOWN, Sum, bound, number_of};
 use dimacs_claims::{Potentials, Solution};
-use dimacs_facts::{cost_of, opposite_shows, same_but_tight, shows_only_flow};
+use dimacs_facts::{cost_of, count_tight, opposite_shows, same_but_tight};
 use dimacs_instance::MinInstance;
 use dimacs_judging::Flow;
 use dimacs_network::{ArcView, Network};
@@ -184,25 +184,25 @@ fn write_tight<N: Network>(
 )
     requires { ShowsLeast min.now (claimed solution.now) potentials.now }
 {
-    if shows_only_flow(min, solution, potentials) {
-        return write_only_flow(out, min, solution);
-    }
-    let network = min.network();
-    let mut list = Prose::new(out.alloc);
-    let mut count = 0u64;
-    for i in 0..network.arcs() {
-        let arc = network.arc(i);
-        if reduced_cost(arc, potentials.of(arc.tail), potentials.of(arc.head)) == 0 {
-            count = count.saturating_add(1);
-            if count <= SHOWN {
-                say!(list; " {}", Arc(i.saturating_add(1)));
-            }
-        }
+    let count = count_tight(min, solution, potentials);
+    if count == 0 {
+        return write_only_flow(out, min, solution, potentials);
     }
     same_but_tight(min, solution, potentials);
     write_same_cost(out, min, solution, potentials, count);
-    out.append(&list);
-    say!(out; if count > SHOWN { " ..\n" } else { "\n" });
+    let network = min.network();
+    let mut shown = 0u64;
+    for i in 0..network.arcs() {
+        let arc = network.arc(i);
+        if reduced_cost(arc, potentials.of(arc.tail), potentials.of(arc.head)) == 0 {
+            if shown == SHOWN {
+                return say!(out; " ..\n");
+            }
+            say!(out; " {}", Arc(i.saturating_add(1)));
+            shown = shown.saturating_add(1);
+        }
+    }
+    say!(out; "\n");
 }
 
 impl<'a, A: Reopen> Explanation<'a, A> {

@@ -1,6 +1,6 @@
 //! Explains answers: prints the numbers that a failed test compares, or those that show a yes. Functions of `facts` write
-//! sentences that assert more, and require it. Others are tested: what is lightest, that no arc, order or block fits, and
-//! what a limit's flows are.
+//! sentences that assert more, and require their facts. What is tested: the numbers and arcs beside them, what is lightest,
+//! that no arc, order or block fits, and what a limit's flows are.
 //!
 //! For `dimacs_explained`, which runs `dimacs explain COMMAND FILE...`.
 #![tactic(auto)]

@@ -38,7 +38,7 @@ abbrev pub FollowedBy : Job → Result Status CommandError → Result Status Com
 FollowedBy job (Ok status) ended old new = EndsWith (is_explained job.verb status) status ended old new
 FollowedBy job (Err error) ended old new = (ended ≡ Err error) × (new ≡ old)
 
--- the job ran, and did all that was done with the files to write; its output was followed by an explanation
+-- the job ran, and did all that was done with the files to write; its output may be followed by an explanation
 abbrev pub Explains : Job → Contents → Option (List ℕ) → Result Status CommandError → Seen → Seen → Type 0
 Explains job holds empty ended old new =
     (ran : Result Status CommandError) × (output : Written) × RunsJob job holds empty ran old (seen_by new.files output) × FollowedBy job ran ended output new.output

@@ -1,5 +1,5 @@
 -- Facts about flows.
-use Rattle.std.specs.{Prelude.{ℕ, ◌≡◌, ◌≢◌, ◌<◌, List, length, ℤ, pos, neg_ℤ, ◌≤ℤ◌}, List.{All}}
+use Rattle.std.specs.{Prelude.{ℕ, ◌≡◌, ◌≢◌, ◌<◌, List, cond, length, sum_by, ℤ, pos, neg_ℤ, ◌≤ℤ◌}, List.{All}, Ordering.{int_eq}}
 use Rattle.dimacs_claims.specs.{Potentials.{PotentialsValue, potential_of}, SolutionTexts.{SolutionValue}}
 use Rattle.dimacs_network.specs.{Arcs.{JoinsNodes, arc_at}, declared.network.ArcView.{ArcView}}
 use Rattle.dimacs_instance.specs.{MaxFlows.{MaxValue}, MinFlows.{MinValue}}
@@ -23,6 +23,13 @@ abbrev pub SameButTight : MinValue → SolutionValue → PotentialsValue → Typ
 SameButTight i s p =
     (x : List ℤ) × Carries i.arcs s.entries x × ((y : List ℤ) → FeasibleMin i y → cost i.arcs y ≤ℤ cost i.arcs x
     → (k : ℕ) → k < length i.arcs → reduced_cost (potential_of p) (arc_at i.arcs k) ≢ pos 0 → amount_at x k ≡ amount_at y k)
+
+-- 1 for an arc with the reduced cost 0, else 0; and how many arcs have it
+abbrev pub one_tight : PotentialsValue → ArcView → ℕ
+one_tight p a = cond (int_eq (reduced_cost (potential_of p) a) (pos 0)) 1 0
+
+abbrev pub tight_count : List ArcView → PotentialsValue → ℕ
+tight_count arcs p = sum_by (one_tight p) arcs
 
 -- no arc has the reduced cost 0
 abbrev pub NoneTight : List ArcView → (ℕ → ℤ) → Type 0

@@ -22,7 +22,7 @@ pub use cycle::is_negative_cycle;
 pub use feasible::{excess, feasible_cost, feasible_value};
 pub use laws::{negative_cycle_has_no_distance, no_other_flow, same_but_tight};
 pub use no_flow::{all_nodes, one_node, shows_no_flow};
-pub use only::shows_only_flow;
+pub use only::count_tight;
 pub use opposite::opposite_shows;
 pub use search::walks_from;
 pub use steps::Steps;

@@ -1,8 +1,8 @@
-//! That no other flow costs as little.
+//! How many arcs have the reduced cost 0, and that no other flow costs as little if none has.
 
-ghost use Rattle.std.specs.Prelude.{◌≡◌, ◌↔◌, IsTrue, pos};
+ghost use Rattle.std.specs.Prelude.{◌≡◌};
 ghost use Rattle.dimacs_claims.specs.{Potentials.{potential_of}, SolutionTexts.{claimed}};
-ghost use Rattle.dimacs_facts.specs.Facts.{NoneTight, OnlyFlow};
+ghost use Rattle.dimacs_facts.specs.Facts.{OnlyFlow, one_tight, tight_count};
 ghost use Rattle.dimacs_judging.specs.MinJudge.{ShowsLeast};
 ghost use Rattle.dimacs_judging.specs.Potentials as theory;
 
@@ -11,36 +11,41 @@ use dimacs_claims::{Potentials, Solution};
 use dimacs_instance::MinInstance;
 use dimacs_network::{ArcView, Network};
 
-/// Whether potentials that show that the claimed flow costs least show that no other one costs as little.
-pub fn shows_only_flow<N: Network>(
+/// How many arcs have the reduced cost 0, by potentials that show that the claimed flow costs least. If none has, no other
+/// flow costs as little.
+pub fn count_tight<N: Network>(
     min: &MinInstance<N>,
     _solution: &Solution,
     potentials: &Potentials,
-) -> bool
+) -> u32
     requires { ShowsLeast min.now (claimed _solution.now) potentials.now }
-    ensures { IsTrue result → OnlyFlow min.now (claimed _solution.now) }
+    ensures count { result ≡ tight_count min.now.arcs potentials.now }
+    ensures only { result ≡ 0 → OnlyFlow min.now (claimed _solution.now) }
 {
     no_other_flow();
-    none_is_tight(min.network(), potentials)
+    tight_arcs(min.network(), potentials)
 }
 
-/// Whether no arc has the reduced cost 0.
-fn none_is_tight<N: Network>(network: &N, potentials: &Potentials) -> bool
-    ensures { IsTrue result → NoneTight (N.list network.now) (potential_of potentials.now) }
+/// How many arcs of a network have the reduced cost 0.
+fn tight_arcs<N: Network>(network: &N, potentials: &Potentials) -> u32
+    ensures { result ≡ tight_count (N.list network.now) potentials.now }
 {
+    let mut count = 0;
     for i in 0..network.arcs() {
-        let arc = network.arc(i);
-        if is_tight(reduced_cost(arc, potentials)) {
-            return false;
-        }
+        count += one_if_tight(network.arc(i), potentials);
     }
-    true
+    count
 }
 
-fn is_tight(reduced: i128) -> bool
-    ensures { IsTrue result ↔ (reduced ≡ pos 0) }
+/// 1 for an arc with the reduced cost 0, else 0.
+fn one_if_tight(arc: ArcView, potentials: &Potentials) -> u32
+    ensures { result ≡ one_tight potentials.now arc }
 {
-    reduced == 0
+    if reduced_cost(arc, potentials) == 0 {
+        1
+    } else {
+        0
+    }
 }
 
 fn reduced_cost(arc: ArcView, potentials: &Potentials) -> i128

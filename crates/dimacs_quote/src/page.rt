@@ -10,7 +10,7 @@ use crate::quote::quote;
 use crate::say;
 use crate::sentence::Value;
 use crate::stop::{OrStop, Stop};
-use crate::texts::{TextFile, Texts};
+use crate::texts::{StandFor, TextFile, Texts};
 use dimacs_lines::{MAX_LINES, Memory, Source};
 use dimacs_records::Record;
 use std::alloc::Global;
@@ -79,9 +79,13 @@ impl<'a, A: Reopen> Page<'a, A> {
         }
     }
 
-    /// Reports that a file can't be read again.
+    /// Reports that a file can't be read again, or that a name is that of two texts, of which none is known to be meant.
     pub fn write_unread(&mut self, file: &str) {
-        say!(self.out; "{}: is no file that can be read again, so its lines are left out\n", Value::File(file));
+        let why = match self.texts.stand_for {
+            StandFor::Files => "is no file that can be read again",
+            StandFor::Texts | StandFor::Arrays => "is the name of two texts",
+        };
+        say!(self.out; "{}: {}, so its lines are left out\n", Value::File(file), why);
     }
 
     /// A text, to be read again.

@@ -119,7 +119,7 @@ accepted_before created empty output = map (λ (name : List ℕ). empty) created
 abbrev pub accepted_after : List WrittenFile → Option (List ℕ) → List (Option (List ℕ))
 accepted_after written output = map (λ (file : WrittenFile). file.seen.accepted) written ++ output ∷ []
 
--- all files were opened or created, used and closed, and what follows from the texts was written
+-- all files were opened or created, used and closed; what follows from the texts was written, after an error a beginning or nothing
 pub record UsesFiles (plan : Plan) (holds : Contents) (empty : Option (List ℕ)) (writes : Reporting) (events : List FileEvent) (result : Result Status CommandError) (old new : Option (List ℕ)) : Type 0 where
   pub read : List ReadFile
   pub written : List WrittenFile
@@ -145,7 +145,7 @@ pub record StopsMaking (plan : Plan) (holds : Contents) (makes : Making) (events
   pub possible : (texts : List (List ℕ)) → map holds plan.opened ≡ map Some texts
       → (status : Status) × (out : List (List ℕ)) × makes texts status out × (files_for plan.created out ≡ plan.created)
 
--- the files to read were opened, read and closed; then one was created if there is a text for it; all was written
+-- the files to read were opened, read and closed; then one was created if there is a text for it; all was written, after an error a beginning or nothing
 pub record MakesFiles (plan : Plan) (holds : Contents) (empty : Option (List ℕ)) (makes : Making) (events : List FileEvent) (result : Result Status CommandError) (old new : Option (List ℕ)) : Type 0 where
   pub read : List ReadFile
   pub written : List WrittenFile

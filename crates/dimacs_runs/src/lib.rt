@@ -2,8 +2,8 @@
 //!
 //! For the command, the calls from C and programs that run a whole command. A run reads its texts in turn, has them
 //! judged, certified or solved, and writes a claim, a certificate and a report. A contract states, for the bytes of the
-//! texts, which bytes these are and which status comes with them; after a fault or without memory, that a beginning of
-//! them was written.
+//! texts, which bytes these may be and which status comes with them; that after an I/O error nothing or a beginning of
+//! them was written, and without memory nothing.
 #![tactic(auto)]
 
 mod certify;
