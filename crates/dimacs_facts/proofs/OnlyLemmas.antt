@@ -1,6 +1,7 @@
--- A flow that is the only one of its cost.
-use Rattle.std.proofs.Common.{◌≡◌, ◌≢◌, ℕ, suc, ◌+◌, ◌<◌, ◌≤◌, Bool, true, false, cond, List, [], ◌∷◌, length, take, ℤ, pos, ◌≤ℤ◌, Some, slice_get, int_eq, refl, ap, arith}
-use Rattle.std.proofs.lemmas.{Bool.Decides.{Decides-int_eq}, List.Sums.{sum_by_more, sum_by-take-le}, Option.{get_or_from_slice_get, slice_get_within}}
+-- A flow that is the only one of its cost, and how many arcs have the reduced cost 0.
+use Rattle.std.proofs.Common.{◌≡◌, ℕ, suc, ◌+◌, ◌<◌, ◌≤◌, Bool, true, false, cond, List, [], ◌∷◌, length, take, ℤ, pos, ◌≤ℤ◌, Some, slice_get, int_eq, refl, ap, arith}
+use Rattle.std.proofs.{lemmas.Bool.Decides.{Decides-int_eq}, lemmas.List.Sums.{sum_by_more, sum_by-take-le}}
+use Rattle.std.proofs.lemmas.Option.{get_or_from_slice_get, slice_get_within}
 use Rattle.std.specs.List.{AllZip}
 use Rattle.dimacs_network.specs.{declared.network.ArcView.{ArcView}, Arcs.{arc_at, no_arc}}
 use Rattle.dimacs_claims.specs.Potentials.{PotentialsValue, potential_of}

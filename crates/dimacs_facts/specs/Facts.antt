@@ -1,5 +1,6 @@
 -- Facts about flows.
-use Rattle.std.specs.{Prelude.{ℕ, ◌≡◌, ◌≢◌, ◌<◌, List, cond, length, sum_by, ℤ, pos, neg_ℤ, ◌≤ℤ◌}, List.{All}, Ordering.{int_eq}}
+use Rattle.std.specs.{Prelude.{ℕ, ◌≡◌, ◌≢◌, ◌<◌, List, cond, length, sum_by, ℤ, pos, neg_ℤ, ◌≤ℤ◌}, List.{All}}
+use Rattle.std.specs.Ordering.{int_eq}
 use Rattle.dimacs_claims.specs.{Potentials.{PotentialsValue, potential_of}, SolutionTexts.{SolutionValue}}
 use Rattle.dimacs_network.specs.{Arcs.{JoinsNodes, arc_at}, declared.network.ArcView.{ArcView}}
 use Rattle.dimacs_instance.specs.{MaxFlows.{MaxValue}, MinFlows.{MinValue}}
