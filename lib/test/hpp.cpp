@@ -113,6 +113,9 @@ static void explains_texts() {
     check_that("a yes explained", yes.rfind("v max 6\non the source's side of the cut, 1 of the 4 nodes: 1\n", 0) == 0);
     const std::string quoted = explain({"judge-max", "two words", "S", "C"}, "p max 1 x\n", flow, cut);
     check_that("a name with a blank", quoted.rfind("x instance 1 4 BadNumber\ntwo words:1: p max 1 x\n", 0) == 0);
+    const std::string both_named = explain({"judge-max", "I", "I", "C"}, "p max 1 x\n", flow, cut);
+    is("a name of two texts", both_named,
+       "x instance 1 4 BadNumber\nI: is the name of two texts, so its lines are left out\n");
     is("a single text", explain({"show", "cut", "C"}, cut), "i cut 4 1\n");
     const std::string empty = explain({"judge-max", "I", "S", "C"}, max, "", cut);
     check_that("a text in no file", empty.find("a solve run") == empty.npos);
