@@ -14,7 +14,7 @@ from typing import NamedTuple
 from dimacs_batch import ANY_NAMES, fail
 from dimacs_batch.answers import DISTANCES, LABELS, SOLUTIONS, Task, instances_in, path_in, walk
 from dimacs_batch.box import box_of, boxed
-from dimacs_batch.files import head_of, install, is_unchanged, plain, queries_of, split, temporary, text_of, unpack
+from dimacs_batch.files import head_of, install, mark_of, plain, queries_of, split, temporary, text_of, unpack
 from dimacs_batch.options import HERE
 from dimacs_batch.runs import LONGEST, name_of
 
@@ -164,8 +164,7 @@ class Race:
         return self.made(task, known, before, there)
 
     def made(self, task, known, before, there):
-        """Runs a solver. What it took replaces what was kept before, then its answer the one that is there; each comes
-        into its place at once and whole."""
+        """Runs a solver. What it took replaces what was kept before, then its answer the one that is there."""
         place, answer = task.run.place, task.answers[-1]
         texts = {it: text_of(it) for it in (task.instance, *queries_of(task.instance))}
         os.makedirs(os.path.dirname(answer), exist_ok=True)
@@ -175,7 +174,7 @@ class Race:
             os.mkdir(room)
             took = self.solve(task, folder, room, solution, certificate)
             for it, text in texts.items():
-                if not is_unchanged(it, text):  # it isn't what the others solve
+                if mark_of(it) != text.mark:  # it isn't what the others solve
                     fail(f"{it}: was changed while {task.solver} solved it")
             # No solution beside a certificate claims that no flow is feasible, as `dimacs solve-min` writes it.
             if task.kind == "min" and took["status"] == 0 and has_bytes(certificate) and not has_bytes(solution):
