@@ -129,7 +129,9 @@ def why_none(run, found):
 class Race:
     """Runs solvers that haven't been run yet on the same files within the same limits, if it may."""
 
-    def __init__(self, runs, options):
+    def __init__(self, runs, options, tasks):
+        instances = {task.instance for task in tasks if task.run}
+        self.marks = {one: mark_of(one) for it in instances for one in (it, *queries_of(it))}  # of what is solved
         self.runs, self.may_run, self.box, self.stood = runs, True, box_of(options), 0
         self.versions = {name: self.version(name, options) for name in options.versions}
 
@@ -166,16 +168,16 @@ class Race:
     def made(self, task, known, before, there):
         """Runs a solver. What it took replaces what was kept before, then its answer the one that is there."""
         place, answer = task.run.place, task.answers[-1]
-        texts = {it: text_of(it) for it in (task.instance, *queries_of(task.instance))}
+        text_of(task.instance)  # of one that can't be read the row says so
         os.makedirs(os.path.dirname(answer), exist_ok=True)
         with temporary() as folder:
             room, new = os.path.join(folder, "room"), os.path.join(folder, "new")
             solution, certificate = (os.path.join(room, it) for it in ("solution", "certificate"))
             os.mkdir(room)
             took = self.solve(task, folder, room, solution, certificate)
-            for it, text in texts.items():
-                if mark_of(it) != text.mark:  # it isn't what the others solve
-                    fail(f"{it}: was changed while {task.solver} solved it")
+            for it, mark in self.marks.items():
+                if mark_of(it) != mark:  # it isn't what the others solve
+                    fail(f"{it}: was changed while {task.solver} ran")
             # No solution beside a certificate claims that no flow is feasible, as `dimacs solve-min` writes it.
             if task.kind == "min" and took["status"] == 0 and has_bytes(certificate) and not has_bytes(solution):
                 solution = os.path.join(folder, "claim")
