@@ -175,9 +175,9 @@ class Race:
             solution, certificate = (os.path.join(room, it) for it in ("solution", "certificate"))
             os.mkdir(room)
             took = self.solve(task, folder, room, solution, certificate)
-            for it, mark in self.marks.items():
-                if mark_of(it) != mark:  # it isn't what the others solve
-                    fail(f"{it}: was changed while {task.solver} ran")
+            for it in (task.instance, *queries_of(task.instance)):
+                if mark_of(it) != self.marks.get(it):  # it isn't what the others solve
+                    fail(f"{it}: was changed since the race began, at last while {task.solver} ran")
             # No solution beside a certificate claims that no flow is feasible, as `dimacs solve-min` writes it.
             if task.kind == "min" and took["status"] == 0 and has_bytes(certificate) and not has_bytes(solution):
                 solution = os.path.join(folder, "claim")
