@@ -122,6 +122,14 @@ def test_sums(its):
                 its.expect(name, sums.get(name) == hashlib.sha256(it.read()).hexdigest())
 
 
+def test_everywhere(its):
+    """Beside the packages for x86-64 lies what runs everywhere."""
+    for ending, tool in ("-npm.tgz", "wasm2wat"), (".html", "wasm2wat"), ("-rust.tar.gz", "tar"):
+        name = f"dimacs-{its.version}{ending}"
+        its.message = f"{name} isn't among {its.names()}"
+        its.expect(name, name in its.names() or not its.has(name, tool))
+
+
 def files_in(package):
     """Yields the names and the contents of a package's files."""
     if package.endswith(".whl"):
@@ -366,6 +374,8 @@ def test_all(dist, is_root):
         before = files_of_system() if is_root else None
         test_sums(its)
         test_contents(its)
+        if its.system == "x86_64":
+            test_everywhere(its)
         if not is_root:
             test_again(its)
         if its.system != "windows" and (not its.is_foreign or its.has(f"runs on {its.system}", its.by[0])):
