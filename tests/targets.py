@@ -168,8 +168,9 @@ def outcome(words, room, **outputs):
     place = tempfile.mkdtemp(dir=room)
     os.symlink(f"{TOP}/examples", f"{place}/examples")
     os.mkdir(f"{place}/denied")
-    for name, text in {**dict(rows("files")), **usage.SLIPPED}.items():
+    for name, text in rows("files"):
         Folder(place).write(name, text)
+    usage.lay(place)
     outputs = {"stdout": subprocess.PIPE, "stderr": subprocess.PIPE} | outputs
     ran = subprocess.run(words, cwd=place, check=False, **outputs)
     files = {}

@@ -106,6 +106,13 @@ SLIPS = [
 ]
 
 
+def lay(folder):
+    """Writes the files of the runs that are likely a slip."""
+    for name, text in SLIPPED.items():
+        pathlib.Path(folder, name).write_text(text, encoding="ascii")
+    os.link(f"{folder}/s", f"{folder}/linked")
+
+
 def usages():
     """The words of each command in the table of usage.rt, by its name."""
     words = re.findall(r'\(\s*"([a-z][^"]*)",\s*"[^"]*",?\s*\)', scripts.read("crates/dimacs_usage/src/usage.rt"))
@@ -158,9 +165,7 @@ def slips(binary):
     """Yields what was asked of files that are likely a slip, the answer, and whether that is right."""
     for words, line in SLIPS:
         with tempfile.TemporaryDirectory() as folder:
-            for name, text in SLIPPED.items():
-                pathlib.Path(folder, name).write_text(text, encoding="ascii")
-            os.link(f"{folder}/s", f"{folder}/linked")
+            lay(folder)
             status, printed, complaint = answer = run(binary, words.split(), folder)
             left = {it.name: it.read_text(encoding="ascii") for it in pathlib.Path(folder).iterdir()}
         if not line:

@@ -16,7 +16,7 @@ from rows import odd_words, rows
 PROGRAM = pathlib.Path(os.environ.get("DIMACS_LIBRARY", "")).parent / "dimacs"
 
 COMMANDS = [words.split() for words, *_ in [*rows("commands"), *usage.SLIPS]]
-FILES = dict(rows("files")) | usage.SLIPPED
+FILES = dict(rows("files"))
 
 # What a shell runs: standard streams that are full or closed, or named as files.
 STREAMS = """
@@ -70,6 +70,7 @@ class Command(unittest.TestCase):
         with tempfile.TemporaryDirectory() as folder:
             for name, text in texts.items():
                 pathlib.Path(folder, name).write_bytes(text if isinstance(text, bytes) else text.encode())
+            usage.lay(folder)
             os.mkdir(pathlib.Path(folder, "denied"))
             return *run(words, folder), {it.name: it.read_bytes() for it in pathlib.Path(folder).iterdir() if it.is_file()}
 
