@@ -161,10 +161,12 @@ class Interrupted(unittest.TestCase):
             time.sleep(0.01)
 
 
-#: A call over so many arcs that it is a long one, and where Python makes no thread for it, or one with too small a stack.
+#: Calls over so many arcs that they are long, and where Python makes no thread for them, or one with too small a stack.
 LONG_CALL = """import atexit, threading, dimacs
 dimacs.library.LONG = dimacs.library._ARC = 1
-def call(): print(dimacs.solve_max("p max 2 1\\nn 1 s\\nn 2 t\\na 1 2 5\\n").value)
+def call():
+    print(dimacs.solve_max("p max 2 1\\nn 1 s\\nn 2 t\\na 1 2 5\\n").value)
+    print(dimacs.solve_max_arrays(2, 1, 2, [1], [2], [5]).value)
 """
 NO_THREAD = {
     "at the end": "atexit.register(call)",
@@ -179,7 +181,7 @@ class InPlace(unittest.TestCase):
         for name, code in NO_THREAD.items():
             with self.subTest(name):
                 ran = subprocess.run([sys.executable, "-c", LONG_CALL + code], capture_output=True, text=True, timeout=60)
-                self.assertEqual((ran.stdout, ran.stderr, ran.returncode), ("5\n", "", 0))
+                self.assertEqual((ran.stdout, ran.stderr, ran.returncode), ("5\n5\n", "", 0))
 
 
 if __name__ == "__main__":  # tests/targets.py runs it through node
