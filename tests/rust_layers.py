@@ -4,8 +4,8 @@
 Where no library is named, the crate in lib/rust and the package for Python find build/rust, here by a copy of the
 repository in which nothing else is built; that it says it isn't proved. A program in Rust depends on that crate by its
 path. The crates can be packed, and their sources for who has cargo alone. Without Rust, or with an old one, a build ends
-with one line. The libraries that cargo makes itself, for systems without GNU's objcopy, are called from C. BUILD is
-build/rust if none is given, and has to be of these sources.
+with one line. The libraries that cargo makes itself, for systems without GNU's objcopy, are called from C, and the dynamic
+one from Rust. BUILD is build/rust if none is given, and has to be of these sources.
 """
 import glob
 import os
@@ -117,6 +117,18 @@ class Layers(Commands):
             pipes = [f"{TOP}/examples/pipes.{it}" for it in ("max", "solution")]
             self.expect(library, self.run("./certify", *pipes).startswith("v max 12\np cut 5 3\n"))
 
+    def test_without_objcopy(self):
+        """A program in Rust finds the dynamic library as cargo makes it, which isn't built again here."""
+        os.remove(f"{self.copy}/build/rust")
+        os.mkdir(f"{self.copy}/build/rust")
+        os.symlink(f"{self.build}/crates", f"{self.copy}/build/rust/crates")
+        os.mkdir(f"{self.place}/few")
+        for it in "cargo", "rustc", "cc", "ld", "python3":
+            os.symlink(shutil.which(it), f"{self.place}/few/{it}")
+        few = self.environment | {"PATH": f"{self.place}/few", "CARGO_TARGET_DIR": f"{self.place}/other"}
+        printed = self.run("cargo", "run", "--offline", "--manifest-path", f"{self.place}/called/Cargo.toml", env=few)
+        self.expect("a program in Rust without objcopy", re.search(r"\(not proved\) false\n", printed))
+
 
 def main():
     build = os.path.abspath(sys.argv[1] if len(sys.argv) > 1 else f"{TOP}/build/rust")
@@ -128,6 +140,7 @@ def main():
         its.test_sources()
         its.test_rust()
         its.test_python()
+        its.test_without_objcopy()
     its.end()
 
 

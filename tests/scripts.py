@@ -58,7 +58,7 @@ build   | 43     | tests/install.py {build}
 build   | 28     | tests/abi.py {build}
 build   | 13     | tests/version.py {build}
 build   | 2      | tests/stacks.py {build}
-cargo   | 11     | tests/rust_layers.py {build}
+cargo   | 12     | tests/rust_layers.py {build}
 rust    | 4000   | tests/referee.py {build}/debug/dimacs 2000
 rust    | 830    | tests/rows.py {build}/debug/dimacs
 rust    | 830    | tests/rows.py {program}
